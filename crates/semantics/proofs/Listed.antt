@@ -1,0 +1,115 @@
+-- A listing is short: 24,576 bytes hold every listing of a walk that was begun by a start. Assumes nothing.
+use mathlib.Core.Path.{_≡_, refl, sym, ap, _∙_, subst}
+use mathlib.Core.Bool.{Bool, true, false, _&&_}
+use mathlib.Core.List.{List, [], _∷_, _++_, map}
+use Prim.Native.Nat.{ℕ, zero, suc, _+_, _*_, _≤_, _<_}
+use native.Mathlib.Omega.{arith}
+use lib.Dec.{T, leb, ltb, eqb, leb→le, le→leb}
+use lib.ListN.{length, length-append}
+use lib.IntN.{ℤ, pos, negsuc}
+use lib.Signed.{leZ}
+use Rattle.semantics.specs.Lists.{some-of, all}
+use Rattle.semantics.specs.Text.{decimal, decimalZ, line-of, between, name-byte, name-ok}
+use Rattle.semantics.specs.Chart.{Value, known, top, Var, Loc, Chart, within, small}
+use Rattle.semantics.specs.Algorithm.{Mode, Sep, Order, Old, New, Verdict, Open, Safe, Alarm, Full, Exploration, Join}
+use Rattle.semantics.specs.Constants.{AbstractState, join}
+use Rattle.semantics.specs.Encoding.{var-ok}
+use Rattle.semantics.specs.Listing.{mode-text, order-text, verdict-text, loc-text, val-text, mark, slot-text, slots-text, listing-text}
+use Rattle.semantics.specs.Coverage.{Every}
+use Rattle.semantics.proofs.Values.{and-left, and-right}
+use Rattle.semantics.proofs.Stored.{both-true, Good}
+use Rattle.semantics.proofs.StatesOk.{ValOk, ValsOk, StateOk, Bounds}
+use Rattle.semantics.proofs.Rendered.{size, dec-short, decZ-short}
+
+line-size : (f : List ℕ) (gs : List (List ℕ)) → length (line-of f gs) ≡ size (f ∷ gs)
+unfolding line-of
+line-size f [] = length-append f (10 ∷ [])
+line-size f (g ∷ gs) = omega (arith, length-append f (9 ∷ line-of g gs), line-size g gs)
+
+leZ-trans : (a b c : ℤ) → T (leZ a b) → T (leZ b c) → T (leZ a c)
+leZ-trans (pos a) (pos b) (pos c) s t = le→leb a c (let p = leb→le a b s in let q = leb→le b c t in omega arith)
+leZ-trans (pos a) (pos b) (negsuc c) s t = absurd t
+leZ-trans (pos a) (negsuc b) c s t = absurd s
+leZ-trans (negsuc a) b (pos c) s t = tt
+leZ-trans (negsuc a) (pos b) (negsuc c) s t = absurd t
+leZ-trans (negsuc a) (negsuc b) (negsuc c) s t = le→leb c a (let p = leb→le b a s in let q = leb→le c b t in omega arith)
+
+val-short : (v : Var) (x : Value) → T (var-ok v) → ValOk v x → length (val-text x) ≤ 6
+val-short v (known z) t h =
+    let a : T (leZ (negsuc 32767) (v .lo)) = search (and-left, and-right) depth 8 in
+    let b : T (leZ (v .hi) (pos 32767)) = search (and-left, and-right) depth 8 in
+    let p = leZ-trans (negsuc 32767) (v .lo) z a (and-left (leZ (v .lo) z) (leZ z (v .hi)) h) in
+    let q = leZ-trans z (v .hi) (pos 32767) (and-right (leZ (v .lo) z) (leZ z (v .hi)) h) b in
+    decZ-short z (both-true (leZ (negsuc 32767) z) (leZ z (pos 32767)) p q)
+val-short v top t h = omega arith
+
+vals-short : (vs : List Var) (xs : List Value) (m : List ℕ) → T (all var-ok vs) → ValsOk vs xs → size (map val-text xs ++ (m ∷ [])) ≤ 7 * length vs + suc (length m)
+vals-short [] [] m t h = omega arith
+vals-short [] (x ∷ xs) m t h = absurd h
+vals-short (v ∷ vs) [] m t h = absurd h
+vals-short (v ∷ vs) (x ∷ xs) m t h = omega (arith, val-short v x (and-left (var-ok v) (all var-ok vs) t) (h .0), vals-short vs xs m (and-right (var-ok v) (all var-ok vs) t) (h .1))
+
+name-short : (ls : List Loc) (n : ℕ) → T (all (λ l. name-ok (l .name)) ls) → length (loc-text ls n) ≤ 16
+name-short [] n t = omega arith
+name-short (l ∷ ls) zero t = leb→le (length (l .name)) 16 (and-right (leb 1 (length (l .name))) (leb (length (l .name)) 16) (and-left (between 1 16 (length (l .name))) (all name-byte (l .name)) (and-left (name-ok (l .name)) (all (λ l. name-ok (l .name)) ls) t)))
+name-short (l ∷ ls) (suc n) t = name-short ls n (and-right (name-ok (l .name)) (all (λ l. name-ok (l .name)) ls) t)
+
+mark-short : (b : Bool) → length (mark b) ≤ 1
+mark-short true = omega arith
+mark-short false = omega arith
+
+mode-short : (m : Mode) → length (mode-text m) ≤ 4
+mode-short Sep = omega arith
+mode-short Join = omega arith
+
+order-short : (o : Order) → length (order-text o) ≤ 3
+order-short Old = omega arith
+order-short New = omega arith
+
+verdict-short : (v : Verdict) → length (verdict-text v) ≤ 5
+verdict-short Open = omega arith
+verdict-short Safe = omega arith
+verdict-short Alarm = omega arith
+verdict-short Full = omega arith
+
+module _ (c : Chart) (b : Bounds c) where
+  slot-short : (wa : List ℕ) (s : ℕ) (e : AbstractState) → s ≤ 256 → StateOk c e → length (slot-text c wa s e) ≤ 82
+  slot-short wa s e l h =
+      let m = mark (some-of (eqb s) wa) in
+      omega (
+        arith,
+        line-size (decimal s) (loc-text (c .locs) (e .loc) ∷ (map val-text (e .vals) ++ (m ∷ []))),
+        dec-short s (omega arith),
+        name-short (c .locs) (e .loc) (b .names),
+        vals-short (c .vars) (e .vals) m (b .vars) (h .vals),
+        mark-short (some-of (eqb s) wa),
+        b .few-vars,
+      )
+
+  slots-short : (wa : List ℕ) (s : ℕ) (es : List AbstractState) → s + length es ≤ 256 → Every (StateOk c) es → length (slots-text c wa s es) ≤ length es * 82
+  slots-short wa s [] l h = omega arith
+  slots-short wa s (e ∷ es) l h = omega (arith, length-append (slot-text c wa s e) (slots-text c wa (suc s) es), slot-short wa s e (omega arith) (h .0), slots-short wa (suc s) es (omega arith) (h .1))
+
+  pub listing-short : (w : Exploration AbstractState) → Good c w → length (listing-text c w) ≤ 24576
+  unfolding listing-text
+  listing-short w g =
+      let r = leb→le (w .capacity) 256 (and-right (leb 1 (w .capacity)) (leb (w .capacity) 256) (g .capacity)) in
+      let n : length (w .reached) ≤ 256 = omega (arith, g .tidy .within) in
+      let fs = mode-text (w .settings .stop) ∷ order-text (w .settings .order) ∷ verdict-text (w .verdict) ∷ decimal (w .iterations) ∷ decimal (length (w .reached)) ∷ decimal (w .edge) ∷ [] in
+      let h = line-size (119 ∷ 97 ∷ 108 ∷ 107 ∷ []) (mode-text (w .settings .merge) ∷ fs) in
+      omega (
+        arith,
+        length-append (line-of (119 ∷ 97 ∷ 108 ∷ 107 ∷ []) (mode-text (w .settings .merge) ∷ fs)) (slots-text c (w .waitlist) 0 (w .reached)),
+        h,
+        mode-short (w .settings .merge),
+        mode-short (w .settings .stop),
+        order-short (w .settings .order),
+        verdict-short (w .verdict),
+        iterations-short,
+        dec-short (length (w .reached)) (omega arith),
+        dec-short (w .edge) (omega (arith, g .tidy .edge-in, b .few-edges)),
+        slots-short (w .waitlist) 0 (w .reached) (omega arith) (g .tidy .every),
+      )
+    where
+      iterations-short : length (decimal (w .iterations)) ≤ 5
+      iterations-short = omega (arith, Rattle.semantics.proofs.Numbers.digits-few 4 (w .iterations) (w .iterations) [] (omega (arith, g .iterations)))

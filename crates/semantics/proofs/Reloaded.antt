@@ -1,0 +1,101 @@
+-- Words in form are those of the walk that they hold: storing what was loaded changes nothing. Assumes nothing.
+use mathlib.Core.Path.{_≡_, refl, sym, ap, _∙_, subst}
+use mathlib.Core.Bool.{Bool, true, false, _&&_, _||_, not}
+use mathlib.Core.List.{List, [], _∷_, _++_, map, append-assoc}
+use Prim.Native.Nat.{ℕ, zero, suc, _+_, _-_, _*_, _≤_, _<_}
+use native.Mathlib.Nat.{mul-le-mul-right}
+use native.Mathlib.Omega.{arith}
+use lib.Dec.{T, leb, ltb, eqb, leb→le}
+use lib.ListN.{length, take, drop, replicate, take-append-drop, length-take, length-drop, length-map}
+use lib.Seq.{length-take-le, take-take, take-add}
+use lib.IntN.{ℤ, pos, negsuc, natAbs}
+use lib.Signed.{nonNeg, pos-natAbs}
+use Rattle.semantics.specs.Lists.{each, all, all-of, all-pairs}
+use Rattle.semantics.specs.Chart.{Value, known, top, Chart, eqZ}
+use Rattle.semantics.specs.Algorithm.{Exploration}
+use Rattle.semantics.specs.Constants.{AbstractState}
+use Rattle.semantics.specs.Coverage.{allowed, Every}
+use Rattle.semantics.specs.Encoding.{word, val, val-if, padded}
+use Rattle.semantics.specs.Memory.{value-ok, Analysis, Memory, width, row, table-of, waitlist-of, analysis-of, state-in, states-in, load, below, row-ok, rows-ok, each-once, zeros, is-alarm, empty-if-safe, capacity-ok, form-tests, analysis-ok}
+use Rattle.semantics.specs.Outcomes.{short, put-in}
+use Rattle.semantics.proofs.ListFacts.{from-true, from-false}
+use Rattle.semantics.proofs.Values.{and-left, and-right, eqZ-same}
+
+all-each : (bs : List Bool) → T (all-of bs) → Every (λ b. T b) bs
+all-each [] t = tt
+all-each (b ∷ bs) t = (and-left b (all-of bs) t, all-each bs (and-right b (all-of bs) t))
+
+-- ---- one row
+
+word-back : (x : ℤ) → word (val x) ≡ x
+word-back x = go (eqZ x (pos 32768)) refl
+  where
+    go : (b : Bool) → eqZ x (pos 32768) ≡ b → word (val-if b x) ≡ x
+    go true e = sym (eqZ-same x (pos 32768) (from-true e))
+    go false e = refl
+
+words-back : (xs : List ℤ) → map word (map val xs) ≡ xs
+words-back [] = refl
+words-back (x ∷ xs) = λ i. word-back x i ∷ words-back xs i
+
+slots-back : (n : ℕ) (xs : List ℤ) → T (all (below n) xs) → map pos (map natAbs xs) ≡ xs
+slots-back n [] t = refl
+slots-back n (x ∷ xs) t =
+    let p = pos-natAbs x (and-left (nonNeg x) (ltb (natAbs x) n) (and-left (below n x) (all (below n) xs) t)) in
+    λ i. p i ∷ slots-back n xs (and-right (below n x) (all (below n) xs) t) i
+
+zeros-back : (ws : List ℤ) → T (zeros ws) → replicate (length ws) (pos 0) ≡ ws
+zeros-back [] t = refl
+zeros-back (x ∷ xs) t = let p = eqZ-same (pos 0) x (and-left (eqZ (pos 0) x) (zeros xs) t) in λ i. p i ∷ zeros-back xs (and-right (eqZ (pos 0) x) (zeros xs) t) i
+
+-- a part in use and zeros after it, within the first n words
+padded-back : (n k : ℕ) (ws : List ℤ) → k ≤ n → n ≤ length ws → T (zeros (drop k (take n ws))) → padded n (take k ws) ≡ take n ws
+padded-back n k ws l h z =
+    let front : take k (take n ws) ≡ take k ws = take-take k n ws l in
+    let ln : length (take n ws) ≡ n = length-take-le n ws h in
+    let lk : length (take k ws) ≡ k = length-take-le k ws (omega arith) in
+    let gap : n - length (take k ws) ≡ length (drop k (take n ws)) = omega (arith, length-drop k (take n ws)) in
+    ap (λ (m : ℕ). take k ws ++ replicate m (pos 0)) gap
+    ∙ ap (λ (x : List ℤ). take k ws ++ x) (zeros-back (drop k (take n ws)) z)
+    ∙ ap (λ (x : List ℤ). x ++ drop k (take n ws)) (sym front)
+    ∙ take-append-drop k (take n ws)
+
+module _ (c : Chart) where
+  row-back : (r : List ℤ) → T (row-ok c r) → row (state-in r) ≡ r
+  row-back [] t = absurd t
+  row-back (x ∷ xs) t =
+      let p = pos-natAbs x (and-left (nonNeg x) (ltb (natAbs x) (length (c .locs))) (and-left (below (length (c .locs)) x) (all-pairs value-ok (c .vars) xs) t)) in
+      λ i. p i ∷ words-back xs i
+
+  rows-back : (n : ℕ) (t : List ℤ) → T (rows-ok c n t) → each row (states-in (width c) n t) ≡ take (n * width c) t
+  rows-back zero t h = let z : 0 * width c ≡ 0 = omega arith in rw z
+  rows-back (suc n) t h =
+      let k = width c in
+      let p = row-back (take k t) (and-left (row-ok c (take k t)) (rows-ok c n (drop k t)) h) in
+      let q = rows-back n (drop k t) (and-right (row-ok c (take k t)) (rows-ok c n (drop k t)) h) in
+      let s : suc n * k ≡ k + n * k = omega arith in
+      (λ i. p i ++ q i) ∙ sym (take-add k (n * k) t) ∙ ap (λ (m : ℕ). take m t) (sym s)
+
+  states-count : (n : ℕ) (t : List ℤ) → length (states-in (width c) n t) ≡ n
+  states-count zero t = refl
+  states-count (suc n) t = ap suc (states-count n (drop (width c) t))
+
+  -- storing what was loaded changes nothing
+  pub put-load : (m : Memory) → m .analysis .capacity * width c ≤ length (m .table) → m .analysis .capacity ≤ length (m .waitlist) → T (analysis-ok c m) → put-in c (load c m) m ≡ m
+  unfolding load analysis-ok
+  put-load m lt ll t =
+      let r = m .analysis in
+      let h = all-each (form-tests c m) t in
+      let used = leb→le (r .used) (r .capacity) (h .0) in
+      let waits = leb→le (r .waiting) (r .used) (h .1 .0) in
+      let k = width c in
+      let ne : length (states-in k (r .used) (m .table)) ≡ r .used = states-count (r .used) (m .table) in
+      let tw : length (take (r .waiting) (m .waitlist)) ≡ r .waiting = length-take-le (r .waiting) (m .waitlist) (omega arith) in
+      let nw : length (map natAbs (take (r .waiting) (m .waitlist))) ≡ r .waiting = length-map (take (r .waiting) (m .waitlist)) natAbs ∙ tw in
+      let p : table-of c (load c m) ≡ take (r .capacity * k) (m .table) =
+      ap (padded (r .capacity * k)) (rows-back (r .used) (m .table) (h .1 .1 .0)) ∙ padded-back (r .capacity * k) (r .used * k) (m .table) (mul-le-mul-right k used) lt (h .1 .1 .1 .1 .1 .0) in
+      let q : waitlist-of (load c m) ≡ take (r .capacity) (m .waitlist) =
+      ap (padded (r .capacity)) (slots-back (r .used) (take (r .waiting) (m .waitlist)) (h .1 .1 .1 .0)) ∙ padded-back (r .capacity) (r .waiting) (m .waitlist) (omega arith) ll (h .1 .1 .1 .1 .1 .1 .0) in
+      let pt = ap (λ (x : List ℤ). x ++ drop (r .capacity * k) (m .table)) p ∙ take-append-drop (r .capacity * k) (m .table) in
+      let pl = ap (λ (x : List ℤ). x ++ drop (r .capacity) (m .waitlist)) q ∙ take-append-drop (r .capacity) (m .waitlist) in
+      λ i. record { table = pt i; waitlist = pl i; analysis = record { settings = r .settings; capacity = r .capacity; iterations = r .iterations; used = ne i; waiting = nw i; verdict = r .verdict; edge = r .edge } }

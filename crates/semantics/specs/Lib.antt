@@ -1,0 +1,16 @@
+pub mod Lists
+pub mod Text
+pub mod Chart
+pub mod Reading
+pub mod Algorithm
+pub mod Constants
+pub mod Coverage
+pub mod Encoding
+pub mod Rendering
+pub mod Memory
+pub mod Listing
+pub mod Outcomes
+pub mod WholeWalks
+pub mod Exact
+pub mod Program
+pub mod MarkedCases

@@ -1,0 +1,144 @@
+-- What each call does to what it is lent: the answer and every word, byte and field at exit, from those at entry. Document 01,
+-- "When a call says no" and "The memory lent". Assumes nothing.
+use mathlib.Core.Bool.{Bool, true, false, _||_, not}
+use mathlib.Core.List.{List, [], _∷_, _++_}
+use Prim.Native.Nat.{ℕ, zero, suc, _-_, _*_, min}
+use lib.Dec.{ltb, eqb}
+use lib.ListN.{length, drop}
+use lib.IntN.{ℤ, pos, natAbs}
+use Rattle.semantics.specs.Chart.{Chart, numbered, within}
+use Rattle.semantics.specs.Reading.{Reading, refused, accepted, read}
+use Rattle.semantics.specs.Constants.{AbstractState, constants, initial}
+use Rattle.semantics.specs.Algorithm.{Settings, Verdict, Open, Safe, Alarm, Full, Exploration, start, run}
+use Rattle.semantics.specs.Coverage.{allowed}
+use Rattle.semantics.specs.Encoding.{encode, decode, well-formed}
+use Rattle.semantics.specs.Memory.{Memory, width, table-of, waitlist-of, analysis-of, load, capacity-ok, analysis-ok}
+use Rattle.semantics.specs.Listing.{listing-text}
+pub use Rattle.semantics.specs.declared.Answer.{Answer}
+
+-- at exit: the answer, the memory, and the bytes lent for a listing
+pub record Outcome : Type 0 where
+  pub answer : Answer
+  pub memory : Memory
+  pub space : List ℕ
+
+-- ---- refusals: the first case that holds, in the order given; 0 where none does
+
+pub record Case : Type 0 where
+  pub holds : Bool
+  pub number : ℕ
+
+abbrev pub case : ℕ → Bool → Case
+case n b = record { holds = b; number = n }
+
+abbrev pub number-if : Bool → ℕ → ℕ → ℕ
+number-if true n r = n
+number-if false n r = r
+
+abbrev pub refusal : List Case → ℕ
+refusal [] = 0
+refusal (k ∷ ks) = number-if (k .holds) (k .number) (refusal ks)
+
+-- "A call that goes through answers 0 and line 0, a listing call also its length in bytes"
+abbrev pub fine : ℕ → Answer
+fine n = record { number = 0; line = 0; length = n }
+
+abbrev pub refused-by : ℕ → ℕ → Answer
+refused-by n l = record { number = n; line = l; length = 0 }
+
+-- "no lent word, byte or field of the record changes"
+abbrev pub settled : ℕ → Memory → List ℕ → Outcome → Outcome
+settled zero m sp o = o
+settled (suc n) m sp o = record { answer = refused-by (suc n) 0; memory = m; space = sp }
+
+-- ---- the tests of 13, 14 and 22
+
+abbrev pub budget-ok : ℤ → Bool
+budget-ok a = within (pos 0) (pos 60000) a
+
+-- fewer words than the capacity takes
+abbrev pub short : Chart → ℕ → ℕ → ℕ → Bool
+short c r table list = ltb table (r * width c) || ltb list r
+
+abbrev pub has-verdict : Verdict → Bool
+has-verdict Open = false
+has-verdict Safe = true
+has-verdict Alarm = true
+has-verdict Full = true
+
+-- ---- what the rules make of a call that goes through
+
+abbrev pub started : Chart → Settings → ℤ → Exploration AbstractState
+started c z r = start (constants c) z (natAbs r) (initial c)
+
+-- "A run that meets 60,000 rounds ends unfinished"
+abbrev pub resumed : Chart → ℤ → Exploration AbstractState → Exploration AbstractState
+resumed c a w = run (constants c) (numbered c) (min (natAbs a) (60000 - w .iterations)) w
+
+-- the exploration in the capacity's words; "words past the room ... are untouched"
+abbrev pub put-in : Chart → Exploration AbstractState → Memory → Memory
+put-in c w m = record {
+  table = table-of c w ++ drop (w .capacity * width c) (m .table);
+  waitlist = waitlist-of w ++ drop (w .capacity) (m .waitlist);
+  analysis = analysis-of w;
+}
+
+-- ---- read: from the file's bytes and the words lent to hold the chart
+
+pub record ReadOutcome : Type 0 where
+  pub answer : Answer
+  pub words : List ℤ
+
+abbrev pub held-if : Bool → Chart → List ℤ → ReadOutcome
+held-if true c ws = record { answer = refused-by 14 0; words = ws }
+held-if false c ws = record { answer = fine 0; words = encode c ++ drop (length (encode c)) ws }
+
+abbrev pub held-by : Reading → List ℤ → ReadOutcome
+held-by (refused n l) ws = record { answer = refused-by n l; words = ws }
+held-by (accepted c) ws = held-if (ltb (length ws) (length (encode c))) c ws
+
+-- the file's own refusals, "then 14"
+unfoldable pub read-outcome : List ℕ → List ℤ → ReadOutcome
+read-outcome text ws = held-by (read text) ws
+
+-- ---- "Start: 11, 12, 20, 14"
+
+unfoldable pub start-outcome : List ℤ → Settings → ℤ → Memory → Outcome
+start-outcome words z r m =
+    let c = decode words in
+    settled (refusal (
+    case 11 (not (capacity-ok r))
+    ∷ case 12 (not (allowed (z .merge) (z .stop)))
+    ∷ case 20 (not (well-formed words))
+    ∷ case 14 (short c (natAbs r) (length (m .table)) (length (m .waitlist)))
+    ∷ []
+    )) m [] (record { answer = fine 0; memory = put-in c (started c z r) m; space = [] })
+
+-- ---- "Run: 13, 20, 14, 21, 22, 23"
+
+unfoldable pub run-outcome : List ℤ → ℤ → Memory → Outcome
+run-outcome words a m =
+    let c = decode words in
+    settled (refusal (
+    case 13 (not (budget-ok a))
+    ∷ case 20 (not (well-formed words))
+    ∷ case 14 (short c (m .analysis .capacity) (length (m .table)) (length (m .waitlist)))
+    ∷ case 21 (not (analysis-ok c m))
+    ∷ case 22 (has-verdict (m .analysis .verdict))
+    ∷ case 23 (eqb (m .analysis .iterations) 60000)
+    ∷ []
+    )) m [] (record { answer = fine 0; memory = put-in c (resumed c a (load c m)) m; space = [] })
+
+-- ---- "Listing: 20, 14, 21, 15"; "bytes past a listing's end ... are untouched"
+
+unfoldable pub listing-outcome : List ℤ → Memory → List ℕ → Outcome
+listing-outcome words m space =
+    let c = decode words in
+    let text = listing-text c (load c m) in
+    settled (refusal (
+    case 20 (not (well-formed words))
+    ∷ case 14 (short c (m .analysis .capacity) (length (m .table)) (length (m .waitlist)))
+    ∷ case 21 (not (analysis-ok c m))
+    ∷ case 15 (ltb (length space) (length text))
+    ∷ []
+    )) m space (record { answer = fine (length text); memory = m; space = text ++ drop (length text) space })

@@ -1,0 +1,57 @@
+-- A text that reads to a given chart, its variables named a, b, c and so on: it shows that reading can produce whatever the check
+-- of an encoded chart accepts. No passage of document 01. Assumes nothing.
+use mathlib.Core.Bool.{Bool, true, false}
+use mathlib.Core.List.{List, [], _∷_, _++_, map}
+use Prim.Native.Nat.{ℕ, suc, _+_}
+use Rattle.semantics.specs.Text.{bytes, decimal, decimalZ}
+use Rattle.semantics.specs.Chart.{Value, known, top, Var, Loc, Operand, num, var, Op, assign, add, sub, input, assume, skip, Edge, Chart}
+use Rattle.semantics.specs.Reading.{rel-text, do-set, do-add, do-sub, do-in, do-if, do-skip, word-text}
+
+abbrev pub operand-text : Operand → List ℕ
+operand-text (num z) = decimalZ z
+operand-text (var k) = 36 ∷ decimal k
+
+abbrev pub init-text : Value → List ℕ
+init-text (known z) = decimalZ z
+init-text top = bytes "*"
+
+abbrev pub kind-text : Bool → List ℕ
+kind-text true = bytes "e"
+kind-text false = bytes "o"
+
+abbrev pub var-fields : ℕ → Var → List (List ℕ)
+var-fields i v = bytes "V" ∷ ((97 + i) ∷ []) ∷ decimalZ (v .lo) ∷ decimalZ (v .hi) ∷ init-text (v .init) ∷ []
+
+abbrev pub loc-fields : Loc → List (List ℕ)
+loc-fields l = bytes "L" ∷ l .name ∷ kind-text (l .error) ∷ []
+
+abbrev pub op-fields : Op → List (List ℕ)
+op-fields (assign v a) = word-text do-set ∷ (36 ∷ decimal v) ∷ operand-text a ∷ []
+op-fields (add v a b) = word-text do-add ∷ (36 ∷ decimal v) ∷ operand-text a ∷ operand-text b ∷ []
+op-fields (sub v a b) = word-text do-sub ∷ (36 ∷ decimal v) ∷ operand-text a ∷ operand-text b ∷ []
+op-fields (input v p q) = word-text do-in ∷ (36 ∷ decimal v) ∷ decimalZ p ∷ decimalZ q ∷ []
+op-fields (assume v r a) = word-text do-if ∷ (36 ∷ decimal v) ∷ rel-text r ∷ operand-text a ∷ []
+op-fields skip = word-text do-skip ∷ []
+
+abbrev pub edge-fields : Edge → List (List ℕ)
+edge-fields g = bytes "E" ∷ decimal (g .from) ∷ decimal (g .to) ∷ op-fields (g .op)
+
+abbrev pub vars-fields : ℕ → List Var → List (List (List ℕ))
+vars-fields i [] = []
+vars-fields i (v ∷ vs) = var-fields i v ∷ vars-fields (suc i) vs
+
+abbrev pub chart-fields : Chart → List (List (List ℕ))
+chart-fields c = vars-fields 0 (c .vars) ++ (map loc-fields (c .locs) ++ map edge-fields (c .edges))
+
+-- fields parted by tabs
+abbrev pub tabbed : List ℕ → List (List ℕ) → List ℕ
+tabbed f [] = f
+tabbed f (g ∷ gs) = f ++ (9 ∷ tabbed g gs)
+
+abbrev pub text-of : List (List (List ℕ)) → List ℕ
+text-of [] = []
+text-of ([] ∷ ls) = 10 ∷ text-of ls
+text-of ((f ∷ gs) ∷ ls) = tabbed f gs ++ (10 ∷ text-of ls)
+
+unfoldable pub render : Chart → List ℕ
+render c = text-of (chart-fields c)
