@@ -21,3 +21,4 @@ pub mod Reloaded
 pub mod Listed
 pub mod Program
 pub mod MarkedCases
+pub mod Simulate

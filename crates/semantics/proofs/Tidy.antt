@@ -15,19 +15,19 @@ use Rattle.semantics.specs.Constants.{join}
 use Rattle.semantics.proofs.ListFacts.{from-true, from-false, none-some, in-left, in-last, at-get}
 use Rattle.semantics.specs.Coverage.{Distinct, Queue, Every, Tidy}
 
-in-snoc : (j k : ℕ) (w : List ℕ) → In j (w ++ (k ∷ [])) → In j w ⊎ (j ≡ k)
+pub in-snoc : (j k : ℕ) (w : List ℕ) → In j (w ++ (k ∷ [])) → In j w ⊎ (j ≡ k)
 in-snoc j k [] (inl p) = inr p
 in-snoc j k [] (inr q) = absurd q
 in-snoc j k (x ∷ xs) (inl p) = inl (inl p)
 in-snoc j k (x ∷ xs) (inr q) = elim (in-snoc j k xs q) [ inl a ↦ inl (inr a) | inr b ↦ inr b ]
 
-distinct-snoc : (k : ℕ) (w : List ℕ) → (In k w → ⊥) → Distinct w → Distinct (w ++ (k ∷ []))
+pub distinct-snoc : (k : ℕ) (w : List ℕ) → (In k w → ⊥) → Distinct w → Distinct (w ++ (k ∷ []))
 distinct-snoc k [] h d = ((λ q. q), tt)
 distinct-snoc k (x ∷ xs) h d =
     ((λ q. elim (in-snoc x k xs q) [ inl a ↦ d .0 a | inr b ↦ h (inl (sym b)) ]), distinct-snoc k xs (λ q. h (inr q)) (d .1))
 
 -- not found, not there
-some-not : (k : ℕ) (w : List ℕ) → some-of (eqb k) w ≡ false → In k w → ⊥
+pub some-not : (k : ℕ) (w : List ℕ) → some-of (eqb k) w ≡ false → In k w → ⊥
 some-not k [] e h = h
 some-not k (x ∷ xs) e h = go (eqb k x) refl e h (some-not k xs)
   where
@@ -36,17 +36,17 @@ some-not k (x ∷ xs) e h = go (eqb k x) refl e h (some-not k xs)
     go false q e (inl p) ih = from-false q (subst (λ (n : ℕ). T (eqb k n)) p (eqb-refl k))
     go false q e (inr i) ih = ih e i
 
-join-queue : (n k : ℕ) (w : List ℕ) → k < n → (In k w → ⊥) → Queue n w → Queue n (w ++ (k ∷ []))
+pub join-queue : (n k : ℕ) (w : List ℕ) → k < n → (In k w → ⊥) → Queue n w → Queue n (w ++ (k ∷ []))
 join-queue n k w l h q = record { once = distinct-snoc k w h (q .once); used = λ j i. elim (in-snoc j k w i) [ inl a ↦ q .used j a | inr b ↦ subst (λ (m : ℕ). m < n) (sym b) l ] }
 
-wait-queue : (n k : ℕ) (w : List ℕ) → k < n → Queue n w → Queue n (wait k w)
+pub wait-queue : (n k : ℕ) (w : List ℕ) → k < n → Queue n w → Queue n (wait k w)
 wait-queue n k w l q = go (some-of (eqb k) w) refl
   where
     go : (b : Bool) → some-of (eqb k) w ≡ b → Queue n (wait-if b k w)
     go true e = q
     go false e = join-queue n k w l (some-not k w e) q
 
-without-in : (k j : ℕ) (w : List ℕ) → In j (without k w) → In j w
+pub without-in : (k j : ℕ) (w : List ℕ) → In j (without k w) → In j w
 without-in k j [] h = h
 without-in k j (x ∷ xs) h = go (eqb k x) h (without-in k j xs)
   where
@@ -55,7 +55,7 @@ without-in k j (x ∷ xs) h = go (eqb k x) h (without-in k j xs)
     go false (inl p) ih = inl p
     go false (inr i) ih = inr (ih i)
 
-without-not : (k : ℕ) (w : List ℕ) → In k (without k w) → ⊥
+pub without-not : (k : ℕ) (w : List ℕ) → In k (without k w) → ⊥
 without-not k [] h = h
 without-not k (x ∷ xs) h = go (eqb k x) refl h (without-not k xs)
   where
@@ -64,7 +64,7 @@ without-not k (x ∷ xs) h = go (eqb k x) refl h (without-not k xs)
     go false e (inl p) ih = from-false e (subst (λ (n : ℕ). T (eqb k n)) p (eqb-refl k))
     go false e (inr i) ih = ih i
 
-without-distinct : (k : ℕ) (w : List ℕ) → Distinct w → Distinct (without k w)
+pub without-distinct : (k : ℕ) (w : List ℕ) → Distinct w → Distinct (without k w)
 without-distinct k [] d = tt
 without-distinct k (x ∷ xs) d = go (eqb k x) (without-distinct k xs (d .1))
   where
@@ -100,7 +100,7 @@ queue-few (suc n) w q = let l = without-length n w (q .once) in let r = queue-fe
     less : Queue n (without n w)
     less = record { once = without-distinct n w (q .once); used = λ j i. let h = q .used j (without-in n j w i) in let o : (j ≡ n) → ⊥ = other j i in omega arith }
 
-back-queue : (n : ℕ) (o : Order) (k : ℕ) (w : List ℕ) → k < n → Queue n w → Queue n (put-back o k w)
+pub back-queue : (n : ℕ) (o : Order) (k : ℕ) (w : List ℕ) → k < n → Queue n w → Queue n (put-back o k w)
 back-queue n Old k w l q = record { once = (without-not k w, without-distinct k w (q .once)); used = used }
   where
     used : (j : ℕ) → In j (k ∷ without k w) → j < n
@@ -109,16 +109,15 @@ back-queue n Old k w l q = record { once = (without-not k w, without-distinct k 
 back-queue n New k w l q = join-queue n k (without k w) l (without-not k w) (record { once = without-distinct k w (q .once); used = λ j i. q .used j (without-in k j w i) })
 
 -- what is left after taking
-Left : ℕ → Option Taken → Type 0
+abbrev pub Left : ℕ → Option Taken → Type 0
 Left n none = Unit
 Left n (some t) = Queue n (t .rest) × (t .slot < n)
 
-LeftOf : List ℕ → Option Taken → Type 0
+abbrev pub LeftOf : List ℕ → Option Taken → Type 0
 LeftOf w none = Unit
 LeftOf w (some t) = Distinct (t .rest) × In (t .slot) w × ((j : ℕ) → In j (t .rest) → In j w)
 
-last-left : (w : List ℕ) → Distinct w → LeftOf w (take-last w)
-unfolding LeftOf
+pub last-left : (w : List ℕ) → Distinct w → LeftOf w (take-last w)
 last-left [] d = tt
 last-left (x ∷ xs) d = go (take-last xs) (last-left xs (d .1))
   where
@@ -126,8 +125,7 @@ last-left (x ∷ xs) d = go (take-last xs) (last-left xs (d .1))
     go none h = (tt, inl refl, λ j i. absurd i)
     go (some t) h = (((λ i. d .0 (h .2 x i)), h .0), inr (h .1), λ j i. elim i [ inl p ↦ inl p | inr q ↦ inr (h .2 j q) ])
 
-take-left : (n : ℕ) (o : Order) (w : List ℕ) → Queue n w → Left n (take-by o w)
-unfolding Left LeftOf
+pub take-left : (n : ℕ) (o : Order) (w : List ℕ) → Queue n w → Left n (take-by o w)
 take-left n Old [] q = tt
 take-left n Old (x ∷ xs) q = (record { once = q .once .1; used = λ j i. q .used j (inr i) }, q .used x (inl refl))
 take-left n New w q = go (take-last w) (last-left w (q .once))
@@ -136,14 +134,14 @@ take-left n New w q = go (take-last w) (last-left w (q .once))
     go none h = tt
     go (some t) h = (record { once = h .0; used = λ j i. q .used j (h .2 j i) }, q .used (t .slot) (h .1))
 
-more : (n m : ℕ) (w : List ℕ) → n ≤ m → Queue n w → Queue m w
+pub more : (n m : ℕ) (w : List ℕ) → n ≤ m → Queue n w → Queue m w
 more n m w l q = record { once = q .once; used = λ j i. omega (arith, q .used j i) }
 
-every-snoc : {A : Type 0} (P : A → Type 0) (l : List A) (x : A) → Every P l → P x → Every P (l ++ (x ∷ []))
+pub every-snoc : {A : Type 0} (P : A → Type 0) (l : List A) (x : A) → Every P l → P x → Every P (l ++ (x ∷ []))
 every-snoc P [] x h p = (p, tt)
 every-snoc P (y ∷ ys) x h p = (h .0, every-snoc P ys x (h .1) p)
 
-every-get : {A : Type 0} (P : A → Type 0) (l : List A) (j : ℕ) (x : A) → Every P l → get l j ≡ some x → P x
+pub every-get : {A : Type 0} (P : A → Type 0) (l : List A) (j : ℕ) (x : A) → Every P l → get l j ≡ some x → P x
 every-get P [] j x h e = absurd (none-some refl e)
 every-get P (y ∷ ys) zero x h e = let q : y ≡ x = cc in subst P q (h .0)
 every-get P (y ∷ ys) (suc j) x h e = every-get P ys j x (h .1) e
@@ -154,7 +152,7 @@ pub record Keeps {E G : Type 0} (D : Domain E G) (P : E → Type 0) (last : ℕ)
   pub post : (e f : E) → P e → D .post g e ≡ to f → P f
 
 module _ {E G : Type 0} (D : Domain E G) where
-  changed-used : (f : E) (i : ℕ) (en : List E) (k : ℕ) → In k (changed D f i en) → k < i + length en
+  pub changed-used : (f : E) (i : ℕ) (en : List E) (k : ℕ) → In k (changed D f i en) → k < i + length en
   changed-used f i [] k h = absurd h
   changed-used f i (x ∷ xs) k h = go (D .equal (joined D f x) x) h (changed-used f (suc i) xs k)
     where
@@ -163,15 +161,15 @@ module _ {E G : Type 0} (D : Domain E G) where
       go false (inl p) ih = omega arith
       go false (inr q) ih = omega (arith, ih q)
 
-  all-queue : (n : ℕ) (ks w : List ℕ) → ((k : ℕ) → In k ks → k < n) → Queue n w → Queue n (wait-all ks w)
+  pub all-queue : (n : ℕ) (ks w : List ℕ) → ((k : ℕ) → In k ks → k < n) → Queue n w → Queue n (wait-all ks w)
   all-queue n [] w h q = q
   all-queue n (k ∷ ks) w h q = all-queue n ks (wait k w) (λ j i. h j (inr i)) (wait-queue n k w (h k (inl refl)) q)
 
-  merged-length : (m : Mode) (f : E) (en : List E) → length (merged D m f en) ≡ length en
+  pub merged-length : (m : Mode) (f : E) (en : List E) → length (merged D m f en) ≡ length en
   merged-length Sep f en = refl
   merged-length Join f en = length-map en (joined D f)
 
-  merged-queue : (m : Mode) (f : E) (en : List E) (wa : List ℕ) → Queue (length en) wa → Queue (length (merged D m f en)) (rewait D m f en wa)
+  pub merged-queue : (m : Mode) (f : E) (en : List E) (wa : List ℕ) → Queue (length en) wa → Queue (length (merged D m f en)) (rewait D m f en wa)
   merged-queue Sep f en wa q = q
   merged-queue Join f en wa q =
       subst (λ (n : ℕ). Queue n (wait-all (changed D f 0 en) wa)) (sym (length-map en (joined D f)))
@@ -191,20 +189,19 @@ module _ {E G : Type 0} (D : Domain E G) (P : E → Type 0) (last : ℕ) (merge-
   merged-every Join f en p h = joined-every f en p h
 
   -- between the edges of a round: the table within the room r, its list, at least n slots
-  record Form (r n : ℕ) (en : List E) (wa : List ℕ) : Type 0 where
-    fits : length en ≤ r
-    grown : n ≤ length en
-    queue : Queue (length en) wa
-    every : Every P en
+  pub record Form (r n : ℕ) (en : List E) (wa : List ℕ) : Type 0 where
+    pub fits : length en ≤ r
+    pub grown : n ≤ length en
+    pub queue : Queue (length en) wa
+    pub every : Every P en
 
-  OutForm : ℕ → ℕ → Out E → Type 0
+  abbrev pub OutForm : ℕ → ℕ → Out E → Type 0
   OutForm r n (on en wa) = Form r n en wa
   OutForm r n (alarmed k en wa) = Form r n en wa × (k ≤ last)
   OutForm r n (full en wa) = Form r n en wa
 
   module _ (z : Settings) (r n : ℕ) where
-    arrive-form : (f : E) (en : List E) (wa : List ℕ) → P f → Form r n en wa → OutForm r n (arrive D z r f en wa)
-    unfolding OutForm
+    pub arrive-form : (f : E) (en : List E) (wa : List ℕ) → P f → Form r n en wa → OutForm r n (arrive D z r f en wa)
     arrive-form f en wa p m = stop (stopped D (z .stop) f en′)
       where
         en′ : List E
@@ -233,8 +230,7 @@ module _ {E G : Type 0} (D : Domain E G) (P : E → Type 0) (last : ℕ) (merge-
         stop true = m′
         stop false = store (ltb (length en′) r) refl
 
-    visit-form : (k : ℕ) (o : Step E) (en : List E) (wa : List ℕ) → k ≤ last → ((f : E) → o ≡ to f → P f) → Form r n en wa → OutForm r n (visit D z r k o en wa)
-    unfolding OutForm
+    pub visit-form : (k : ℕ) (o : Step E) (en : List E) (wa : List ℕ) → k ≤ last → ((f : E) → o ≡ to f → P f) → Form r n en wa → OutForm r n (visit D z r k o en wa)
     visit-form k halt en wa l p m = m
     visit-form k fault en wa l p m = (m, l)
     visit-form k (to f) en wa l p m = go (D .error f)
@@ -243,8 +239,7 @@ module _ {E G : Type 0} (D : Domain E G) (P : E → Type 0) (last : ℕ) (merge-
         go true = (m, l)
         go false = arrive-form f en wa (p f refl) m
 
-    leave-form : (e : E) (gs : List G) (en : List E) (wa : List ℕ) → P e → Every (Keeps D P last) gs → Form r n en wa → OutForm r n (leave D z r e gs en wa)
-    unfolding OutForm
+    pub leave-form : (e : E) (gs : List G) (en : List E) (wa : List ℕ) → P e → Every (Keeps D P last) gs → Form r n en wa → OutForm r n (leave D z r e gs en wa)
     leave-form e [] en wa p ok m = m
     leave-form e (g ∷ gs) en wa p ok m = go (visit D z r (D .number g) (D .post g e) en wa) (visit-form (D .number g) (D .post g e) en wa (ok .0 .number) (λ f q. ok .0 .post e f p q) m) (λ en wa m. leave-form e gs en wa p (ok .1) m)
       where
@@ -253,22 +248,21 @@ module _ {E G : Type 0} (D : Domain E G) (P : E → Type 0) (last : ℕ) (merge-
         go (alarmed k en wa) h ih = h
         go (full en wa) h ih = h
 
-  listed : (wa : List ℕ) → (verdict-of wa ≡ Safe → wa ≡ []) × (wa ≡ [] → verdict-of wa ≡ Safe)
+  pub listed : (wa : List ℕ) → (verdict-of wa ≡ Safe → wa ≡ []) × (wa ≡ [] → verdict-of wa ≡ Safe)
   listed [] = ((λ e. refl), (λ e. refl))
   listed (x ∷ xs) = ((λ e. cc), (λ e. cc))
 
-  back-not : (o : Order) (k : ℕ) (w : List ℕ) → put-back o k w ≡ [] → ⊥
+  pub back-not : (o : Order) (k : ℕ) (w : List ℕ) → put-back o k w ≡ [] → ⊥
   back-not Old k w e = nil≢cons (sym e)
   back-not New k w e = subst (λ (l : List ℕ). In k l) e (in-last k (without k w))
 
-  finish-tidy : (w : Exploration E) (k n : ℕ) → k < n → (o : Out E) → OutForm (w .capacity) n o → Tidy P last (finish D w k o)
-  unfolding OutForm
+  pub finish-tidy : (w : Exploration E) (k n : ℕ) → k < n → (o : Out E) → OutForm (w .capacity) n o → Tidy P last (finish D w k o)
   finish-tidy w k n l (on en wa) m = record { within = m .fits; queue = m .queue; safe-empty = listed wa .0; empty-safe = listed wa .1; no-edge = λ h. refl; edge-in = zero-le; every = m .every }
   finish-tidy w k n l (alarmed i en wa) m = record { within = m .0 .fits; queue = back-queue (length en) (w .settings .order) k wa (omega (arith, m .0 .grown)) (m .0 .queue); safe-empty = λ e. cc; empty-safe = λ e. absurd (back-not (w .settings .order) k wa e); no-edge = λ h. absurd (h refl); edge-in = m .1; every = m .0 .every }
   finish-tidy w k n l (full en wa) m = record { within = m .fits; queue = back-queue (length en) (w .settings .order) k wa (omega (arith, m .grown)) (m .queue); safe-empty = λ e. cc; empty-safe = λ e. absurd (back-not (w .settings .order) k wa e); no-edge = λ h. refl; edge-in = zero-le; every = m .every }
 
-  iteration-tidy : (gs : List G) → Every (Keeps D P last) gs → (w : Exploration E) → Tidy P last w → Tidy P last (iteration D gs w)
-  unfolding iteration Left
+  pub iteration-tidy : (gs : List G) → Every (Keeps D P last) gs → (w : Exploration E) → Tidy P last w → Tidy P last (iteration D gs w)
+  unfolding iteration
   iteration-tidy gs ok w h = go (take-by (w .settings .order) (w .waitlist)) (take-left (length (w .reached)) (w .settings .order) (w .waitlist) (h .queue))
     where
       copy : (t : Taken) → Queue (length (w .reached)) (t .rest) × (t .slot < length (w .reached)) → (o : Option E) → get (w .reached) (t .slot) ≡ o → Tidy P last (with-copy D gs w (t .slot) (t .rest) o)
