@@ -169,7 +169,7 @@ module _ {E F G H : Type 0} (D : Domain E G) (K : Domain F H) (R : E → F → T
     leave-R e f (g ∷ gs) (h ∷ hs) en en′ wa wa′ q z a p =
         subst (λ (n : ℕ). OutR (leave D s r e (g ∷ gs) en wa) (then (visit K s r n (K .post h f) en′ wa′) (λ en wa. leave K s r f hs en wa))) (ag .number g h (z .0))
         (go (visit D s r (D .number g) (D .post g e) en wa) (visit K s r (D .number g) (K .post h f) en′ wa′) (visit-R (D .number g) (D .post g e) (K .post h f) en en′ wa wa′ (ag .post g h e f (z .0) q) a p)
-            (λ en en′ wa wa′ a p. leave-R e f gs hs en en′ wa wa′ q (z .1) a p))
+        (λ en en′ wa wa′ a p. leave-R e f gs hs en en′ wa wa′ q (z .1) a p))
       where
         go : (o : Out E) (o′ : Out F) → OutR o o′ → ((en : List E) (en′ : List F) (wa wa′ : List ℕ) → AllPairs R en en′ → wa ≡ wa′ → OutR (leave D s r e gs en wa) (leave K s r f hs en′ wa′))
             → OutR (then o (λ en wa. leave D s r e gs en wa)) (then o′ (λ en wa. leave K s r f hs en wa))
@@ -216,7 +216,7 @@ module _ {E F G H : Type 0} (D : Domain E G) (K : Domain F H) (R : E → F → T
         subst (λ (s : Settings). ExplorationR R (with-copy D gs w k rest (some e)) (finish K v k (leave K s (v .capacity) f hs (v .reached) rest))) (c .settings)
         (subst (λ (r : ℕ). ExplorationR R (with-copy D gs w k rest (some e)) (finish K v k (leave K (w .settings) r f hs (v .reached) rest))) (c .capacity)
         (finish-R w v k (leave D (w .settings) (w .capacity) e gs (w .reached) rest) (leave K (w .settings) (w .capacity) f hs (v .reached) rest) c
-            (leave-R (w .settings) (w .capacity) e f gs hs (w .reached) (v .reached) rest rest h z (c .reached) refl)))
+        (leave-R (w .settings) (w .capacity) e f gs hs (w .reached) (v .reached) rest rest h z (c .reached) refl)))
 
     taken-R : (w : Exploration E) (v : Exploration F) (o : Option Taken) → ExplorationR R w v → ExplorationR R (with-taken D gs w o) (with-taken K hs v o)
     taken-R w v none c = c

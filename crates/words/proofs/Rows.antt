@@ -1,0 +1,69 @@
+-- Rows of a table: parts of it, and what a row put at a place changes. Assumes nothing.
+use mathlib.Core.Path.{_≡_, refl, sym, ap, subst, _∙_}
+use mathlib.Core.List.{List, [], _∷_, _++_, append-assoc}
+use Prim.Native.Nat.{ℕ, zero, suc, _+_, _-_, _*_, _≤_, _<_}
+use native.Mathlib.Nat.{suc-mul, mul-le-mul-right, sub-zero, zero-sub, suc-sub-suc}
+use native.Mathlib.Omega.{arith}
+use native.Mathlib.Numerals.{add-one}
+use lib.IntN.{ℤ, pos}
+use lib.ListN.{length, take, drop, length-take, length-drop, length-append, set, replicate}
+use lib.Seq.{take-at, drop-at, drop-drop, drop-nil, take-nil, take-take, length-take-le, take-suc-set}
+
+-- the part of slot s: `&t[a..a + w]` has w words, where a is s * w
+pub span : (a w : ℕ) → a + w - a ≡ w
+span a w = omega arith
+
+pub part-length : (t : List ℤ) (a w : ℕ) → a + w ≤ length t → length (take w (drop a t)) ≡ w
+part-length t a w h = simp (length-take, length-drop) (omega arith)
+
+-- the one law on products: slot s, of w words, ends where slot n begins, or before
+pub row-in : (s n w : ℕ) → s < n → s * w + w ≤ n * w
+row-in s n w h = subst (λ (k : ℕ). k ≤ n * w) (suc-mul s w) (mul-le-mul-right w h)
+
+-- a row of w words put at a. The laws speak of places and not of slots
+module _ (t : List ℤ) (a w : ℕ) (ws : List ℤ) (fits : a + w ≤ length t) (len : length ws ≡ w) where
+  abbrev put : List ℤ
+  put = take a t ++ (ws ++ drop w (drop a t))
+
+  front : length (take a t) ≡ a
+  front = length-take-le a t (omega arith)
+
+  pub take-put : take (a + w) put ≡ take a t ++ ws
+  take-put = rw (← append-assoc) (take-at (take a t ++ ws) (drop w (drop a t)) (a + w) (simp length-append (omega (arith, front))))
+
+  pub drop-put : drop (a + w) put ≡ drop w (drop a t)
+  drop-put = rw (← append-assoc) (drop-at (take a t ++ ws) (drop w (drop a t)) (a + w) (simp length-append (omega (arith, front))))
+
+  pub put-here : take w (drop a put) ≡ ws
+  put-here = rw (drop-at (take a t) (ws ++ drop w (drop a t)) a front, take-at ws (drop w (drop a t)) w len)
+
+  pub length-put : length put ≡ length t
+  length-put = simp (length-append, length-drop, length-take) (omega arith)
+
+  -- a row that ends at a or before, and one that begins at a + w or after, are as they were
+  pub put-before : (b : ℕ) → b + w ≤ a → take w (drop b put) ≡ take w (drop b t)
+  put-before b h =
+      within put ∙ ap (λ (l : List ℤ). take w (drop b l)) (take-at (take a t) (ws ++ drop w (drop a t)) a front) ∙ sym (within t) where
+        drop-take : (b a : ℕ) (l : List ℤ) → drop b (take a l) ≡ take (a - b) (drop b l)
+        drop-take zero a l = rw sub-zero
+        drop-take (suc b) zero l = rw (zero-sub, drop-nil)
+        drop-take (suc b) (suc a) [] = sym (take-nil (suc a - suc b))
+        drop-take (suc b) (suc a) (x ∷ l) = rw suc-sub-suc (drop-take b a l)
+
+        within : (l : List ℤ) → take w (drop b l) ≡ take w (drop b (take a l))
+        within l = sym (ap (take w) (drop-take b a l) ∙ take-take w (a - b) (drop b l) (omega arith))
+
+  pub put-after : (b : ℕ) → a + w ≤ b → drop b put ≡ drop b t
+  put-after b h =
+      let m = b - (a + w) in
+      let e : a + w + m ≡ b = omega arith in
+      ap (λ (k : ℕ). drop k put) (sym e) ∙ sym (drop-drop m (a + w) put) ∙ ap (λ (l : List ℤ). drop m l) (drop-put ∙ drop-drop w a t)
+      ∙ drop-drop m (a + w) t
+      ∙ ap (λ (k : ℕ). drop k t) e
+
+-- one zero more
+pub zero-turn : (s : List ℤ) (i : ℕ) → i < length s → take i s ≡ replicate i (pos 0) → take (i + 1) (set s i (pos 0)) ≡ replicate (i + 1) (pos 0)
+zero-turn s i h e = rw (add-one, take-suc-set s i (pos 0), e) (snoc i) where
+  snoc : (i : ℕ) → replicate i (pos 0) ++ (pos 0 ∷ []) ≡ replicate (suc i) (pos 0)
+  snoc zero = refl
+  snoc (suc i) = ap (λ (l : List ℤ). pos 0 ∷ l) (snoc i)

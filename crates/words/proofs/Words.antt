@@ -1,0 +1,131 @@
+-- Signed words: the machine's tests and casts, which go by bits, told of the whole numbers themselves. Assumes nothing.
+use mathlib.Core.Path.{_≡_, refl, sym, ap, subst, _∙_}
+use mathlib.Core.Bool.{Bool, true, false, cond}
+use Prim.Native.Nat.{ℕ, zero, suc, _+_, _<_, _≤_, _^_}
+use native.Mathlib.Omega.{arith}
+use native.Mathlib.Nat.{lt-of-le-of-lt, zero-add}
+use lib.Dec.{eqb, ltb, T}
+use lib.IntN.{ℤ, pos, negsuc, natAbs, negℤ, _+ℤ_, _-ℤ_}
+use lib.Signed.{nonNeg, mag, leZ, ltZ}
+use mir.Syntax.{Width, w32, w64}
+use mir.Val.{SFits, Fits, ofZ, toZ, hbits, bits}
+use mir.ValLaws.{toZ-ofZ}
+use mir.Facts.{sfits-widen, sfits-lit}
+use borrow.Author.Tests.{eqb-true, eqb-false, eq-eqb, ne-eqb, leb-true, ltb-true}
+use Rattle.semantics.specs.Chart.{eqZ}
+
+pub eqZ-true : (a b : ℤ) → eqZ a b ≡ true → a ≡ b
+eqZ-true (pos a) (pos b) e = ap pos (eqb-true a b e)
+eqZ-true (pos a) (negsuc b) e = absurd (subst T (sym e) tt)
+eqZ-true (negsuc a) (pos b) e = absurd (subst T (sym e) tt)
+eqZ-true (negsuc a) (negsuc b) e = ap negsuc (eqb-true a b e)
+
+pub eqZ-refl : (a : ℤ) → eqZ a a ≡ true
+eqZ-refl (pos a) = eq-eqb a a refl
+eqZ-refl (negsuc a) = eq-eqb a a refl
+
+pub eqZ-sym : (a b : ℤ) → eqZ a b ≡ eqZ b a
+eqZ-sym a b = by-case (eqZ a b) refl where
+  by-case : (t : Bool) → eqZ a b ≡ t → eqZ a b ≡ eqZ b a
+  by-case true e = subst (λ (z : ℤ). eqZ a z ≡ eqZ z a) (eqZ-true a b e) refl
+  by-case false e = other (eqZ b a) refl where
+    other : (u : Bool) → eqZ b a ≡ u → eqZ a b ≡ eqZ b a
+    other true f = subst (λ (z : ℤ). eqZ z b ≡ eqZ b z) (eqZ-true b a f) refl
+    other false f = e ∙ sym f
+
+pub eq-eqZ : {a b : ℤ} → a ≡ b → eqZ a b ≡ true
+eq-eqZ {a} {b} e = subst (λ (z : ℤ). eqZ a z ≡ true) e (eqZ-refl a)
+
+pub ne-eqZ : {a b : ℤ} → (a ≡ b → ⊥) → eqZ a b ≡ false
+ne-eqZ {a} {b} h = by-case (eqZ a b) refl where
+  by-case : (t : Bool) → eqZ a b ≡ t → eqZ a b ≡ false
+  by-case true e = absurd (h (eqZ-true a b e))
+  by-case false e = e
+
+module _ (w : Width) {a b : ℤ} (fa : SFits w a) (fb : SFits w b) where
+  pub ofZ-inj : ofZ w a ≡ ofZ w b → a ≡ b
+  ofZ-inj e = sym (toZ-ofZ w a fa) ∙ ap (toZ w) e ∙ toZ-ofZ w b fb
+
+  -- `a == b` at two signed numbers passed, and failed
+  pub bits-eq : ofZ w a ≡ ofZ w b → eqZ a b ≡ true
+  bits-eq e = eq-eqZ (ofZ-inj e)
+
+  pub bits-ne : (ofZ w a ≡ ofZ w b → ⊥) → eqZ a b ≡ false
+  bits-ne h = ne-eqZ {a = a} {b = b} (λ e. h (ap (ofZ w) e))
+
+  -- its flag
+  pub bits-eqb : eqb (ofZ w a) (ofZ w b) ≡ eqZ a b
+  bits-eqb = by-case (eqZ a b) refl where
+    by-case : (t : Bool) → eqZ a b ≡ t → eqb (ofZ w a) (ofZ w b) ≡ eqZ a b
+    by-case true e = eq-eqb _ _ (ap (ofZ w) (eqZ-true a b e)) ∙ sym e
+    by-case false e = ne-eqb _ _ (λ q. absurd (subst T (sym (bits-eq q) ∙ e) tt)) ∙ sym e
+
+-- what the machine reads back
+module _ {z : ℤ} (fits : SFits w32 z) where
+  pub widens : SFits w64 (toZ w32 (ofZ w32 z))
+  widens = rw (toZ-ofZ w32 z) (sfits-widen tt fits)
+
+  pub widened : toZ w64 (ofZ w64 (toZ w32 (ofZ w32 z))) ≡ z
+  widened = ap (λ (y : ℤ). toZ w64 (ofZ w64 y)) (toZ-ofZ w32 z fits) ∙ toZ-ofZ w64 z (sfits-widen tt fits)
+
+pub nonNeg-pos : (z : ℤ) → T (nonNeg z) → z ≡ pos (natAbs z)
+nonNeg-pos (pos n) t = refl
+nonNeg-pos (negsuc n) t = absurd t
+
+-- ---- sums
+
+cond-mag : (t : Bool) (x y : ℤ) (n : ℕ) → mag x ≤ n → mag y ≤ n → mag (cond t x y) ≤ n
+cond-mag true x y n h k = h
+cond-mag false x y n h k = k
+
+pub mag-add : (a b : ℤ) → mag (a +ℤ b) ≤ mag a + mag b + 1
+mag-add (pos a) (pos b) = omega arith
+mag-add (pos a) (negsuc b) = cond-mag (ltb a (suc b)) _ _ _ (omega arith) (omega arith)
+mag-add (negsuc a) (pos b) = cond-mag (ltb b (suc a)) _ _ _ (omega arith) (omega arith)
+mag-add (negsuc a) (negsuc b) = omega arith
+
+pub mag-neg : (a : ℤ) → mag (negℤ a) ≤ mag a + 1
+mag-neg (pos zero) = omega arith
+mag-neg (pos (suc n)) = omega arith
+mag-neg (negsuc n) = omega arith
+
+-- the sum and the difference of two 32 bit words fit 64 bits
+module _ {a b : ℤ} (fa : SFits w32 a) (fb : SFits w32 b) where
+  pub sum-fits : SFits w64 (a +ℤ b)
+  sum-fits = record { sfits = omega (arith, mag-add a b, fa .sfits, fb .sfits) }
+
+  pub diff-fits : SFits w64 (a -ℤ b)
+  diff-fits = record { sfits = omega (arith, mag-add a (negℤ b), mag-neg b, fa .sfits, fb .sfits) }
+
+-- a number between two that fit fits
+pub between-fits : {w : Width} {lo hi : ℤ} (z : ℤ) → SFits w lo → SFits w hi → leZ lo z ≡ true → leZ z hi ≡ true → SFits w z
+between-fits {hi = pos m} (pos n) f g l h = record { sfits = lt-of-le-of-lt (leb-true n m h) (g .sfits) }
+between-fits {hi = negsuc m} (pos n) f g l h = absurd (subst T (sym h) tt)
+between-fits {lo = pos m} (negsuc n) f g l h = absurd (subst T (sym l) tt)
+between-fits {lo = negsuc m} (negsuc n) f g l h = record { sfits = lt-of-le-of-lt (leb-true n m l) (f .sfits) }
+
+pub not-neg : (z : ℤ) → ltZ z (pos 0) ≡ false → T (nonNeg z)
+not-neg (pos n) e = tt
+not-neg (negsuc n) e = absurd (subst T e tt)
+
+pub abs-small : (z : ℤ) → SFits w32 z → natAbs z < 2147483649
+abs-small (pos n) f = omega (arith, f .sfits)
+abs-small (negsuc n) f = omega (arith, f .sfits)
+
+-- two words that say locations are equal where the locations are
+pub placed-eq : (a b : ℤ) → T (nonNeg a) → T (nonNeg b) → eqb (natAbs a) (natAbs b) ≡ eqZ a b
+placed-eq (pos a) (pos b) p q = refl
+placed-eq (pos a) (negsuc b) p q = absurd q
+placed-eq (negsuc a) b p q = absurd p
+
+-- what is below 0, taken from 0
+pub below-zero : (z : ℤ) → ltZ z (pos 0) ≡ true → pos 0 -ℤ z ≡ pos (natAbs z)
+below-zero (pos n) e = absurd (omega (arith, ltb-true n 0 e))
+below-zero (negsuc n) e = rw (zero-add (suc n))
+
+module _ {z : ℤ} (fits : SFits w32 z) (neg : ltZ z (pos 0) ≡ true) where
+  pub below-fits : SFits w64 (pos 0 -ℤ toZ w64 (ofZ w64 z))
+  below-fits = rw (toZ-ofZ w64 z (sfits-widen tt fits)) (diff-fits {a = pos 0} (sfits-lit tt) fits)
+
+  pub below-is : toZ w64 (ofZ w64 (pos 0 -ℤ toZ w64 (ofZ w64 z))) ≡ pos (natAbs z)
+  below-is = toZ-ofZ w64 _ below-fits ∙ ap (λ (y : ℤ). pos 0 -ℤ y) (toZ-ofZ w64 z (sfits-widen tt fits)) ∙ below-zero z neg

@@ -1,0 +1,84 @@
+use mathlib.Core.Path.{_≡_, refl, sym, ap, _∙_}
+use mathlib.Core.Bool.{true, false, _&&_}
+use mathlib.Core.List.{List, _∷_, []}
+use Prim.Native.Nat.{ℕ, suc, _+_, _-_, _≤_, _<_}
+use native.Mathlib.Numerals.{add-one}
+use native.Mathlib.Omega.{arith}
+use lib.IntN.{ℤ, pos}
+use lib.ListN.{length, take, drop, getD, drop-of-length-le, length-drop, length-take}
+use lib.Seq.{take-all, drop-cons}
+use mir.Syntax.{w32}
+use mir.ValLaws.{toZ-ofZ}
+use mir.Facts.{sfits-lit}
+use borrow.Author.Needs.{needs, sfits-of}
+use Rattle.semantics.specs.Chart.{eqZ}
+use Rattle.semantics.specs.Memory.{zeros}
+use Rattle.words.proofs.Words.{bits-eq, bits-ne, eqZ-sym}
+use Rattle.words.proofs.all_zero.Statement.{statement}
+use Rattle.words.proofs.all_zero.Tie as tie
+use Rattle.words.proofs.all_zero.Reads as reads
+use Rattle.words.proofs.all_zero.Lts as lts
+
+abbrev Inv-loop : tie.InvT-loop
+Inv-loop s i₀ i = (i ≤ length s) × (zeros s ≡ zeros (drop i s))
+
+abbrev μ-loop : tie.MeasureT-loop
+μ-loop s i₀ i = length s - i
+
+-- src/lib.rt:62:5
+loop-holds : tie.Need-loop-holds Inv-loop μ-loop
+loop-holds c = (omega arith, refl)
+
+-- src/lib.rt:63:17
+mul-x : tie.Need-mul-x Inv-loop μ-loop
+mul-x c = omega arith
+
+-- src/lib.rt:63:17
+shared-slice-copy-out-x : tie.Need-shared-slice-copy-out-x Inv-loop μ-loop
+shared-slice-copy-out-x c = omega arith
+
+-- src/lib.rt:65:13
+abbrev word : tie.After-x Inv-loop μ-loop → ℤ
+word c = getD (c .before .before .before .args .s .now) (c .before .before .loop .i) (pos 0)
+
+turn : (c : tie.After-x Inv-loop μ-loop) → zeros (c .before .before .before .args .s .now)
+    ≡ eqZ (word c) (pos 0) && (zeros (drop (c .before .before .loop .i + 1) (c .before .before .before .args .s .now)))
+turn c =
+    let b = c .before .before in
+    b .loop .inv .1 ∙ rw (add-one, drop-cons (b .before .args .s .now) (b .loop .i) (pos 0) (c .before .loop-test .taken), eqZ-sym (pos 0) (word c))
+
+returns : tie.Need-returns Inv-loop μ-loop
+returns c =
+    rw (turn (c .before), bits-ne w32 {a = word (c .before)} {b = pos 0} (sfits-of (c .before .x .given)) (sfits-lit tt) (c .if1 .taken))
+
+-- src/lib.rt:67:9
+add-i : tie.Need-add-i Inv-loop μ-loop
+add-i c = omega arith
+
+-- src/lib.rt:62:5
+loop-less : tie.Need-loop-less Inv-loop μ-loop
+loop-less c = omega arith
+
+-- src/lib.rt:62:5
+loop-again : tie.Need-loop-again Inv-loop μ-loop
+loop-again c =
+    (omega arith, rw (turn (c .before), bits-eq w32 {a = word (c .before)} {b = pos 0} (sfits-of (c .before .x .given)) (sfits-lit tt) (c .if1 .left)))
+
+-- src/lib.rt:58:1
+returns-2 : tie.Need-returns-2 Inv-loop μ-loop
+returns-2 c = let b = c .before in sym (b .loop .inv .1 ∙ ap zeros (drop-of-length-le (b .before .args .s .now) (c .loop-test .left)))
+
+pub all-zero-spec : {M : Type 1} → statement M
+all-zero-spec =
+    tie.close
+    (tie.spec
+    Inv-loop
+    μ-loop
+    loop-holds
+    mul-x
+    shared-slice-copy-out-x
+    returns
+    add-i
+    loop-less
+    loop-again
+    returns-2)

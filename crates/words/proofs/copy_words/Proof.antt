@@ -1,0 +1,92 @@
+use mathlib.Core.Path.{_≡_, refl, sym, ap, _∙_}
+use mathlib.Core.List.{List, _++_, _∷_, []}
+use Prim.Native.Nat.{ℕ, suc, _+_, _-_, _≤_, _<_}
+use native.Mathlib.Numerals.{add-one}
+use native.Mathlib.Omega.{arith}
+use lib.IntN.{ℤ, pos}
+use lib.ListN.{length, take, getD, set, length-set}
+use lib.Seq.{take-all, take-suc, take-suc-set}
+use mir.Syntax.{w32}
+use mir.ValLaws.{toZ-ofZ}
+use borrow.Author.Needs.{needs, sfits-of}
+use Rattle.words.proofs.copy_words.Statement.{statement}
+use Rattle.words.proofs.copy_words.Tie as tie
+use Rattle.words.proofs.copy_words.Reads as reads
+use Rattle.words.proofs.copy_words.Lts as lts
+
+abbrev Inv-loop : tie.InvT-loop
+Inv-loop dst₀ src i₀ dst i = (i ≤ length src) × (length dst ≡ length dst₀) × (take i dst ≡ take i src)
+
+abbrev μ-loop : tie.MeasureT-loop
+μ-loop dst₀ src i₀ dst i = length src - i
+
+-- src/lib.rt:51:5
+loop-holds : tie.Need-loop-holds Inv-loop μ-loop
+loop-holds c = (omega arith, refl, refl)
+
+-- src/lib.rt:52:17
+mul-x : tie.Need-mul-x Inv-loop μ-loop
+mul-x c = omega arith
+
+-- src/lib.rt:52:17
+shared-slice-copy-out-x : tie.Need-shared-slice-copy-out-x Inv-loop μ-loop
+shared-slice-copy-out-x c = omega arith
+
+-- src/lib.rt:53:9
+mul-x-2 : tie.Need-mul-x-2 Inv-loop μ-loop
+mul-x-2 c = omega arith
+
+-- src/lib.rt:53:9
+slice-set-from-x : tie.Need-slice-set-from-x Inv-loop μ-loop
+slice-set-from-x c = omega arith
+
+-- src/lib.rt:54:9
+add-i : tie.Need-add-i Inv-loop μ-loop
+add-i c = omega arith
+
+-- src/lib.rt:51:5
+loop-less : tie.Need-loop-less Inv-loop μ-loop
+loop-less c = omega arith
+
+-- src/lib.rt:51:5
+loop-again : tie.Need-loop-again Inv-loop μ-loop
+loop-again c =
+    let b = c .before .before in
+    let s = b .before .args .src .now in
+    let i = b .loop .i in
+    let v = getD s i (pos 0) in
+    let hd : i < length (b .loop .dst) = omega arith in
+    let hs : i < length s = omega arith in
+    let e = toZ-ofZ w32 v (sfits-of (c .x .given)) in (
+      omega arith,
+      simp length-set (b .loop .inv .1),
+      rw (e, add-one, take-suc-set (b .loop .dst) i v hd, take-suc s i (pos 0) hs, b .loop .inv .2),
+    )
+
+-- src/lib.rt:46:1
+same-length : tie.Need-same-length Inv-loop μ-loop
+same-length c = c .before .loop .inv .1
+
+-- src/lib.rt:46:1
+returns : tie.Need-returns Inv-loop μ-loop
+returns c =
+    let b = c .before in
+    let s = b .before .args .src .now in
+    sym (take-all (b .loop .i) (b .loop .dst) (omega arith)) ∙ b .loop .inv .2 ∙ take-all (b .loop .i) s (omega arith)
+
+pub copy-words-spec : {M : Type 1} → statement M
+copy-words-spec =
+    tie.close
+    (tie.spec
+    Inv-loop
+    μ-loop
+    loop-holds
+    mul-x
+    shared-slice-copy-out-x
+    mul-x-2
+    slice-set-from-x
+    add-i
+    loop-less
+    loop-again
+    same-length
+    returns)

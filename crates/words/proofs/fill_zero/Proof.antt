@@ -1,0 +1,77 @@
+use mathlib.Core.Path.{_≡_, refl, sym, ap, subst, _∙_}
+use mathlib.Core.Bool.{Bool, true, false, not, _&&_, _||_}
+use mathlib.Core.List.{List, [], _∷_, _++_}
+use Prim.Native.Nat.{ℕ, suc, _+_, _-_, _*_, _≤_, _<_}
+use native.Mathlib.Numerals.{add-one}
+use native.Mathlib.Omega.{arith}
+use borrow.Author.Needs.{needs, sfits-of}
+use borrow.Author.Tests.{lt-ltb, le-ltb, not-true, not-false}
+use lib.Dec.{ltb}
+use lib.IntN.{ℤ, pos}
+use lib.ListN.{length, take, drop, getD}
+use lib.ListN.{replicate, length-replicate, length-set}
+use lib.Seq.{take-all}
+use Rattle.words.proofs.Rows.{zero-turn}
+use Rattle.words.proofs.fill_zero.Statement.{statement}
+use Rattle.words.proofs.fill_zero.Tie as tie
+use Rattle.words.proofs.fill_zero.Reads as reads
+use Rattle.words.proofs.fill_zero.Lts as lts
+
+abbrev Inv-loop : tie.InvT-loop
+Inv-loop s₀ i₀ s i = (i ≤ length s) × (length s ≡ length s₀) × (take i s ≡ replicate i (pos 0))
+
+abbrev μ-loop : tie.MeasureT-loop
+μ-loop s₀ i₀ s i = length s₀ - i
+
+-- src/lib.rt:269:5
+loop-holds : tie.Need-loop-holds Inv-loop μ-loop
+loop-holds c = (omega arith, refl, refl)
+
+-- src/lib.rt:270:9
+mul-s : tie.Need-mul-s Inv-loop μ-loop
+mul-s c = search needs
+
+-- src/lib.rt:270:9
+slice-set-of-s : tie.Need-slice-set-of-s Inv-loop μ-loop
+slice-set-of-s c = search needs
+
+-- src/lib.rt:271:9
+add-i : tie.Need-add-i Inv-loop μ-loop
+add-i c = search needs
+
+-- src/lib.rt:269:5
+loop-less : tie.Need-loop-less Inv-loop μ-loop
+loop-less c = search needs
+
+-- src/lib.rt:269:5
+loop-again : tie.Need-loop-again Inv-loop μ-loop
+loop-again c =
+    let b = c .before in
+    let n = length-set (b .loop .s) (b .loop .i) (pos 0) in
+    (omega (arith, n, c .loop-test .taken), n ∙ b .loop .inv .1, zero-turn (b .loop .s) (b .loop .i) (omega arith) (b .loop .inv .2))
+
+-- src/lib.rt:265:1
+same-length : tie.Need-same-length Inv-loop μ-loop
+same-length c = search needs
+
+-- src/lib.rt:265:1
+returns : tie.Need-returns Inv-loop μ-loop
+returns c =
+    let b = c .before in
+    let e : b .loop .i ≡ length (b .before .args .s .now) = omega arith in
+    sym (take-all (b .loop .i) (b .loop .s) (omega arith)) ∙ b .loop .inv .2 ∙ rw e
+
+pub fill-zero-spec : {M : Type 1} → statement M
+fill-zero-spec =
+    tie.close
+    (tie.spec
+    Inv-loop
+    μ-loop
+    loop-holds
+    mul-s
+    slice-set-of-s
+    add-i
+    loop-less
+    loop-again
+    same-length
+    returns)

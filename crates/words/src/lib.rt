@@ -1,0 +1,72 @@
+// Signed 32-bit words: total reads, copies and tests that every table is built on.
+ghost use mathlib.Core.Path.{_≡_};
+ghost use Prim.Native.Nat.{_<_};
+ghost use lib.IntN.{pos, natAbs};
+ghost use lib.ListN.{length, getD, replicate};
+ghost use Rattle.semantics.specs.Memory.{zeros};
+
+// The word for top: document 01's unspecific, which no variable can hold.
+pub const TOP: i32 = 32768;
+
+// The word at a place; 0 past the end.
+pub fn word_at(s: &[i32], i: usize) -> i32
+    ensures { λ r. ⌜ r ≡ getD (now (s .entry)) i (pos 0) ⌝ }
+{
+    if i < s.len() {
+        return s[i];
+    }
+    0
+}
+
+pub fn wide(a: i32) -> i64
+    ensures { λ r. ⌜ r ≡ a ⌝ }
+{
+    a as i64
+}
+
+// The number that a word says, whatever its sign.
+pub fn magnitude(w: i32) -> usize
+    ensures { λ r. ⌜ (r ≡ natAbs w) × (r < 2147483649) ⌝ }
+{
+    if w < 0 {
+        let below = 0 - wide(w);
+        return below as usize;
+    }
+    w as usize
+}
+
+pub fn copy_words(dst: &mut [i32], src: &[i32])
+    requires { ⌜ length (now dst) ≡ length (now src) ⌝ }
+    ensures { λ _. ⌜ now (dst .exit) ≡ now (src .entry) ⌝ }
+{
+    let mut i = 0;
+    while i < src.len() {
+        let x = src[i];
+        dst[i] = x;
+        i += 1;
+    }
+}
+
+pub fn fill_zero(s: &mut [i32])
+    ensures { λ _. ⌜ now (s .exit) ≡ replicate (length (now (s .entry))) (pos 0) ⌝ }
+{
+    let mut i = 0;
+    while i < s.len() {
+        s[i] = 0;
+        i += 1;
+    }
+}
+
+pub fn all_zero(s: &[i32]) -> bool
+    ensures { λ r. ⌜ r ≡ zeros (now (s .entry)) ⌝ }
+{
+    let mut i = 0;
+    while i < s.len() {
+        let x = s[i];
+        if x != 0 {
+            return false;
+        }
+        i += 1;
+    }
+    true
+}
