@@ -20,7 +20,7 @@ use Rattle.semantics.proofs.Waitlist.{wait-keeps, wait-joins, back-join
 pub fault-to : {E : Type 0} {o : Step E} {f : E} → o ≡ fault → o ≡ to f → ⊥
 fault-to p q = let z : _≡_ {A = ℕ} 0 1 = cc in omega arith
 
-halt-fault : {E : Type 0} {o : Step E} → o ≡ halt → o ≡ fault → ⊥
+pub halt-fault : {E : Type 0} {o : Step E} → o ≡ halt → o ≡ fault → ⊥
 halt-fault p q = let z : _≡_ {A = ℕ} 0 1 = cc in omega arith
 
 pub halt-to : {E : Type 0} {o : Step E} {f : E} → o ≡ halt → o ≡ to f → ⊥

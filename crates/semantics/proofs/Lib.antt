@@ -22,3 +22,4 @@ pub mod Listed
 pub mod Program
 pub mod MarkedCases
 pub mod Simulate
+pub mod Verdicts

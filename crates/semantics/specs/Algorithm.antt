@@ -195,34 +195,22 @@ module _ {E G : Type 0} (D : Domain E G) where
     leave e (g ∷ gs) en wa = then (visit (D .number g) (D .post g e) en wa) (λ en wa. leave e gs en wa)
 
   -- "Rounds counts rounds begun, the one that ended in a verdict too"
-  abbrev pub finish : Exploration E → ℕ → Out E → Exploration E
-  finish w k (on en wa) = record {
+  abbrev pub ended-with : Exploration E → List E → List ℕ → Verdict → ℕ → Exploration E
+  ended-with w en wa v n = record {
     settings = w .settings;
     capacity = w .capacity;
     iterations = suc (w .iterations);
     reached = en;
     waitlist = wa;
-    verdict = verdict-of wa;
-    edge = 0;
-  }
-  finish w k (alarmed n en wa) = record {
-    settings = w .settings;
-    capacity = w .capacity;
-    iterations = suc (w .iterations);
-    reached = en;
-    waitlist = put-back (w .settings .order) k wa;
-    verdict = Alarm;
+    verdict = v;
     edge = n;
   }
-  finish w k (full en wa) = record {
-    settings = w .settings;
-    capacity = w .capacity;
-    iterations = suc (w .iterations);
-    reached = en;
-    waitlist = put-back (w .settings .order) k wa;
-    verdict = Full;
-    edge = 0;
-  }
+
+  -- k is the taken slot
+  abbrev pub finish : Exploration E → ℕ → Out E → Exploration E
+  finish w k (on en wa) = ended-with w en wa (verdict-of wa) 0
+  finish w k (alarmed n en wa) = ended-with w en (put-back (w .settings .order) k wa) Alarm n
+  finish w k (full en wa) = ended-with w en (put-back (w .settings .order) k wa) Full 0
 
   -- "A round copies the taken entry"; a taken slot that is not in use is no case of an analysis in form
   abbrev pub with-copy : List G → Exploration E → ℕ → List ℕ → Option E → Exploration E

@@ -10,7 +10,7 @@ use lib.ListN.{length}
 use Rattle.semantics.specs.Lists.{At, In}
 use Rattle.semantics.specs.Chart.{Chart, Numbered, numbered, State, Initial, Moves, Error}
 use Rattle.semantics.specs.Constants.{AbstractState, Covers, constants, initial}
-use Rattle.semantics.specs.Algorithm.{Domain, Mode, Sep, Join, Settings, Exploration, Verdict, Safe, Alarm, fault, to, start, run}
+use Rattle.semantics.specs.Algorithm.{Domain, Mode, Sep, Join, Settings, Exploration, Verdict, Safe, Alarm, Out, on, alarmed, full, fault, to, start, run}
 
 -- ---- executions
 
@@ -82,6 +82,20 @@ pub record Tidy {E : Type 0} (P : E → Type 0) (last : ℕ) (w : Exploration E)
   pub no-edge : (w .verdict ≡ Alarm → ⊥) → w .edge ≡ 0
   pub edge-in : w .edge ≤ last
   pub every : Every P (w .reached)
+
+-- ---- how an iteration ends: what its verdict says of the edges and the taken state e
+
+module _ {E G : Type 0} (D : Domain E G) where
+  -- the edge takes e to an error state, or is a fault
+  abbrev pub Raises : G → E → Type 0
+  Raises g e = (D .post g e ≡ fault) ⊎ ((f : E) × (D .post g e ≡ to f) × T (D .error f))
+
+  -- an alarm names an edge that raises it; a full table is met by an edge that raises none, so it hides no alarm; and where the
+  -- iteration goes on, no edge raises one
+  abbrev pub Caused : ℕ → E → List G → Out E → Type 0
+  Caused r e gs (on en wa) = (g : G) → In g gs → Raises g e → ⊥
+  Caused r e gs (alarmed n en wa) = (g : G) × In g gs × (D .number g ≡ n) × Raises g e
+  Caused r e gs (full en wa) = (g : G) × In g gs × (Raises g e → ⊥) × (r ≤ length en)
 
 -- ---- what a domain owes to cover the system: `Covers e s`, and the form `Fit` that its states keep
 
