@@ -87,6 +87,20 @@ init-is lo hi f x e = go (same-bytes f (42 ∷ [])) e
 and3 : (a b c : Bool) → T a → T b → T c → T (a && b && c)
 and3 a b c p q r = both-true (a && b) c (both-true a b p q) r
 
+-- add and sub: a target and two operands
+two-operands : (c : Chart) (make : ℕ → Operand → Operand → Op) (fs : List (List ℕ)) (o : Op)
+    → ((v : ℕ) (a b : Operand) → op-ok (c .vars) (make v a b) ≡ (ltb v (length (c .vars)) && operand-ok (c .vars) a && operand-ok (c .vars) b))
+    → andThen (target-field (length (c .vars)) (nth fs 4)) (λ v. andThen (operand-field (length (c .vars)) (nth fs 5)) (λ a. andThen (operand-field (length (c .vars)) (nth fs 6)) (λ b. ok (make v a b)))) ≡ ok o
+    → T (op-ok (c .vars) o)
+two-operands c make fs o same e =
+    let r = then-ok _ _ e in
+    let u = then-ok _ _ (r .2) in
+    let v = then-ok _ _ (u .2) in
+    let p : make (r .0) (u .0) (v .0) ≡ o = cc (v .2) in
+    subst (λ (x : Op). T (op-ok (c .vars) x)) p
+    (rw (same (r .0) (u .0) (v .0))
+    (and3 (ltb (r .0) (length (c .vars))) (operand-ok (c .vars) (u .0)) (operand-ok (c .vars) (v .0)) (target-is (length (c .vars)) (nth fs 4) (r .0) (r .1)) (operand-is (c .vars) (nth fs 5) (u .0) (u .1)) (operand-is (c .vars) (nth fs 6) (v .0) (v .1))))
+
 op-is : (c : Chart) (w : OpWord) (fs : List (List ℕ)) (o : Op) → op-fields-read c w fs ≡ ok o → T (op-ok (c .vars) o)
 unfolding op-fields-read
 op-is c do-set fs o e =
@@ -94,18 +108,8 @@ op-is c do-set fs o e =
     let u = then-ok _ _ (r .2) in
     let p : assign (r .0) (u .0) ≡ o = cc (u .2) in
     subst (λ (x : Op). T (op-ok (c .vars) x)) p (both-true (ltb (r .0) (length (c .vars))) (operand-ok (c .vars) (u .0)) (target-is (length (c .vars)) (nth fs 4) (r .0) (r .1)) (operand-is (c .vars) (nth fs 5) (u .0) (u .1)))
-op-is c do-add fs o e =
-    let r = then-ok _ _ e in
-    let u = then-ok _ _ (r .2) in
-    let v = then-ok _ _ (u .2) in
-    let p : add (r .0) (u .0) (v .0) ≡ o = cc (v .2) in
-    subst (λ (x : Op). T (op-ok (c .vars) x)) p (and3 (ltb (r .0) (length (c .vars))) (operand-ok (c .vars) (u .0)) (operand-ok (c .vars) (v .0)) (target-is (length (c .vars)) (nth fs 4) (r .0) (r .1)) (operand-is (c .vars) (nth fs 5) (u .0) (u .1)) (operand-is (c .vars) (nth fs 6) (v .0) (v .1)))
-op-is c do-sub fs o e =
-    let r = then-ok _ _ e in
-    let u = then-ok _ _ (r .2) in
-    let v = then-ok _ _ (u .2) in
-    let p : sub (r .0) (u .0) (v .0) ≡ o = cc (v .2) in
-    subst (λ (x : Op). T (op-ok (c .vars) x)) p (and3 (ltb (r .0) (length (c .vars))) (operand-ok (c .vars) (u .0)) (operand-ok (c .vars) (v .0)) (target-is (length (c .vars)) (nth fs 4) (r .0) (r .1)) (operand-is (c .vars) (nth fs 5) (u .0) (u .1)) (operand-is (c .vars) (nth fs 6) (v .0) (v .1)))
+op-is c do-add fs o e = two-operands c add fs o (λ v a b. refl) e
+op-is c do-sub fs o e = two-operands c sub fs o (λ v a b. refl) e
 op-is c do-in fs o e =
     let r = then-ok _ _ e in
     let u = then-ok _ _ (r .2) in

@@ -1,4 +1,4 @@
--- The constants meet the laws, so every walk on a chart covers the chart's runs. Assumes nothing.
+-- The constants meet the laws, so every analysis of a chart covers the chart's executions. Assumes nothing.
 use mathlib.Core.Path.{_≡_, refl, sym, ap, _∙_, subst}
 use mathlib.Core.Logic.{_⊎_, inl, inr}
 use mathlib.Core.Bool.{Bool, true, false, not, _&&_}

@@ -1,4 +1,4 @@
--- The walk over a domain that meets the laws covers the machine's runs. Assumes nothing.
+-- The algorithm over a domain that meets the laws covers the system's executions. Assumes nothing.
 use mathlib.Core.Path.{_≡_, refl, sym, ap, _∙_, subst}
 use mathlib.Core.Logic.{_⊎_, inl, inr}
 use mathlib.Core.Bool.{Bool, true, false, not}
@@ -44,7 +44,7 @@ module _ {E G S : Type 0} (M : System G S) (D : Domain E G) (Fit : E → Type 0)
     pub closed : (j : ℕ) (x : E) → At en j x → In j wa ⊎ Closed en x
     pub fit : (j : ℕ) (x : E) → At en j x → Fit x
 
-  -- within the round that took slot k, with the copy e and the edges gs still to go
+  -- within the iteration that took slot k, with the copy e and the edges gs still to go
   record Mid (k : ℕ) (e : E) (gs : List G) (en : List E) (wa : List ℕ) : Type 0 where
     starts : (s : S) → M .Initial s → Covered Covers en s
     closed : (j : ℕ) (x : E) → At en j x → In j wa ⊎ Closing k e gs en j x
@@ -84,14 +84,14 @@ module _ {E G S : Type 0} (M : System G S) (D : Domain E G) (Fit : E → Type 0)
       closed : (j : ℕ) (x : E) → At en j x → In j wa ⊎ Closing k e gs en j x
       closed j x a = elim (m .closed j x a) [ inl w ↦ inl w | inr f ↦ inr (λ g s i c. use-it j g s (f g s i c)) ]
 
-  -- the round is over
+  -- the iteration is over
   over : (k : ℕ) (e : E) (en : List E) (wa : List ℕ) → Mid k e [] en wa → Inv en wa
   over k e en wa m = record { starts = m .starts; closed = closed; fit = m .fit }
     where
       closed : (j : ℕ) (x : E) → At en j x → In j wa ⊎ Closed en x
       closed j x a = elim (m .closed j x a) [ inl w ↦ inl w | inr f ↦ inr (λ g s i c. elim (f g s i c) [ inl d ↦ d | inr p ↦ absurd (p .2) ]) ]
 
-  -- the round broke off, and the slot goes back
+  -- the iteration broke off, and the slot goes back
   broken : (o : Order) (k : ℕ) (e : E) (gs : List G) (en : List E) (wa : List ℕ) → Mid k e gs en wa → Inv en (put-back o k wa)
   broken o k e gs en wa m = record { starts = m .starts; closed = closed; fit = m .fit }
     where
@@ -200,7 +200,7 @@ module _ {E G S : Type 0} (M : System G S) (D : Domain E G) (Fit : E → Type 0)
     fine = λ j x a. elim (at-snoc en f j x a) [ inl b ↦ fine j x b | inr q ↦ subst (λ (z : E). D .error z ≡ false) (q .1) nb ];
   }
 
-  -- a round's edges
+  -- an iteration's edges
   Kept : ℕ → E → List G → Out E → Type 0
   Kept k e gs (on en wa) = Mid k e gs en wa
   Kept k e gs (alarmed n en wa) = (hs : List G) × Mid k e hs en wa
@@ -266,7 +266,7 @@ module _ {E G S : Type 0} (M : System G S) (D : Domain E G) (Fit : E → Type 0)
         go (alarmed n en wa) h ih = h
         go (full en wa) h ih = h
 
-  -- what every walk keeps
+  -- what every start, iteration and run keeps
   pub record Held (w : Exploration E) : Type 0 where
     pub allowed : Allowed (w .settings)
     pub inv : Inv (w .reached) (w .waitlist)
@@ -354,7 +354,7 @@ module _ {E G S : Type 0} (M : System G S) (D : Domain E G) (Fit : E → Type 0)
       go true q = record { allowed = ok; inv = first; fine = λ na. absurd (na refl); done = λ p. cc }
       go false q = record { allowed = ok; inv = first; fine = λ na. fine q; done = λ p. cc }
 
-  -- the runs
+  -- the executions
   follow : (en : List E) (wa : List ℕ) → Inv en wa → (s : S) (ss : List S) → Covered Covers en s → Leads M s ss → Followed Covers en wa (s ∷ ss)
   follow en wa v s ss c l zero t a = inl (subst (λ (y : S). Covered Covers en y) a c)
   follow en wa v s [] c l (suc j) t a = absurd a

@@ -93,7 +93,7 @@ op-back skip rest = refl
 edge-back : (g : Edge) (rest : List ℤ) → edge-in (edge-words g ++ rest) ≡ g
 edge-back g rest = ap (λ (o : Op). record { from = g .from; to = g .to; op = o }) (op-back (g .op) rest)
 
-op-wide : (o : Op) → length (op-words o) ≡ 6
+pub op-wide : (o : Op) → length (op-words o) ≡ 6
 op-wide (assign v a) = refl
 op-wide (add v a b) = refl
 op-wide (sub v a b) = refl

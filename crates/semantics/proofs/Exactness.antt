@@ -1,4 +1,4 @@
--- The form check of the encoded chart is exact, and whole walks hold of the reading defined here. Assumes nothing.
+-- The check of the encoded chart accepts precisely what reading can produce. Assumes nothing.
 use mathlib.Core.Path.{_≡_}
 use mathlib.Core.List.{List}
 use Prim.Native.Nat.{ℕ}

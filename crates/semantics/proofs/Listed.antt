@@ -1,4 +1,4 @@
--- A listing is short: 24,576 bytes hold every listing of a walk that was begun by a start. Assumes nothing.
+-- A listing is short: 24,576 bytes hold every listing of an analysis that was begun by a start. Assumes nothing.
 use mathlib.Core.Path.{_≡_, refl, sym, ap, _∙_, subst}
 use mathlib.Core.Bool.{Bool, true, false, _&&_}
 use mathlib.Core.List.{List, [], _∷_, _++_, map}

@@ -28,7 +28,7 @@ use Rattle.semantics.proofs.WholeWalks.{capacity-pos, start-capacity, s
 use Rattle.semantics.proofs.SettingsKept.{run-kept}
 use Rattle.semantics.proofs.StatesOk.{Bounds, bounds}
 
--- 2,304 table words and 256 list words are enough for every room and every chart
+-- 2,304 table words and 256 list words are enough for every capacity and every chart
 pub never-short : (c : Chart) (b : Bounds c) (r table list : ℕ) → r ≤ 256 → 2304 ≤ table → 256 ≤ list → short c r table list ≡ false
 never-short c b r table list h t l =
     let k : width c ≤ 9 = omega (arith, b .few-vars) in

@@ -1,4 +1,4 @@
--- Words in form are those of the walk that they hold: storing what was loaded changes nothing. Assumes nothing.
+-- Words in form are those of the exploration that they hold: storing what was loaded changes nothing. Assumes nothing.
 use mathlib.Core.Path.{_≡_, refl, sym, ap, _∙_, subst}
 use mathlib.Core.Bool.{Bool, true, false, _&&_, _||_, not}
 use mathlib.Core.List.{List, [], _∷_, _++_, map, append-assoc}

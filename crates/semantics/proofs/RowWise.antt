@@ -11,6 +11,7 @@ use lib.IntN.{ℤ, pos, natAbs}
 use Rattle.semantics.specs.Lists.{each, all}
 use Rattle.semantics.specs.Chart.{Var, Loc, Op, assign, add, sub, input, assume, skip, Edge, Chart, eqZ}
 use Rattle.semantics.specs.Encoding.{padded, var-words, loc-words, op-words, edge-words, encode, var-in, byte-if, name-in, loc-in, edge-in, several, past, count, decode, chart-ok, begins-with, well-formed}
+use Rattle.semantics.proofs.Encoded.{op-wide}
 use Rattle.semantics.proofs.Stored.{padded-length}
 
 abbrev pub same-words : List ℤ → List ℤ → Bool
@@ -94,14 +95,6 @@ name-few (suc n) (x ∷ xs) = go (eqZ x (pos 0)) (name-few n xs)
 
 loc-wide : (ws : List ℤ) → length (loc-words (loc-in ws)) ≡ 17
 loc-wide ws = ap suc (padded-length 16 (map pos (name-in 16 (drop 1 ws))) (omega (arith, length-map (name-in 16 (drop 1 ws)) pos, name-few 16 (drop 1 ws))))
-
-op-wide : (o : Op) → length (op-words o) ≡ 6
-op-wide (assign v a) = refl
-op-wide (add v a b) = refl
-op-wide (sub v a b) = refl
-op-wide (input v p q) = refl
-op-wide (assume v r a) = refl
-op-wide skip = refl
 
 edge-wide : (ws : List ℤ) → length (edge-words (edge-in ws)) ≡ 8
 edge-wide ws = ap (λ (n : ℕ). suc (suc n)) (op-wide (edge-in ws .op))

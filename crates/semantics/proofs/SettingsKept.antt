@@ -1,4 +1,4 @@
--- A run keeps the settings and the room, and begins no more rounds than it may. Over any domain. Assumes nothing.
+-- A run keeps the settings and the capacity, and begins no more iterations than it may. Over any domain. Assumes nothing.
 use mathlib.Core.Path.{_≡_, refl, sym, ap, _∙_, subst}
 use mathlib.Core.List.{List, [], _∷_}
 use mathlib.Core.Option.{Option, none, some}

@@ -1,4 +1,4 @@
--- Every entry of a walk on a chart in bounds is of the chart: its location is one, and each value lies in its range. Assumes nothing.
+-- Every abstract state reached on a chart in bounds is of the chart: its location is one, and each value lies in its range. Assumes nothing.
 use mathlib.Core.Path.{_≡_, refl, sym, ap, _∙_, subst}
 use mathlib.Core.Bool.{Bool, true, false, _&&_, _||_, not}
 use mathlib.Core.List.{List, [], _∷_}

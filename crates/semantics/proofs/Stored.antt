@@ -1,4 +1,4 @@
--- A walk stored in words, with any words after: it is read back, and it is in form. Assumes nothing.
+-- An exploration stored in words, with any words after, is read back and is in form. Assumes nothing.
 use mathlib.Core.Path.{_≡_, refl, sym, ap, _∙_, subst}
 use mathlib.Core.Logic.{_⊎_, inl, inr}
 use mathlib.Core.Bool.{Bool, true, false, _&&_, _||_, not}
@@ -104,7 +104,7 @@ zeros-zeros : (n : ℕ) → T (zeros (replicate n (pos 0)))
 zeros-zeros zero = tt
 zeros-zeros (suc n) = zeros-zeros n
 
--- past what was stored, the room holds 0
+-- past what was stored, the words of the capacity hold 0
 pub padded-zeros : (n : ℕ) (ws : List ℤ) (k : ℕ) → length ws ≡ k → T (zeros (drop k (padded n ws)))
 padded-zeros n ws k l = rw (drop-at ws (replicate (n - length ws) (pos 0)) k l) (zeros-zeros (n - length ws))
 
@@ -157,7 +157,7 @@ module _ (c : Chart) where
       subst (λ (t : List ℤ). T (rows-ok c (suc (length es)) t)) (sym (append-assoc (row e) (each row es) rest))
       (first-formed (row e) (each row es ++ rest) (length es) (row-length e (h .0)) (row-formed e (h .0)) (rows-formed es rest (h .1)))
 
-  -- what every walk keeps that was begun by a start that went through
+  -- what every exploration keeps that was begun by a start that went through
   pub record Good (w : Exploration AbstractState) : Type 0 where
     pub tidy : Tidy (StateOk c) (length (c .edges)) w
     pub held : Held (system c) (constants c) (Fit c) (Covers c) (laws c) w
@@ -178,7 +178,7 @@ module _ (c : Chart) where
     list-length = padded-length (w .capacity) (map pos (w .waitlist)) list-fit
 
     module _ (more-table more-list : List ℤ) where
-      -- the stored walk, with words after it
+      -- the stored exploration, with words after it
       abbrev pub lent : Memory
       lent = record { table = table-of c w ++ more-table; waitlist = waitlist-of w ++ more-list; analysis = analysis-of w }
 

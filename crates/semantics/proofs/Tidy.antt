@@ -1,5 +1,5 @@
--- A walk stays in form: the table within the room, the waiting slots in use and each once, safe exactly with an empty list,
--- an edge of the chart, and a property P of every entry that moves and merges keep. Over any domain. Assumes nothing.
+-- An analysis stays in form: the table within the capacity, the waiting slots in use and each once, safe exactly with an empty
+-- waitlist, an edge of the chart, and a property P of every state that transfer and merge keep. Over any domain. Assumes nothing.
 use mathlib.Core.Path.{_≡_, refl, sym, ap, _∙_, subst}
 use mathlib.Core.Logic.{_⊎_, inl, inr}
 use mathlib.Core.Bool.{Bool, true, false, not}
@@ -188,7 +188,7 @@ module _ {E G : Type 0} (D : Domain E G) (P : E → Type 0) (last : ℕ) (merge-
   merged-every Sep f en p h = h
   merged-every Join f en p h = joined-every f en p h
 
-  -- between the edges of a round: the table within the room r, its list, at least n slots
+  -- between the edges of an iteration: the table within the capacity r, its waitlist, at least n slots
   pub record Form (r n : ℕ) (en : List E) (wa : List ℕ) : Type 0 where
     pub fits : length en ≤ r
     pub grown : n ≤ length en

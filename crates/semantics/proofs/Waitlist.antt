@@ -1,4 +1,4 @@
--- Facts of the waiting list. Assumes nothing.
+-- Facts of the waitlist. Assumes nothing.
 use mathlib.Core.Path.{_≡_, refl, sym, ap, _∙_, subst}
 use mathlib.Core.Logic.{_⊎_, inl, inr}
 use mathlib.Core.Bool.{Bool, true, false, not}

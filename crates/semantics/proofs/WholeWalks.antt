@@ -1,4 +1,4 @@
--- Whole walks: the calls on words do what the rules make of the chart and the calls, and every run is covered. Assumes nothing.
+-- Whole walks: the calls on words do what the rules make of the chart and the calls, and every execution is covered. Assumes nothing.
 use mathlib.Core.Path.{_≡_, refl, sym, ap, _∙_, subst}
 use mathlib.Core.Bool.{Bool, true, false, _&&_, _||_, not}
 use mathlib.Core.List.{List, [], _∷_, _++_, map}
@@ -76,7 +76,7 @@ module _ (c : Chart) (ok : T (chart-ok c)) where
   b : Bounds c
   b = bounds c ok
 
-  -- ---- what the rules do keeps a walk good
+  -- ---- what the rules do keeps an exploration good
 
   pub start-capacity : (z : Settings) (r : ℕ) (e : AbstractState) → start (constants c) z r e .capacity ≡ r
   unfolding start
@@ -124,7 +124,7 @@ module _ (c : Chart) (ok : T (chart-ok c)) where
   settle zero m m′ sp w o t e g h = h refl
   settle (suc n) m m′ sp w o t e g h = record { reply = refl; memory = e; good = g }
 
-  -- a walk put into lent words leaves that walk
+  -- an exploration put into lent words leaves that exploration
   put-leaves : (w : Exploration AbstractState) (m m′ : Memory) → Good c w → left c m (put-in c w m′) ≡ store c w
   unfolding store
   put-leaves w m m′ g =
@@ -158,7 +158,7 @@ module _ (c : Chart) (ok : T (chart-ok c)) where
   unfolding start-outcome
   start-words after z r m = rw (decode-back c ok after, formed after)
 
-  -- ---- lent what a walk left
+  -- ---- lent what an exploration left
 
   module _ (w : Exploration AbstractState) (g : Good c w) (t l : List ℤ) (at : Agrees (table-of c w) t) (al : Agrees (waitlist-of w) l) where
     lend : Memory
