@@ -1,9 +1,9 @@
 -- Whatever reading accepts is in bounds. Assumes nothing.
-use mathlib.Core.Path.{_≡_, refl, sym, ap, _∙_, subst}
-use mathlib.Core.Bool.{Bool, true, false, _&&_, _||_, not}
+use mathlib.Core.Path.{_≡_, refl, ap, subst}
+use mathlib.Core.Bool.{Bool, true, false, _&&_, not}
 use mathlib.Core.List.{List, [], _∷_, _++_, map}
 use mathlib.Core.Option.{Option, none, some}
-use Prim.Native.Nat.{ℕ, zero, suc, _+_, _≤_, _<_}
+use Prim.Native.Nat.{ℕ, suc, _≤_}
 use native.Mathlib.Omega.{arith}
 use lib.Dec.{T, leb, ltb, eqb, le→leb, ltb→lt}
 use lib.ListN.{length, getD, length-append}
@@ -11,8 +11,8 @@ use lib.IntN.{ℤ, pos, negsuc}
 use lib.Signed.{leZ}
 use Rattle.semantics.specs.Lists.{all, pick, is-empty}
 use Rattle.semantics.specs.Text.{between, name-ok, same-bytes, natural-of, positive, number-of, lines, fields}
-use Rattle.semantics.specs.Chart.{Value, known, top, Var, Loc, Operand, num, var, Rel, Op, assign, add, sub, input, assume, skip, Edge, Chart, within, in-range, small}
-use Rattle.semantics.specs.Reading.{Reading, refused, accepted, Res, fail, ok, check, andThen, small-or, below-or, location-field, target-field, operand-field, init-field, kind-field, rel-field, OpWord, do-set, do-add, do-sub, do-in, do-if, do-skip, So-far, nth, with-var, with-loc, with-edge, var-line, loc-line, op-fields-read, edge-line, judge, onward, ended, judged, so-far, bad-byte-line, open-line, refused-at, refused-if, read, number-field}
+use Rattle.semantics.specs.Chart.{Value, known, top, Var, Loc, Operand, num, var, Op, assign, add, sub, input, assume, skip, Edge, Chart, within, in-range, small}
+use Rattle.semantics.specs.Reading.{Reading, refused, accepted, Res, fail, ok, check, andThen, small-or, below-or, location-field, target-field, operand-field, init-field, OpWord, do-set, do-add, do-sub, do-in, do-if, do-skip, So-far, nth, with-var, with-loc, with-edge, var-line, loc-line, op-fields-read, edge-line, judge, onward, ended, judged, so-far, bad-byte-line, open-line, refused-at, refused-if, read, number-field}
 use Rattle.semantics.specs.Encoding.{init-ok, var-ok, distinct-names, operand-ok, op-ok, edge-ok, chart-ok}
 use Rattle.semantics.proofs.Values.{and-left, and-right}
 use Rattle.semantics.proofs.Stored.{both-true}

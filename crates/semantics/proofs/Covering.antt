@@ -1,20 +1,19 @@
 -- The algorithm over a domain that meets the laws covers the system's executions. Assumes nothing.
-use mathlib.Core.Path.{_≡_, refl, sym, ap, _∙_, subst}
+use mathlib.Core.Path.{_≡_, refl, sym, _∙_, subst}
 use mathlib.Core.Logic.{_⊎_, inl, inr}
-use mathlib.Core.Bool.{Bool, true, false, not}
+use mathlib.Core.Bool.{Bool, true, false}
 use mathlib.Core.List.{List, [], _∷_, _++_, map}
 use mathlib.Core.Option.{Option, none, some}
 use Prim.Native.Nat.{ℕ, zero, suc, _+_, _≤_, zero-le, suc-le-suc}
 use native.Mathlib.Omega.{arith}
 use native.Mathlib.Decide.{ℕ-discrete}
-use native.Mathlib.Nat.{add-zero, add-suc, suc-add, zero-add}
-use lib.Dec.{T, ltb, eqb, eqb→eq}
+use native.Mathlib.Nat.{add-zero, zero-add}
+use lib.Dec.{T, ltb}
 use lib.ListN.{length}
 use Rattle.semantics.specs.Lists.{At, In, some-of, get, pick}
 use Rattle.semantics.specs.Algorithm.{verdict-of, Domain, Step, halt, fault, to, Mode, Sep, Order, Verdict, Open, Safe, Alarm, Full, Settings, Exploration, Out, on, alarmed, full, then, Taken, wait, take-by, put-back, joined, note-if, changed, wait-all, merged, rewait, keep-if, of-place, leq-joined, stopped, store-if, stop-if, arrive, error-if, visit, leave, finish, with-copy, with-taken, iteration, run, start, Join, iterate-if, start-with, first-verdict}
-use Rattle.semantics.specs.Constants.{join}
 use Rattle.semantics.specs.Coverage.{System, Laws, Leads, Execution, Covered, Waits, Followed, allowed, Allowed, Covering}
-use Rattle.semantics.proofs.ListFacts.{from-true, from-false, none-some, some-at, at-in, at-append, at-last, at-snoc, at-map, at-unmap, at-get, at-one, in-left, in-last}
+use Rattle.semantics.proofs.ListFacts.{from-true, from-false, some-at, at-append, at-last, at-snoc, at-map, at-unmap, at-get, at-one, in-left, in-last}
 use Rattle.semantics.proofs.Waitlist.{wait-keeps, wait-joins, back-joins, back-keeps, take-splits}
 
 pub fault-to : {E : Type 0} {o : Step E} {f : E} → o ≡ fault → o ≡ to f → ⊥

@@ -1,22 +1,22 @@
 -- A chart in bounds is read back from its words, with any words after, and they are well formed. Assumes nothing.
-use mathlib.Core.Path.{_≡_, refl, sym, ap, _∙_, subst}
-use mathlib.Core.Bool.{Bool, true, false, _&&_, _||_, not}
+use mathlib.Core.Path.{_≡_, refl, ap, _∙_}
+use mathlib.Core.Bool.{Bool, true, false}
 use mathlib.Core.List.{List, [], _∷_, _++_, map, append-assoc}
-use Prim.Native.Nat.{ℕ, zero, suc, _+_, _-_, _*_, _≤_, _<_}
+use Prim.Native.Nat.{ℕ, zero, suc, _-_, _≤_}
 use native.Mathlib.Omega.{arith}
-use lib.Dec.{T, leb, ltb, eqb, leb→le, eqb·suc-zero}
-use lib.ListN.{length, take, drop, getD, replicate, length-append, length-map, length-replicate}
+use lib.Dec.{T, eqb, leb→le, eqb·suc-zero}
+use lib.ListN.{length, drop, getD, replicate, length-map}
 use lib.Seq.{drop-at}
-use lib.IntN.{ℤ, pos, negsuc, natAbs}
+use lib.IntN.{ℤ, pos, natAbs}
 use lib.Signed.{leZ}
 use Rattle.semantics.specs.Lists.{each, all}
-use Rattle.semantics.specs.Text.{between, name-byte, name-ok}
-use Rattle.semantics.specs.Chart.{Value, known, top, Var, Loc, Operand, num, var, Rel, eq, ne, lt, le, gt, ge, Op, assign, add, sub, input, assume, skip, Edge, Chart, eqZ, within, small}
-use Rattle.semantics.specs.Encoding.{word, val, val-if, padded, init-ok, var-ok, var-words, kind-word, loc-words, tag, held, op-words, edge-words, encode, var-in, byte-if, name-in, loc-in, operand, op-of, edge-in, several, past, decode, chart-ok, begins-with, well-formed}
+use Rattle.semantics.specs.Text.{name-byte, name-ok}
+use Rattle.semantics.specs.Chart.{Value, known, top, Var, Loc, Operand, num, var, eq, ne, lt, le, gt, ge, Op, assign, add, sub, input, assume, skip, Edge, Chart, eqZ}
+use Rattle.semantics.specs.Encoding.{word, val, val-if, padded, init-ok, var-ok, var-words, kind-word, loc-words, tag, held, op-words, edge-words, encode, var-in, name-in, loc-in, operand, op-of, edge-in, several, past, decode, chart-ok, begins-with, well-formed}
 use Rattle.semantics.specs.Coverage.{Every}
 use Rattle.semantics.proofs.Values.{and-left, and-right, eqZ-same}
 use Rattle.semantics.proofs.StatesOk.{Bounds, bounds}
-use Rattle.semantics.proofs.Stored.{to-true, to-false, both-true, eqZ-refl, not-any, padded-length}
+use Rattle.semantics.proofs.Stored.{both-true, eqZ-refl, not-any, padded-length}
 
 -- n things of k words each
 module _ {A : Type 0} (f : A → List ℤ) (g : List ℤ → A) (k : ℕ) (Ok : A → Type 0) (wide : (x : A) → Ok x → length (f x) ≡ k) (back : (x : A) (rest : List ℤ) → Ok x → g (f x ++ rest) ≡ x) where

@@ -1,27 +1,22 @@
 -- The lines made for a chart in bounds are judged back to that chart. Assumes nothing.
-use mathlib.Core.Path.{_≡_, refl, sym, ap, _∙_, subst}
+use mathlib.Core.Path.{_≡_, refl, sym, ap, subst}
 use mathlib.Core.Bool.{Bool, true, false, _&&_, _||_, not}
 use mathlib.Core.List.{List, [], _∷_, _++_, map, append-assoc, append-nil}
-use mathlib.Core.Option.{Option, none, some}
-use Prim.Native.Nat.{ℕ, zero, suc, _+_, _-_, _*_, _^_, _≤_, _<_}
+use Prim.Native.Nat.{ℕ, zero, suc, _+_, _≤_, _<_}
 use native.Mathlib.Omega.{arith}
-use lib.Dec.{T, leb, ltb, eqb, leb→le, le→leb, ltb→lt, lt→ltb, eqb→eq}
-use lib.ListN.{length, getD, length-append, length-map}
+use lib.Dec.{T, leb, ltb, eqb, lt→ltb}
+use lib.ListN.{length, getD, length-append}
 use lib.IntN.{ℤ, pos, negsuc}
 use lib.Signed.{leZ}
-use Rattle.semantics.specs.Lists.{all, pick, is-empty}
-use Rattle.semantics.specs.Text.{digits-of, decimal, decimalZ, between, name-byte, name-ok, same-bytes, natural-of, positive, number-of}
+use Rattle.semantics.specs.Lists.{all, is-empty}
+use Rattle.semantics.specs.Text.{decimal, decimalZ, between, name-byte, name-ok, same-bytes}
 use Rattle.semantics.specs.Chart.{Value, known, top, Var, Loc, Operand, num, var, Rel, eq, ne, lt, le, gt, ge, Op, assign, add, sub, input, assume, skip, Edge, Chart, within, in-range, small}
-use Rattle.semantics.specs.Reading.{Reading, refused, accepted, Res, fail, ok, check, andThen, small-or, below-or, location-field, target-field, operand-field, init-field, kind-field, rel-text, rel-field, OpWord, do-set, do-add, do-sub, do-in, do-if, do-skip, word-text, op-word-field, field-count, So-far, nth, none-empty, with-var, with-loc, with-edge, var-line, loc-line, op-fields-read, edge-line, judge, onward, ended, judged, so-far, read, number-field}
-use Rattle.semantics.specs.Encoding.{init-ok, var-ok, distinct-names, operand-ok, op-ok, edge-ok, chart-ok}
-use Rattle.semantics.specs.Rendering.{operand-text, init-text, kind-text, var-fields, loc-fields, op-fields, edge-fields, vars-fields, chart-fields, tabbed, text-of, render}
-use Rattle.semantics.specs.Coverage.{Every}
-use Rattle.semantics.proofs.ListFacts.{from-true, from-false}
+use Rattle.semantics.specs.Reading.{ok, check, andThen, location-field, target-field, operand-field, init-field, kind-field, rel-text, rel-field, OpWord, do-set, do-add, do-sub, do-in, do-if, do-skip, op-word-field, field-count, So-far, nth, none-empty, var-line, loc-line, op-fields-read, edge-line, judge, ended, judged, number-field}
+use Rattle.semantics.specs.Encoding.{init-ok, var-ok, distinct-names, operand-ok, op-ok, edge-ok}
+use Rattle.semantics.specs.Rendering.{operand-text, init-text, kind-text, var-fields, loc-fields, op-fields, edge-fields, vars-fields}
 use Rattle.semantics.proofs.Values.{and-left, and-right}
-use Rattle.semantics.proofs.Stored.{to-true, to-false, both-true}
-use Rattle.semantics.proofs.StatesOk.{Bounds, bounds}
-use Rattle.semantics.proofs.Numbers.{in-between, not-eq, Leads, leads, natural-back, number-back, plain, digits-plain, digits-few}
-use Rattle.semantics.proofs.Texts.{Plain, LineOk, all-append, read-text}
+use Rattle.semantics.proofs.Stored.{to-true, both-true}
+use Rattle.semantics.proofs.Numbers.{in-between, not-eq, leads, natural-back, number-back}
 
 -- ---- one field
 

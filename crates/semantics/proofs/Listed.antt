@@ -1,18 +1,18 @@
 -- A listing is short: 24,576 bytes hold every listing of an analysis that was begun by a start. Assumes nothing.
-use mathlib.Core.Path.{_≡_, refl, sym, ap, _∙_, subst}
-use mathlib.Core.Bool.{Bool, true, false, _&&_}
+use mathlib.Core.Path.{_≡_}
+use mathlib.Core.Bool.{Bool, true, false}
 use mathlib.Core.List.{List, [], _∷_, _++_, map}
-use Prim.Native.Nat.{ℕ, zero, suc, _+_, _*_, _≤_, _<_}
+use Prim.Native.Nat.{ℕ, zero, suc, _+_, _*_, _≤_}
 use native.Mathlib.Omega.{arith}
-use lib.Dec.{T, leb, ltb, eqb, leb→le, le→leb}
+use lib.Dec.{T, leb, eqb, leb→le, le→leb}
 use lib.ListN.{length, length-append}
 use lib.IntN.{ℤ, pos, negsuc}
 use lib.Signed.{leZ}
 use Rattle.semantics.specs.Lists.{some-of, all}
-use Rattle.semantics.specs.Text.{decimal, decimalZ, line-of, between, name-byte, name-ok}
-use Rattle.semantics.specs.Chart.{Value, known, top, Var, Loc, Chart, within, small}
+use Rattle.semantics.specs.Text.{decimal, line-of, between, name-byte, name-ok}
+use Rattle.semantics.specs.Chart.{Value, known, top, Var, Loc, Chart, within}
 use Rattle.semantics.specs.Algorithm.{Mode, Sep, Order, Old, New, Verdict, Open, Safe, Alarm, Full, Exploration, Join}
-use Rattle.semantics.specs.Constants.{AbstractState, join}
+use Rattle.semantics.specs.Constants.{AbstractState}
 use Rattle.semantics.specs.Encoding.{var-ok}
 use Rattle.semantics.specs.Listing.{mode-text, order-text, verdict-text, loc-text, val-text, mark, slot-text, slots-text, listing-text}
 use Rattle.semantics.specs.Coverage.{Every}

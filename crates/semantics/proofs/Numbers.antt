@@ -1,21 +1,17 @@
 -- A number's digits read back as the number, are plain bytes, and are few. Assumes nothing.
-use mathlib.Core.Path.{_≡_, refl, sym, ap, _∙_, subst}
-use mathlib.Core.Bool.{Bool, true, false, _&&_, _||_, not}
-use mathlib.Core.List.{List, [], _∷_, _++_}
-use mathlib.Core.Option.{Option, none, some}
+use mathlib.Core.Path.{_≡_, refl, sym, ap, _∙_}
+use mathlib.Core.Bool.{Bool, true, false}
+use mathlib.Core.List.{List, [], _∷_}
+use mathlib.Core.Option.{some}
 use Prim.Native.Nat.{ℕ, zero, suc, _+_, _-_, _*_, _/_, _%_, _^_, _≤_, _<_}
 use native.Mathlib.Nat.{div-add-mod', mod-lt, mod-eq-of-lt}
 use native.Mathlib.Omega.{arith}
-use lib.Dec.{T, leb, ltb, eqb, leb→le, le→leb, ltb→lt, lt→ltb, nltb→le, eqb→eq}
+use lib.Dec.{T, leb, ltb, eqb, le→leb, ltb→lt, nltb→le, eqb→eq}
 use lib.ListN.{length}
 use lib.IntN.{ℤ, pos, negsuc}
-use lib.Signed.{leZ}
-use Rattle.semantics.specs.Lists.{all, pick, is-empty}
+use Rattle.semantics.specs.Lists.{all}
 use Rattle.semantics.specs.Text.{digits-of, decimal, decimalZ, between, digits, natural-of, positive, negative, number-of}
-use Rattle.semantics.specs.Chart.{small}
-use Rattle.semantics.specs.Reading.{Res, fail, ok, check, small-or, below-or, location-field, target-field, operand-field}
-use Rattle.semantics.proofs.ListFacts.{from-true, from-false}
-use Rattle.semantics.proofs.Values.{and-left, and-right}
+use Rattle.semantics.proofs.ListFacts.{from-true}
 use Rattle.semantics.proofs.Stored.{to-true, to-false, both-true}
 
 pub in-between : (a b n : ℕ) → a ≤ n → n ≤ b → between a b n ≡ true

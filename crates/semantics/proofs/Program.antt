@@ -1,31 +1,28 @@
 -- The program's calls on words print what the rules say: 14 and 15 never come up with the words that it lends. Assumes nothing.
 use mathlib.Core.Path.{_≡_, refl, sym, ap, _∙_, subst}
-use mathlib.Core.Bool.{Bool, true, false, _&&_, _||_, not}
-use mathlib.Core.List.{List, [], _∷_, _++_, map}
-use Prim.Native.Nat.{ℕ, zero, suc, _+_, _*_, _≤_, _<_}
+use mathlib.Core.Bool.{Bool, true, false}
+use mathlib.Core.List.{List, [], _∷_, map}
+use Prim.Native.Nat.{ℕ, _*_, _≤_}
 use native.Mathlib.Omega.{arith}
 use native.Mathlib.Nat.{mul-le-mul}
-use lib.Dec.{T, leb, ltb, eqb, leb→le, ltb→lt}
+use lib.Dec.{T, leb, ltb, leb→le, ltb→lt}
 use lib.ListN.{length}
-use lib.IntN.{ℤ, pos, negsuc, natAbs}
+use lib.IntN.{natAbs}
 use Rattle.semantics.specs.Lists.{pick}
 use Rattle.semantics.specs.Chart.{Chart}
-use Rattle.semantics.specs.Reading.{accepted, read}
-use Rattle.semantics.specs.Algorithm.{Settings, Exploration}
+use Rattle.semantics.specs.Algorithm.{Exploration}
 use Rattle.semantics.specs.Constants.{AbstractState, initial}
 use Rattle.semantics.specs.Coverage.{allowed}
 use Rattle.semantics.specs.Encoding.{chart-ok}
 use Rattle.semantics.specs.Memory.{width, capacity-ok, Memory}
 use Rattle.semantics.specs.Listing.{listing-text}
-use Rattle.semantics.specs.Outcomes.{short, case, number-if, refusal, budget-ok, has-verdict, started, resumed}
-use Rattle.semantics.specs.WholeWalks.{Request, ask-start, ask-run, ask-listing, Call, Reply, ruling-or, rulings, no-exploration, start-refusal, run-refusal, listing-refusal, LentCall, call-of, played, HandedOn, started-first, goes-through}
+use Rattle.semantics.specs.Outcomes.{short, budget-ok, has-verdict, started, resumed}
+use Rattle.semantics.specs.WholeWalks.{Request, ask-start, ask-run, ask-listing, Call, Reply, rulings, no-exploration, start-refusal, run-refusal, listing-refusal, LentCall, call-of, played, HandedOn, started-first}
 use Rattle.semantics.specs.Program.{Go, explored}
-use Rattle.semantics.proofs.Values.{and-left, and-right}
+use Rattle.semantics.proofs.Values.{and-right}
 use Rattle.semantics.proofs.Stored.{to-false, to-true, Good}
 use Rattle.semantics.proofs.Listed.{listing-short}
-use Rattle.semantics.proofs.Accepted.{in-bounds}
-use Rattle.semantics.proofs.WholeWalks.{capacity-pos, start-capacity, start-iterations, started-good, resumed-good, told-whole}
-use Rattle.semantics.proofs.SettingsKept.{run-kept}
+use Rattle.semantics.proofs.WholeWalks.{start-capacity, start-iterations, started-good, resumed-good, told-whole}
 use Rattle.semantics.proofs.StatesOk.{Bounds, bounds}
 
 -- 2,304 table words and 256 list words are enough for every capacity and every chart

@@ -1,24 +1,22 @@
 -- Words in form are those of the exploration that they hold: storing what was loaded changes nothing. Assumes nothing.
-use mathlib.Core.Path.{_≡_, refl, sym, ap, _∙_, subst}
-use mathlib.Core.Bool.{Bool, true, false, _&&_, _||_, not}
-use mathlib.Core.List.{List, [], _∷_, _++_, map, append-assoc}
-use Prim.Native.Nat.{ℕ, zero, suc, _+_, _-_, _*_, _≤_, _<_}
+use mathlib.Core.Path.{_≡_, refl, sym, ap, _∙_}
+use mathlib.Core.Bool.{Bool, true, false}
+use mathlib.Core.List.{List, [], _∷_, _++_, map}
+use Prim.Native.Nat.{ℕ, zero, suc, _+_, _-_, _*_, _≤_}
 use native.Mathlib.Nat.{mul-le-mul-right}
 use native.Mathlib.Omega.{arith}
-use lib.Dec.{T, leb, ltb, eqb, leb→le}
-use lib.ListN.{length, take, drop, replicate, take-append-drop, length-take, length-drop, length-map}
+use lib.Dec.{T, ltb, leb→le}
+use lib.ListN.{length, take, drop, replicate, take-append-drop, length-drop, length-map}
 use lib.Seq.{length-take-le, take-take, take-add}
-use lib.IntN.{ℤ, pos, negsuc, natAbs}
+use lib.IntN.{ℤ, pos, natAbs}
 use lib.Signed.{nonNeg, pos-natAbs}
 use Rattle.semantics.specs.Lists.{each, all, all-of, all-pairs}
-use Rattle.semantics.specs.Chart.{Value, known, top, Chart, eqZ}
-use Rattle.semantics.specs.Algorithm.{Exploration}
-use Rattle.semantics.specs.Constants.{AbstractState}
-use Rattle.semantics.specs.Coverage.{allowed, Every}
+use Rattle.semantics.specs.Chart.{Chart, eqZ}
+use Rattle.semantics.specs.Coverage.{Every}
 use Rattle.semantics.specs.Encoding.{word, val, val-if, padded}
-use Rattle.semantics.specs.Memory.{value-ok, Analysis, Memory, width, row, table-of, waitlist-of, analysis-of, state-in, states-in, load, below, row-ok, rows-ok, each-once, zeros, is-alarm, empty-if-safe, capacity-ok, form-tests, analysis-ok}
-use Rattle.semantics.specs.Outcomes.{short, put-in}
-use Rattle.semantics.proofs.ListFacts.{from-true, from-false}
+use Rattle.semantics.specs.Memory.{value-ok, Memory, width, row, table-of, waitlist-of, state-in, states-in, load, below, row-ok, rows-ok, zeros, form-tests, analysis-ok}
+use Rattle.semantics.specs.Outcomes.{put-in}
+use Rattle.semantics.proofs.ListFacts.{from-true}
 use Rattle.semantics.proofs.Values.{and-left, and-right, eqZ-same}
 
 all-each : (bs : List Bool) → T (all-of bs) → Every (λ b. T b) bs

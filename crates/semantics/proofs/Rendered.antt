@@ -1,27 +1,26 @@
 -- Every chart in bounds is read from the text made for it, and that text is short enough. Assumes nothing.
-use mathlib.Core.Path.{_≡_, refl, sym, ap, _∙_, subst}
+use mathlib.Core.Path.{_≡_, refl, ap, _∙_}
 use mathlib.Core.Logic.{_⊎_, inl, inr}
-use mathlib.Core.Bool.{Bool, true, false, _&&_, _||_, not}
+use mathlib.Core.Bool.{Bool, true, false, _&&_, _||_}
 use mathlib.Core.List.{List, [], _∷_, _++_, map}
-use Prim.Native.Nat.{ℕ, zero, suc, _+_, _-_, _*_, _^_, _≤_, _<_}
+use Prim.Native.Nat.{ℕ, suc, _+_, _*_, _≤_, _<_}
 use native.Mathlib.Omega.{arith}
-use lib.Dec.{T, leb, ltb, eqb, leb→le, le→leb, ltb→lt, eqb→eq}
+use lib.Dec.{T, leb, ltb, eqb, leb→le, ltb→lt, eqb→eq}
 use lib.ListN.{length, length-append, length-map}
 use lib.IntN.{ℤ, pos, negsuc}
-use lib.Signed.{leZ}
 use Rattle.semantics.specs.Lists.{all, is-empty}
 use Rattle.semantics.specs.Text.{decimal, decimalZ, between, name-byte, name-ok}
-use Rattle.semantics.specs.Chart.{Value, known, top, Var, Loc, Operand, num, var, Rel, eq, ne, lt, le, gt, ge, Op, assign, add, sub, input, assume, skip, Edge, Chart, within, in-range, small}
-use Rattle.semantics.specs.Reading.{Reading, refused, accepted, rel-text, So-far, ended, judged, so-far, read}
-use Rattle.semantics.specs.Encoding.{init-ok, var-ok, distinct-names, operand-ok, op-ok, edge-ok, chart-ok}
+use Rattle.semantics.specs.Chart.{Value, known, top, Var, Loc, Operand, num, var, Rel, eq, ne, lt, le, gt, ge, Op, assign, add, sub, input, assume, skip, Edge, Chart, within, small}
+use Rattle.semantics.specs.Reading.{accepted, rel-text, ended, so-far, read}
+use Rattle.semantics.specs.Encoding.{init-ok, var-ok, operand-ok, op-ok, edge-ok, chart-ok}
 use Rattle.semantics.specs.Rendering.{operand-text, init-text, kind-text, var-fields, loc-fields, op-fields, edge-fields, vars-fields, chart-fields, tabbed, text-of, render}
 use Rattle.semantics.specs.Coverage.{Every}
-use Rattle.semantics.proofs.ListFacts.{from-true, from-false}
+use Rattle.semantics.proofs.ListFacts.{from-true}
 use Rattle.semantics.proofs.Values.{and-left, and-right}
-use Rattle.semantics.proofs.Stored.{to-true, both-true}
+use Rattle.semantics.proofs.Stored.{both-true}
 use Rattle.semantics.proofs.StatesOk.{Bounds, bounds}
 use Rattle.semantics.proofs.Numbers.{in-between, plain, digits-plain, digits-few}
-use Rattle.semantics.proofs.Texts.{Plain, LineOk, all-append, read-text}
+use Rattle.semantics.proofs.Texts.{Plain, LineOk, read-text}
 use Rattle.semantics.proofs.JudgedBack.{Steps, steps-append, steps-judged, made, vars-back, locs-back, edges-back}
 
 -- ---- how long a line is: its fields, each with a tab or LF after it

@@ -1,16 +1,15 @@
 -- The form check of the encoded chart, row by row, as code can make it: each row is what its decoding encodes to. Assumes nothing.
-use mathlib.Core.Path.{_≡_, refl, sym, ap, _∙_, subst}
+use mathlib.Core.Path.{_≡_, refl, sym, ap, _∙_}
 use mathlib.Core.Bool.{Bool, true, false, _&&_}
 use mathlib.Core.List.{List, [], _∷_, _++_, map, append-assoc, append-nil}
-use Prim.Native.Nat.{ℕ, zero, suc, _+_, _-_, _≤_, _<_}
+use Prim.Native.Nat.{ℕ, zero, suc, _≤_}
 use native.Mathlib.Omega.{arith}
-use lib.Dec.{T}
-use lib.ListN.{length, take, drop, getD, length-map}
+use lib.ListN.{length, take, drop, length-map}
 use lib.Seq.{getD-take}
-use lib.IntN.{ℤ, pos, natAbs}
+use lib.IntN.{ℤ, pos}
 use Rattle.semantics.specs.Lists.{each, all}
-use Rattle.semantics.specs.Chart.{Var, Loc, Op, assign, add, sub, input, assume, skip, Edge, Chart, eqZ}
-use Rattle.semantics.specs.Encoding.{padded, var-words, loc-words, op-words, edge-words, encode, var-in, byte-if, name-in, loc-in, edge-in, several, past, count, decode, chart-ok, begins-with, well-formed}
+use Rattle.semantics.specs.Chart.{eqZ}
+use Rattle.semantics.specs.Encoding.{var-words, loc-words, edge-words, encode, var-in, byte-if, name-in, loc-in, edge-in, several, past, count, decode, begins-with}
 use Rattle.semantics.proofs.Encoded.{op-wide}
 use Rattle.semantics.proofs.Stored.{padded-length}
 

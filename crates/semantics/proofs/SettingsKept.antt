@@ -1,11 +1,11 @@
 -- A run keeps the settings and the capacity, and begins no more iterations than it may. Over any domain. Assumes nothing.
-use mathlib.Core.Path.{_≡_, refl, sym, ap, _∙_, subst}
-use mathlib.Core.List.{List, [], _∷_}
+use mathlib.Core.Path.{_≡_, refl, _∙_}
+use mathlib.Core.List.{List}
 use mathlib.Core.Option.{Option, none, some}
 use Prim.Native.Nat.{ℕ, zero, suc, _+_, _≤_}
 use native.Mathlib.Omega.{arith}
 use Rattle.semantics.specs.Lists.{get}
-use Rattle.semantics.specs.Algorithm.{Domain, Verdict, Open, Safe, Alarm, Full, Settings, Exploration, Out, on, alarmed, full, Taken, take-by, leave, finish, with-copy, with-taken, iteration, run, iterate-if}
+use Rattle.semantics.specs.Algorithm.{Domain, Verdict, Open, Safe, Alarm, Full, Exploration, Out, on, alarmed, full, Taken, take-by, leave, finish, with-copy, with-taken, iteration, run, iterate-if}
 
 pub record Kept {E : Type 0} (n : ℕ) (w w′ : Exploration E) : Type 0 where
   pub settings : w′ .settings ≡ w .settings

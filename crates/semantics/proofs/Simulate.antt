@@ -1,14 +1,14 @@
 -- Two domains that agree explore alike: with states related by R and edges by Q, every iteration, run and start gives related
 -- explorations. Assumes nothing.
-use mathlib.Core.Path.{_≡_, refl, sym, ap, _∙_, subst}
+use mathlib.Core.Path.{_≡_, refl, ap, _∙_, subst}
 use mathlib.Core.Bool.{Bool, true, false}
 use mathlib.Core.List.{List, [], _∷_, _++_, map}
 use mathlib.Core.Option.{Option, none, some}
 use Prim.Native.Nat.{ℕ, zero, suc}
-use lib.Dec.{T, ltb, eqb}
+use lib.Dec.{ltb}
 use lib.ListN.{length}
 use Rattle.semantics.specs.Lists.{some-of, get, pick}
-use Rattle.semantics.specs.Algorithm.{Domain, Step, halt, fault, to, Mode, Sep, Join, Order, Old, New, Verdict, Open, Safe, Alarm, Full, Settings, Exploration, Out, on, alarmed, full, then, verdict-of, wait, Taken, take-by, put-back, joined, note-if, changed, wait-all, merged, rewait, keep-if, of-place, leq-joined, stopped, store-if, stop-if, arrive, error-if, visit, leave, finish, with-copy, with-taken, iteration, iterate-if, run, start-with, first-verdict, start}
+use Rattle.semantics.specs.Algorithm.{Domain, Step, halt, fault, to, Mode, Sep, Join, Verdict, Open, Safe, Alarm, Full, Settings, Exploration, Out, on, alarmed, full, then, verdict-of, Taken, take-by, put-back, joined, note-if, changed, wait-all, merged, rewait, keep-if, of-place, leq-joined, stopped, store-if, stop-if, arrive, error-if, visit, leave, finish, with-copy, with-taken, iteration, iterate-if, run, start-with, first-verdict, start}
 
 abbrev pub AllPairs : {A B : Type 0} (R : A → B → Type 0) → List A → List B → Type 0
 AllPairs R [] [] = Unit

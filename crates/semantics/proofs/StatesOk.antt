@@ -1,20 +1,19 @@
 -- Every abstract state reached on a chart in bounds is of the chart: its location is one, and each value lies in its range. Assumes nothing.
-use mathlib.Core.Path.{_≡_, refl, sym, ap, _∙_, subst}
-use mathlib.Core.Bool.{Bool, true, false, _&&_, _||_, not}
+use mathlib.Core.Path.{_≡_, refl, subst}
+use mathlib.Core.Bool.{Bool, true, false}
 use mathlib.Core.List.{List, [], _∷_}
 use mathlib.Core.Option.{Option, none, some}
 use Prim.Native.Nat.{ℕ, zero, suc, _+_, _≤_, _<_}
 use native.Mathlib.Omega.{arith}
-use lib.Dec.{T, leb, ltb, eqb, leb→le, ltb→lt, eqb→eq}
+use lib.Dec.{T, eqb, leb→le, ltb→lt}
 use lib.ListN.{length, set}
-use lib.IntN.{ℤ, pos, negsuc, _+ℤ_, _-ℤ_}
-use lib.Signed.{leZ}
+use lib.IntN.{ℤ, _+ℤ_, _-ℤ_}
 use Rattle.semantics.specs.Lists.{some-if, all}
-use Rattle.semantics.specs.Text.{between, name-ok}
-use Rattle.semantics.specs.Chart.{Value, known, top, Var, Loc, Operand, Rel, eq, ne, lt, le, gt, ge, num, var, Op, assign, add, sub, input, assume, skip, Edge, Numbered, number-from, numbered, Chart, inits, holds, within, eqZ, in-range, small}
-use Rattle.semantics.specs.Algorithm.{Step, halt, fault, to}
+use Rattle.semantics.specs.Text.{name-ok}
+use Rattle.semantics.specs.Chart.{Value, known, top, Var, Operand, Rel, eq, ne, lt, le, gt, ge, num, var, Op, assign, add, sub, input, assume, skip, Edge, number-from, numbered, Chart, inits, holds, within, eqZ, in-range, small}
+use Rattle.semantics.specs.Algorithm.{to}
 use Rattle.semantics.specs.Constants.{AbstractState, equal-value, value-or-top, join-values, same-location, join, assign-value, one-of, one-known, tested, effect, arrive-at, post-if, post, constants, initial, operand-value, both}
-use Rattle.semantics.specs.Encoding.{init-ok, var-ok, op-ok, operand-ok, edge-ok, distinct-names, chart-ok}
+use Rattle.semantics.specs.Encoding.{init-ok, var-ok, op-ok, edge-ok, distinct-names, chart-ok}
 use Rattle.semantics.specs.Coverage.{Every}
 use Rattle.semantics.proofs.Values.{and-left, and-right}
 use Rattle.semantics.proofs.Covering.{halt-to}

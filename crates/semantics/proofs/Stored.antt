@@ -3,27 +3,27 @@ use mathlib.Core.Path.{_≡_, refl, sym, ap, _∙_, subst}
 use mathlib.Core.Logic.{_⊎_, inl, inr}
 use mathlib.Core.Bool.{Bool, true, false, _&&_, _||_, not}
 use mathlib.Core.List.{List, [], _∷_, _++_, map, append-assoc}
-use Prim.Native.Nat.{ℕ, zero, suc, _+_, _-_, _*_, _≤_, _<_}
+use Prim.Native.Nat.{ℕ, zero, suc, _-_, _*_, _≤_, _<_}
 use native.Mathlib.Nat.{mul-le-mul-right}
 use native.Mathlib.Omega.{arith}
-use lib.Dec.{T, leb, ltb, eqb, leb→le, le→leb, ltb→lt, lt→ltb, eqb→eq, eqb-refl}
+use lib.Dec.{T, ltb, eqb, leb→le, le→leb, lt→ltb, eqb→eq, eqb-refl}
 use lib.ListN.{length, take, drop, replicate, length-append, length-map, length-replicate}
 use lib.Seq.{take-at, drop-at}
 use lib.IntN.{ℤ, pos, negsuc, natAbs}
 use lib.Signed.{leZ}
 use Rattle.semantics.specs.Lists.{In, some-of, each, all, all-of, all-pairs}
-use Rattle.semantics.specs.Chart.{Value, known, top, Var, Chart, eqZ, within, small}
+use Rattle.semantics.specs.Chart.{Value, known, top, Var, Chart, eqZ, within}
 use Rattle.semantics.specs.Algorithm.{Verdict, Open, Safe, Alarm, Full, Exploration}
 use Rattle.semantics.specs.Constants.{AbstractState, Covers, constants}
-use Rattle.semantics.specs.Coverage.{allowed, Allowed, system, Fit, Every, Queue, Distinct, Tidy}
+use Rattle.semantics.specs.Coverage.{allowed, system, Fit, Every, Distinct, Tidy}
 use Rattle.semantics.specs.Encoding.{word, val, val-if, padded, var-ok}
-use Rattle.semantics.specs.Memory.{Analysis, Memory, width, row, table-of, waitlist-of, analysis-of, store, state-in, states-in, load, value-ok, below, row-ok, rows-ok, each-once, zeros, is-alarm, empty-if-safe, capacity-ok, form-tests, analysis-ok}
-use Rattle.semantics.proofs.ListFacts.{from-true, from-false}
-use Rattle.semantics.proofs.Values.{and-left, and-right, eqZ-same}
+use Rattle.semantics.specs.Memory.{Memory, width, row, table-of, waitlist-of, analysis-of, state-in, states-in, load, value-ok, below, row-ok, rows-ok, each-once, zeros, is-alarm, empty-if-safe, capacity-ok, form-tests, analysis-ok}
+use Rattle.semantics.proofs.ListFacts.{from-true}
+use Rattle.semantics.proofs.Values.{and-left, and-right}
 use Rattle.semantics.proofs.Covering.{Held}
 use Rattle.semantics.proofs.ConstantsSound.{laws}
 use Rattle.semantics.proofs.Tidy.{queue-few}
-use Rattle.semantics.proofs.StatesOk.{ValOk, ValsOk, StateOk, join-ok, Bounds}
+use Rattle.semantics.proofs.StatesOk.{ValOk, ValsOk, StateOk, Bounds}
 
 -- ---- tests
 

@@ -1,19 +1,19 @@
 -- A text made of lines of plain fields: its bytes are fit, its last line is ended, and its lines and fields are read back.
 -- Assumes nothing.
-use mathlib.Core.Path.{_≡_, refl, sym, ap, _∙_, subst}
-use mathlib.Core.Bool.{Bool, true, false, _&&_, _||_, not}
-use mathlib.Core.List.{List, [], _∷_, _++_, map, append-assoc}
-use mathlib.Core.Option.{Option, none, some}
-use Prim.Native.Nat.{ℕ, zero, suc, _+_, _≤_, _<_}
+use mathlib.Core.Path.{_≡_, refl, ap, _∙_}
+use mathlib.Core.Bool.{Bool, true, false, _||_}
+use mathlib.Core.List.{List, [], _∷_, _++_, map}
+use mathlib.Core.Option.{none}
+use Prim.Native.Nat.{ℕ, suc, _≤_}
 use native.Mathlib.Omega.{arith}
-use lib.Dec.{T, leb, ltb, eqb, leb→le, lt→ltb, eqb→eq, nltb→le}
+use lib.Dec.{T, leb, ltb, eqb, leb→le, eqb→eq}
 use lib.ListN.{length}
 use Rattle.semantics.specs.Lists.{all, pick}
-use Rattle.semantics.specs.Text.{between, onto, lines, fields}
-use Rattle.semantics.specs.Reading.{Reading, refused, accepted, judged, so-far, byte-ok, bad-byte-line, open-line, refused-at, refused-if, read}
+use Rattle.semantics.specs.Text.{between, lines, fields}
+use Rattle.semantics.specs.Reading.{judged, so-far, byte-ok, bad-byte-line, open-line, read}
 use Rattle.semantics.specs.Rendering.{tabbed, text-of}
 use Rattle.semantics.specs.Coverage.{Every}
-use Rattle.semantics.proofs.ListFacts.{from-true, from-false}
+use Rattle.semantics.proofs.ListFacts.{from-true}
 use Rattle.semantics.proofs.Values.{and-left, and-right}
 use Rattle.semantics.proofs.Stored.{to-true, to-false, both-true}
 use Rattle.semantics.proofs.Numbers.{not-eq, plain}

@@ -1,18 +1,17 @@
 -- An analysis stays in form: the table within the capacity, the waiting slots in use and each once, safe exactly with an empty
 -- waitlist, an edge of the chart, and a property P of every state that transfer and merge keep. Over any domain. Assumes nothing.
-use mathlib.Core.Path.{_≡_, refl, sym, ap, _∙_, subst}
+use mathlib.Core.Path.{_≡_, refl, sym, ap, subst}
 use mathlib.Core.Logic.{_⊎_, inl, inr}
-use mathlib.Core.Bool.{Bool, true, false, not}
+use mathlib.Core.Bool.{Bool, true, false}
 use mathlib.Core.List.{List, [], _∷_, _++_, map, nil≢cons}
 use mathlib.Core.Option.{Option, none, some}
 use Prim.Native.Nat.{ℕ, zero, suc, _+_, _≤_, _<_, zero-le}
 use native.Mathlib.Omega.{arith}
 use lib.Dec.{T, ltb, eqb, eqb→eq, eqb-refl, ltb→lt}
 use lib.ListN.{length, length-append, length-map}
-use Rattle.semantics.specs.Lists.{At, In, some-of, get, pick}
-use Rattle.semantics.specs.Algorithm.{verdict-of, Domain, Step, halt, fault, to, Mode, Sep, Order, Old, New, Verdict, Open, Safe, Alarm, Full, Settings, Exploration, Out, on, alarmed, full, then, wait, wait-if, drop-if, without, Taken, later, take-last, take-first, take-by, put-back, joined, note-if, changed, wait-all, merged, rewait, stopped, store-if, stop-if, arrive, error-if, visit, leave, finish, with-copy, with-taken, iteration, run, start, Join, iterate-if, start-with, first-verdict}
-use Rattle.semantics.specs.Constants.{join}
-use Rattle.semantics.proofs.ListFacts.{from-true, from-false, none-some, in-left, in-last, at-get}
+use Rattle.semantics.specs.Lists.{In, some-of, get, pick}
+use Rattle.semantics.specs.Algorithm.{verdict-of, Domain, Step, halt, fault, to, Mode, Sep, Order, Old, New, Verdict, Open, Safe, Alarm, Full, Settings, Exploration, Out, on, alarmed, full, then, wait, wait-if, drop-if, without, Taken, later, take-last, take-by, put-back, joined, note-if, changed, wait-all, merged, rewait, stopped, store-if, stop-if, arrive, error-if, visit, leave, finish, with-copy, with-taken, iteration, run, start, Join, iterate-if, start-with, first-verdict}
+use Rattle.semantics.proofs.ListFacts.{from-true, from-false, none-some, in-last}
 use Rattle.semantics.specs.Coverage.{Distinct, Queue, Every, Tidy}
 
 pub in-snoc : (j k : ℕ) (w : List ℕ) → In j (w ++ (k ∷ [])) → In j w ⊎ (j ≡ k)

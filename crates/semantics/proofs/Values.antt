@@ -1,20 +1,19 @@
 -- Facts of values, of any number of variables. Assumes nothing.
 use mathlib.Core.Path.{_≡_, refl, sym, ap, _∙_, subst}
-use mathlib.Core.Logic.{_⊎_, inl, inr}
-use mathlib.Core.Bool.{Bool, true, false, not, _&&_}
-use mathlib.Core.List.{List, [], _∷_, _++_, map}
-use mathlib.Core.Option.{Option, none, some}
-use Prim.Native.Nat.{ℕ, zero, suc, _+_, _≤_}
+use mathlib.Core.Bool.{Bool, true, false, _&&_}
+use mathlib.Core.List.{List, [], _∷_}
+use mathlib.Core.Option.{Option, some}
+use Prim.Native.Nat.{ℕ, zero, suc}
 use native.Mathlib.Omega.{arith}
 use native.Mathlib.Nat.{le-antisymm}
-use lib.Dec.{T, ltb, eqb, eqb→eq, eqb-refl, leb, leb→le}
-use lib.ListN.{length, getD, set, length-set}
+use lib.Dec.{T, eqb→eq, leb→le}
+use lib.ListN.{length, getD, set}
 use lib.IntN.{ℤ, pos, negsuc, _+ℤ_, _-ℤ_}
 use lib.Signed.{leZ}
 use Rattle.semantics.specs.Lists.{all-pairs, some-if}
 use Rattle.semantics.specs.Chart.{Value, known, top, Var, Operand, num, var, Rel, eq, ne, lt, le, gt, ge, Op, assign, add, sub, input, assume, skip, eqZ, within, holds, Ranged, Matches₁, Matches, value, Becomes, in-range}
-use Rattle.semantics.specs.Constants.{equal-value, leq-value, value-or-top, join-value, join-values, operand-value, both, assign-value, refine, one-known, tested, one-of, effect}
-use Rattle.semantics.proofs.ListFacts.{from-true, from-false}
+use Rattle.semantics.specs.Constants.{equal-value, leq-value, value-or-top, join-values, operand-value, both, assign-value, refine, one-known, tested, one-of, effect}
+use Rattle.semantics.proofs.ListFacts.{from-true}
 
 pub and-left : (a b : Bool) → T (a && b) → T a
 and-left true b t = tt

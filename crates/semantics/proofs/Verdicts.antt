@@ -1,16 +1,14 @@
 -- How the edges of an iteration end is caused by one of them: an alarm is raised by the edge that it names, and no full table
 -- hides one; and the iteration counts once. Over any domain, with no law of it. Assumes nothing.
 use mathlib.Core.Path.{_≡_, refl, subst}
-use mathlib.Core.Logic.{_⊎_, inl, inr}
+use mathlib.Core.Logic.{inl, inr}
 use mathlib.Core.Bool.{Bool, true, false}
 use mathlib.Core.List.{List, [], _∷_}
-use Prim.Native.Nat.{ℕ, suc, _≤_}
-use native.Mathlib.Omega.{arith}
+use Prim.Native.Nat.{ℕ, suc}
 use borrow.Author.Tests.{ltb-false}
 use lib.Dec.{T, ltb}
 use lib.ListN.{length}
-use Rattle.semantics.specs.Lists.{In}
-use Rattle.semantics.specs.Algorithm.{Domain, Settings, Step, halt, fault, to, Out, on, alarmed, full, then, merged, rewait, stopped, store-if, stop-if, arrive, error-if, visit, leave, Exploration, finish}
+use Rattle.semantics.specs.Algorithm.{Domain, Settings, Step, halt, fault, to, Out, on, alarmed, full, then, merged, rewait, stopped, store-if, stop-if, error-if, visit, leave, Exploration, finish}
 use Rattle.semantics.specs.Coverage.{Raises, Caused}
 use Rattle.semantics.proofs.ListFacts.{from-true, from-false}
 use Rattle.semantics.proofs.Covering.{halt-to, halt-fault, fault-to}

@@ -1,16 +1,14 @@
 -- Facts of the waitlist. Assumes nothing.
-use mathlib.Core.Path.{_≡_, refl, sym, ap, _∙_, subst}
+use mathlib.Core.Path.{_≡_, refl, sym, _∙_, subst}
 use mathlib.Core.Logic.{_⊎_, inl, inr}
-use mathlib.Core.Bool.{Bool, true, false, not}
-use mathlib.Core.List.{List, [], _∷_, _++_, map}
+use mathlib.Core.Bool.{Bool, true, false}
+use mathlib.Core.List.{List, [], _∷_, _++_}
 use mathlib.Core.Option.{Option, none, some}
-use Prim.Native.Nat.{ℕ, zero, suc, _+_}
-use native.Mathlib.Omega.{arith}
-use lib.Dec.{T, eqb, eqb→eq}
-use lib.ListN.{length}
-use Rattle.semantics.specs.Lists.{At, In, some-of, get}
-use Rattle.semantics.specs.Algorithm.{Order, Old, New, wait, wait-if, drop-if, without, Taken, later, take-last, take-first, take-by, put-back}
-use Rattle.semantics.proofs.ListFacts.{from-true, from-false, none-some, some-at, at-in, in-left, in-last}
+use Prim.Native.Nat.{ℕ}
+use lib.Dec.{eqb, eqb→eq}
+use Rattle.semantics.specs.Lists.{In, some-of}
+use Rattle.semantics.specs.Algorithm.{Order, Old, New, wait, wait-if, drop-if, without, Taken, later, take-last, take-by, put-back}
+use Rattle.semantics.proofs.ListFacts.{from-true, none-some, some-at, at-in, in-left, in-last}
 
 -- a slot that is on the list stays on it
 pub wait-keeps : (k : ℕ) (w : List ℕ) (j : ℕ) → In j w → In j (wait k w)

@@ -1,27 +1,26 @@
 -- Whole walks: the calls on words do what the rules make of the chart and the calls, and every execution is covered. Assumes nothing.
 use mathlib.Core.Path.{_≡_, refl, sym, ap, _∙_, subst}
-use mathlib.Core.Bool.{Bool, true, false, _&&_, _||_, not}
+use mathlib.Core.Bool.{Bool, true, false, _||_, not}
 use mathlib.Core.List.{List, [], _∷_, _++_, map}
-use Prim.Native.Nat.{ℕ, zero, suc, _+_, _-_, _*_, _≤_, _<_, min}
+use Prim.Native.Nat.{ℕ, zero, suc, _-_, _*_, _≤_, min}
 use native.Mathlib.Omega.{arith}
 use lib.Dec.{T, leb, ltb, eqb, leb→le, eqb→eq, nltb→le}
 use lib.ListN.{length, take, drop, take-append-drop}
 use mathlib.Core.List.{append-nil, append-assoc}
 use lib.Seq.{take-all, take-append-seam}
 use lib.IntN.{ℤ, pos, negsuc, natAbs}
-use Rattle.semantics.specs.Chart.{Chart, numbered, within}
-use Rattle.semantics.specs.Reading.{Reading, refused, accepted}
-use Rattle.semantics.specs.Algorithm.{Settings, Verdict, Exploration, start, run, start-with, first-verdict}
+use Rattle.semantics.specs.Chart.{Chart, numbered}
+use Rattle.semantics.specs.Algorithm.{Settings, Exploration, start, start-with, first-verdict}
 use Rattle.semantics.specs.Constants.{AbstractState, Covers, constants, initial}
 use Rattle.semantics.specs.Coverage.{allowed, Allowed, Covering, system, Fit}
-use Rattle.semantics.specs.Encoding.{encode, decode, well-formed, chart-ok}
+use Rattle.semantics.specs.Encoding.{encode, well-formed, chart-ok}
 use Rattle.semantics.specs.Memory.{Memory, width, table-of, waitlist-of, analysis-of, store, load, capacity-ok, analysis-ok}
 use Rattle.semantics.specs.Listing.{listing-text}
-use Rattle.semantics.specs.Outcomes.{Answer, Outcome, Case, case, number-if, refusal, settled, budget-ok, short, has-verdict, started, resumed, fine, put-in, start-outcome, run-outcome, listing-outcome}
-use Rattle.semantics.specs.WholeWalks.{Request, ask-start, ask-run, ask-listing, Call, Reply, Ruling, ruling-or, no-text, start-refusal, run-refusal, listing-refusal, request-ruling, ruling, Rulings, more, rulings, no-exploration, rules-of, LentCall, call-of, request-outcome, outcome, reply-of, over, left, leaves, Played, also, played, Agrees, Handed, HandedOn, goes-through, started-first, WholeWalk, WholeWalks}
-use Rattle.semantics.proofs.ListFacts.{from-true, from-false}
-use Rattle.semantics.proofs.Values.{and-left, and-right}
-use Rattle.semantics.proofs.Covering.{Held, run-held, covering}
+use Rattle.semantics.specs.Outcomes.{Outcome, case, number-if, refusal, settled, budget-ok, short, has-verdict, started, resumed, fine, put-in, start-outcome, run-outcome, listing-outcome}
+use Rattle.semantics.specs.WholeWalks.{Request, ask-start, ask-run, ask-listing, Call, Ruling, ruling-or, no-text, start-refusal, run-refusal, request-ruling, ruling, rulings, no-exploration, LentCall, call-of, request-outcome, outcome, reply-of, over, left, played, Agrees, Handed, HandedOn, goes-through, started-first, WholeWalks}
+use Rattle.semantics.proofs.ListFacts.{from-false}
+use Rattle.semantics.proofs.Values.{and-left}
+use Rattle.semantics.proofs.Covering.{run-held, covering}
 use Rattle.semantics.proofs.ConstantsSound.{laws, begun}
 use Rattle.semantics.proofs.Tidy.{run-tidy, start-tidy}
 use Rattle.semantics.proofs.Accepted.{in-bounds}

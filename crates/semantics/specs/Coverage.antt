@@ -10,7 +10,7 @@ use lib.ListN.{length}
 use Rattle.semantics.specs.Lists.{At, In}
 use Rattle.semantics.specs.Chart.{Chart, Numbered, numbered, State, Initial, Moves, Error}
 use Rattle.semantics.specs.Constants.{AbstractState, Covers, constants, initial}
-use Rattle.semantics.specs.Algorithm.{Domain, Mode, Sep, Join, Settings, Exploration, Verdict, Safe, Alarm, Out, on, alarmed, full, fault, to, start, run}
+use Rattle.semantics.specs.Algorithm.{Domain, Mode, Sep, Join, Settings, Exploration, Safe, Alarm, Out, on, alarmed, full, fault, to, start, run}
 
 -- ---- executions
 

@@ -1,17 +1,17 @@
 -- Signed words: the machine's tests and casts, which go by bits, told of the whole numbers themselves. Assumes nothing.
 use mathlib.Core.Path.{_≡_, refl, sym, ap, subst, _∙_}
 use mathlib.Core.Bool.{Bool, true, false, cond}
-use Prim.Native.Nat.{ℕ, zero, suc, _+_, _<_, _≤_, _^_}
+use Prim.Native.Nat.{ℕ, zero, suc, _+_, _<_, _≤_}
 use native.Mathlib.Omega.{arith}
 use native.Mathlib.Nat.{lt-of-le-of-lt, zero-add}
 use lib.Dec.{eqb, ltb, T}
 use lib.IntN.{ℤ, pos, negsuc, natAbs, negℤ, _+ℤ_, _-ℤ_}
 use lib.Signed.{nonNeg, mag, leZ, ltZ}
 use mir.Syntax.{Width, w32, w64}
-use mir.Val.{SFits, Fits, ofZ, toZ, hbits, bits}
+use mir.Val.{SFits, ofZ, toZ}
 use mir.ValLaws.{toZ-ofZ}
 use mir.Facts.{sfits-widen, sfits-lit}
-use borrow.Author.Tests.{eqb-true, eqb-false, eq-eqb, ne-eqb, leb-true, ltb-true}
+use borrow.Author.Tests.{eqb-true, eq-eqb, ne-eqb, leb-true, ltb-true}
 use Rattle.semantics.specs.Chart.{eqZ}
 
 pub eqZ-true : (a b : ℤ) → eqZ a b ≡ true → a ≡ b

@@ -1,23 +1,19 @@
 use mathlib.Core.Path.{_≡_, refl, sym, ap, _∙_}
-use mathlib.Core.Bool.{true, false, _&&_}
-use mathlib.Core.List.{List, _∷_, []}
-use Prim.Native.Nat.{ℕ, suc, _+_, _-_, _≤_, _<_}
+use mathlib.Core.Bool.{_&&_}
+use Prim.Native.Nat.{_+_, _-_, _≤_}
 use native.Mathlib.Numerals.{add-one}
 use native.Mathlib.Omega.{arith}
 use lib.IntN.{ℤ, pos}
-use lib.ListN.{length, take, drop, getD, drop-of-length-le, length-drop, length-take}
-use lib.Seq.{take-all, drop-cons}
+use lib.ListN.{length, drop, getD, drop-of-length-le}
+use lib.Seq.{drop-cons}
 use mir.Syntax.{w32}
-use mir.ValLaws.{toZ-ofZ}
 use mir.Facts.{sfits-lit}
-use borrow.Author.Needs.{needs, sfits-of}
+use borrow.Author.Needs.{sfits-of}
 use Rattle.semantics.specs.Chart.{eqZ}
 use Rattle.semantics.specs.Memory.{zeros}
 use Rattle.words.proofs.Words.{bits-eq, bits-ne, eqZ-sym}
 use Rattle.words.proofs.all_zero.Statement.{statement}
 use Rattle.words.proofs.all_zero.Tie as tie
-use Rattle.words.proofs.all_zero.Reads as reads
-use Rattle.words.proofs.all_zero.Lts as lts
 
 abbrev Inv-loop : tie.InvT-loop
 Inv-loop s i₀ i = (i ≤ length s) × (zeros s ≡ zeros (drop i s))

@@ -1,14 +1,12 @@
 -- `words::magnitude` meets its contract: below 0 the word is taken from 0 in 64 bits. Assumes nothing.
-use mathlib.Core.Path.{_≡_, refl, sym, ap, subst, _∙_}
+use mathlib.Core.Path.{_≡_, refl, _∙_}
 use mathlib.Core.Bool.{true, false}
-use Prim.Native.Nat.{ℕ, _<_}
-use native.Mathlib.Omega.{arith}
 use borrow.Author.Needs.{needs}
-use lib.IntN.{ℤ, pos, natAbs, _-ℤ_}
+use lib.IntN.{pos, natAbs, _-ℤ_}
 use lib.Signed.{ltZ}
 use mir.Syntax.{w32, w64}
 use mir.Facts.{fits-natAbs}
-use mir.Val.{toZ, ofZ, SFits}
+use mir.Val.{toZ, ofZ}
 use mir.ValLaws.{toZ-ofZ}
 use Rattle.words.proofs.Words.{not-neg, abs-small, below-fits, below-is}
 use Rattle.words.proofs.magnitude.Statement.{statement}
