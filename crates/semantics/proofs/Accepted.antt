@@ -10,9 +10,9 @@ use lib.ListN.{length, getD, length-append}
 use lib.IntN.{ℤ, pos, negsuc}
 use lib.Signed.{leZ}
 use Rattle.semantics.specs.Lists.{all, pick, is-empty}
-use Rattle.semantics.specs.Text.{between, name-ok, same-bytes, natural-of, positive, number-of, lines, fields}
+use Rattle.semantics.specs.Text.{between, name-ok, same-bytes, natural-of, nonnegative, number-of, lines, fields}
 use Rattle.semantics.specs.Chart.{Value, known, top, Var, Loc, Operand, num, var, Op, assign, add, sub, input, assume, skip, Edge, Chart, within, in-range, small}
-use Rattle.semantics.specs.Reading.{Reading, refused, accepted, Res, fail, ok, check, andThen, small-or, below-or, location-field, target-field, operand-field, init-field, OpWord, do-set, do-add, do-sub, do-in, do-if, do-skip, So-far, nth, with-var, with-loc, with-edge, var-line, loc-line, op-fields-read, edge-line, judge, onward, ended, judged, so-far, bad-byte-line, open-line, refused-at, refused-if, read, number-field}
+use Rattle.semantics.specs.Reading.{Reading, refused, accepted, Res, fail, ok, check, andThen, small-or, below-or, location-field, target-field, operand-field, init-field, OpWord, do-set, do-add, do-sub, do-in, do-if, do-skip, So-far, nth, with-var, with-loc, with-edge, var-line, loc-line, op-fields-read, edge-line, judge, onward, ended, judged, nothing-read, bad-byte-line, open-line, refused-at, refused-if, read, number-field}
 use Rattle.semantics.specs.Encoding.{init-ok, var-ok, distinct-names, operand-ok, op-ok, edge-ok, chart-ok}
 use Rattle.semantics.proofs.Values.{and-left, and-right}
 use Rattle.semantics.proofs.Stored.{both-true}
@@ -60,7 +60,7 @@ location-is n f k e = below-is n (number-of f) k e
 target-is : (n : ℕ) (f : List ℕ) (k : ℕ) → target-field n f ≡ ok k → T (ltb k n)
 unfolding target-field
 target-is n [] k e = absurd (fail-ok e)
-target-is n (b ∷ bs) k e = below-is n (positive (natural-of bs)) k (check-ok _ _ _ e .1)
+target-is n (b ∷ bs) k e = below-is n (nonnegative (natural-of bs)) k (check-ok _ _ _ e .1)
 
 operand-is : (vars : List Var) (f : List ℕ) (a : Operand) → operand-field (length vars) f ≡ ok a → T (operand-ok vars a)
 unfolding operand-field
@@ -269,11 +269,11 @@ at-accepted (some n) k r c e = absurd (refused-not e)
 pub in-bounds : (text : List ℕ) (c : Chart) → read text ≡ accepted c → T (chart-ok c)
 unfolding read chart-ok
 in-bounds text c e =
-    let r = judged 1 so-far (map fields (lines text)) in
+    let r = judged 1 nothing-read (map fields (lines text)) in
     let e₁ = if-accepted (ltb 32768 (length text)) 1 (refused-at (bad-byte-line 1 text) 2 (refused-at (open-line 0 10 text) 3 r)) c e in
     let e₂ = at-accepted (bad-byte-line 1 text) 2 (refused-at (open-line 0 10 text) 3 r) c e₁ in
     let e₃ = at-accepted (open-line 0 10 text) 3 r c e₂ in
-    let q = judged-ok (map fields (lines text)) 1 so-far c (record { few-vars = omega arith; few-locs = omega arith; few-edges = omega arith; vars = tt; names = tt; distinct = tt; edges = tt }) e₃ in
+    let q = judged-ok (map fields (lines text)) 1 nothing-read c (record { few-vars = omega arith; few-locs = omega arith; few-edges = omega arith; vars = tt; names = tt; distinct = tt; edges = tt }) e₃ in
     let h = q .0 in
     let n = length (c .locs) in
     and3 (leb (length (c .vars)) 8 && between 1 64 n && leb (length (c .edges)) 256 && all var-ok (c .vars) && all (λ l. name-ok (l .name)) (c .locs)) (distinct-names (c .locs)) (all (edge-ok c) (c .edges))

@@ -11,7 +11,7 @@ use native.Mathlib.Nat.{add-zero, zero-add}
 use lib.Dec.{T, ltb}
 use lib.ListN.{length}
 use Rattle.semantics.specs.Lists.{At, In, some-of, get, pick}
-use Rattle.semantics.specs.Algorithm.{verdict-of, Domain, Step, halt, fault, to, Mode, Sep, Order, Verdict, Open, Safe, Alarm, Full, Settings, Exploration, Out, on, alarmed, full, then, Taken, wait, take-by, put-back, joined, note-if, changed, wait-all, merged, rewait, keep-if, of-place, leq-joined, stopped, store-if, stop-if, arrive, error-if, visit, leave, finish, with-copy, with-taken, iteration, run, start, Join, iterate-if, start-with, first-verdict}
+use Rattle.semantics.specs.Algorithm.{verdict-of, Domain, Step, halt, fault, to, Mode, Sep, Order, Verdict, Open, Safe, Alarm, Full, Settings, Exploration, Out, on, alarmed, full, then, Taken, wait, take-by, put-back, joined, note-unless, changed, wait-all, merged, rewait, keep-if, of-place, leq-joined, stopped, store-if, stop-if, arrive, error-if, visit, leave, finish, with-copy, with-taken, iteration, run, start, Join, iterate-if, start-with, first-verdict}
 use Rattle.semantics.specs.Coverage.{System, Laws, Leads, Execution, Covered, Waits, Followed, allowed, Allowed, Covering}
 use Rattle.semantics.proofs.ListFacts.{from-true, from-false, some-at, at-append, at-last, at-snoc, at-map, at-unmap, at-get, at-one, in-left, in-last}
 use Rattle.semantics.proofs.Waitlist.{wait-keeps, wait-joins, back-joins, back-keeps, take-splits}
@@ -115,7 +115,7 @@ module _ {E G S : Type 0} (M : System G S) (D : Domain E G) (Fit : E → Type 0)
   slot-fine f x h true p = L .merge-error f x (from-true p) ∙ h
   slot-fine f x h false p = h
 
-  note-keeps : (b : Bool) (i j : ℕ) (r : List ℕ) → In j r → In j (note-if b i r)
+  note-keeps : (b : Bool) (i j : ℕ) (r : List ℕ) → In j r → In j (note-unless b i r)
   note-keeps true i j r h = h
   note-keeps false i j r h = inr h
 
@@ -123,7 +123,7 @@ module _ {E G S : Type 0} (M : System G S) (D : Domain E G) (Fit : E → Type 0)
   changed-in f i [] j x a h = absurd a
   changed-in f i (y ∷ ys) zero x a h = go (D .equal (joined D f y) y) (subst (λ (z : E). D .equal (joined D f z) z ≡ false) (sym a) h)
     where
-      go : (b : Bool) → b ≡ false → In (i + 0) (note-if b i (changed D f (suc i) ys))
+      go : (b : Bool) → b ≡ false → In (i + 0) (note-unless b i (changed D f (suc i) ys))
       go true e = absurd (from-false e tt)
       go false e = inl (add-zero i)
   changed-in f i (y ∷ ys) (suc j) x a h =

@@ -23,3 +23,4 @@ pub mod Program
 pub mod MarkedCases
 pub mod Simulate
 pub mod Verdicts
+pub mod Executions

@@ -11,7 +11,7 @@ use lib.IntN.{ℤ, pos, negsuc}
 use Rattle.semantics.specs.Lists.{all, is-empty}
 use Rattle.semantics.specs.Text.{decimal, decimalZ, between, name-byte, name-ok}
 use Rattle.semantics.specs.Chart.{Value, known, top, Var, Loc, Operand, num, var, Rel, eq, ne, lt, le, gt, ge, Op, assign, add, sub, input, assume, skip, Edge, Chart, within, small}
-use Rattle.semantics.specs.Reading.{accepted, rel-text, ended, so-far, read}
+use Rattle.semantics.specs.Reading.{accepted, rel-text, ended, nothing-read, read}
 use Rattle.semantics.specs.Encoding.{init-ok, var-ok, operand-ok, op-ok, edge-ok, chart-ok}
 use Rattle.semantics.specs.Rendering.{operand-text, init-text, kind-text, var-fields, loc-fields, op-fields, edge-fields, vars-fields, chart-fields, tabbed, text-of, render}
 use Rattle.semantics.specs.Coverage.{Every}
@@ -211,13 +211,13 @@ module _ (c : Chart) (b : Bounds c) where
         b .few-edges,
       )
 
-  steps : (ns : List (List ℕ)) × Steps so-far (chart-fields c) (record { names = ns; chart = c })
+  steps : (ns : List (List ℕ)) × Steps nothing-read (chart-fields c) (record { names = ns; chart = c })
   unfolding made
   steps =
       let v = vars-back 0 [] (c .vars) refl (omega (arith, b .few-vars)) (b .vars) in
       let l = locs-back (v .0) (c .vars) [] (c .locs) (omega (arith, b .few-locs)) (b .names) (b .distinct) in
       let e = edges-back (v .0) c [] (c .edges) (omega (arith, b .few-edges)) (b .edges) in
-      (v .0, steps-append (vars-fields 0 (c .vars)) (map loc-fields (c .locs) ++ map edge-fields (c .edges)) so-far _ _ (v .1) (steps-append (map loc-fields (c .locs)) (map edge-fields (c .edges)) _ _ _ l e))
+      (v .0, steps-append (vars-fields 0 (c .vars)) (map loc-fields (c .locs) ++ map edge-fields (c .edges)) nothing-read _ _ (v .1) (steps-append (map loc-fields (c .locs)) (map edge-fields (c .edges)) _ _ _ l e))
 
   some-loc : (ls : List Loc) → 1 ≤ length ls → is-empty ls ≡ false
   some-loc [] l = absurd (omega arith)
@@ -232,7 +232,7 @@ module _ (c : Chart) (b : Bounds c) where
   render-reads =
       let s = steps in
       read-text (chart-fields c) (every-plain (chart-fields c) lines-fine) render-short
-      ∙ steps-judged (chart-fields c) 1 so-far (record { names = s .0; chart = c }) (s .1)
+      ∙ steps-judged (chart-fields c) 1 nothing-read (record { names = s .0; chart = c }) (s .1)
       ∙ ap (λ (x : Bool). ended x c) (some-loc (c .locs) (b .some-loc))
 
 pub rendered : (c : Chart) → T (chart-ok c) → (read (render c) ≡ accepted c) × (length (render c) ≤ 32768)

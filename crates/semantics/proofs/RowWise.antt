@@ -9,7 +9,7 @@ use lib.Seq.{getD-take}
 use lib.IntN.{ℤ, pos}
 use Rattle.semantics.specs.Lists.{each, all}
 use Rattle.semantics.specs.Chart.{eqZ}
-use Rattle.semantics.specs.Encoding.{var-words, loc-words, edge-words, encode, var-in, byte-if, name-in, loc-in, edge-in, several, past, count, decode, begins-with}
+use Rattle.semantics.specs.Encoding.{var-words, loc-words, edge-words, encode, var-in, byte-unless, name-in, loc-in, edge-in, several, past, count, decode, begins-with}
 use Rattle.semantics.proofs.Encoded.{op-wide}
 use Rattle.semantics.proofs.Stored.{padded-length}
 
@@ -77,7 +77,7 @@ edge-local ws =
 name-local : (n : ℕ) (ws : List ℤ) → name-in n (take n ws) ≡ name-in n ws
 name-local zero ws = refl
 name-local (suc n) [] = refl
-name-local (suc n) (x ∷ xs) = ap (byte-if (eqZ x (pos 0)) x) (name-local n xs)
+name-local (suc n) (x ∷ xs) = ap (byte-unless (eqZ x (pos 0)) x) (name-local n xs)
 
 loc-local : (ws : List ℤ) → loc-in (take 17 ws) ≡ loc-in ws
 loc-local [] = refl
@@ -88,7 +88,7 @@ name-few zero ws = omega arith
 name-few (suc n) [] = omega arith
 name-few (suc n) (x ∷ xs) = go (eqZ x (pos 0)) (name-few n xs)
   where
-    go : (b : Bool) → length (name-in n xs) ≤ n → length (byte-if b x (name-in n xs)) ≤ suc n
+    go : (b : Bool) → length (name-in n xs) ≤ n → length (byte-unless b x (name-in n xs)) ≤ suc n
     go true h = omega arith
     go false h = omega arith
 

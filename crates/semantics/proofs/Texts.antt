@@ -10,7 +10,7 @@ use lib.Dec.{T, leb, ltb, eqb, leb→le, eqb→eq}
 use lib.ListN.{length}
 use Rattle.semantics.specs.Lists.{all, pick}
 use Rattle.semantics.specs.Text.{between, lines, fields}
-use Rattle.semantics.specs.Reading.{judged, so-far, byte-ok, bad-byte-line, open-line, read}
+use Rattle.semantics.specs.Reading.{judged, nothing-read, byte-ok, bad-byte-line, open-line, read}
 use Rattle.semantics.specs.Rendering.{tabbed, text-of}
 use Rattle.semantics.specs.Coverage.{Every}
 use Rattle.semantics.proofs.ListFacts.{from-true}
@@ -131,7 +131,7 @@ no-open-line ([] ∷ ls) h n = absurd (h .0)
 no-open-line ((f ∷ gs) ∷ ls) h n = ended-line (tabbed f gs) (text-of ls) (no-open-line ls (h .1)) n 10
 
 -- the text is judged by its lines' fields
-pub read-text : (ls : List (List (List ℕ))) → Every LineOk ls → length (text-of ls) ≤ 32768 → read (text-of ls) ≡ judged 1 so-far ls
+pub read-text : (ls : List (List (List ℕ))) → Every LineOk ls → length (text-of ls) ≤ 32768 → read (text-of ls) ≡ judged 1 nothing-read ls
 unfolding read
 read-text ls h l =
     let s : ltb 32768 (length (text-of ls)) ≡ false = to-false (ltb 32768 (length (text-of ls))) (λ t. let q = lib.Dec.ltb→lt 32768 (length (text-of ls)) t in omega arith) in

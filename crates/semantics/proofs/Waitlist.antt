@@ -7,21 +7,21 @@ use mathlib.Core.Option.{Option, none, some}
 use Prim.Native.Nat.{ℕ}
 use lib.Dec.{eqb, eqb→eq}
 use Rattle.semantics.specs.Lists.{In, some-of}
-use Rattle.semantics.specs.Algorithm.{Order, Old, New, wait, wait-if, drop-if, without, Taken, later, take-last, take-by, put-back}
+use Rattle.semantics.specs.Algorithm.{Order, Old, New, wait, wait-unless, drop-if, without, Taken, later, take-last, take-by, put-back}
 use Rattle.semantics.proofs.ListFacts.{from-true, none-some, some-at, at-in, in-left, in-last}
 
 -- a slot that is on the list stays on it
 pub wait-keeps : (k : ℕ) (w : List ℕ) (j : ℕ) → In j w → In j (wait k w)
 wait-keeps k w j h = go (some-of (eqb k) w)
   where
-    go : (b : Bool) → In j (wait-if b k w)
+    go : (b : Bool) → In j (wait-unless b k w)
     go true = h
     go false = in-left j w (k ∷ []) h
 
 pub wait-joins : (k : ℕ) (w : List ℕ) → In k (wait k w)
 wait-joins k w = go (some-of (eqb k) w) refl
   where
-    go : (b : Bool) → some-of (eqb k) w ≡ b → In k (wait-if b k w)
+    go : (b : Bool) → some-of (eqb k) w ≡ b → In k (wait-unless b k w)
     go true e =
         let r = some-at (eqb k) w (from-true e) in
         subst (λ (m : ℕ). In m w) (sym (eqb→eq k (r .1) (r .3))) (at-in w (r .0) (r .1) (r .2))
@@ -80,3 +80,12 @@ take-splits Old (x ∷ xs) t j e h = subst Split e h
     Split none = Unit
     Split (some u) = (j ≡ u .slot) ⊎ In j (u .rest)
 take-splits New w t j e h = last-splits w t j e h
+
+take-last-snoc : (w : List ℕ) (k : ℕ) → take-last (w ++ (k ∷ [])) ≡ some (record { slot = k; rest = w })
+take-last-snoc [] k = refl
+take-last-snoc (x ∷ xs) k = rw (take-last-snoc xs k)
+
+-- "the taken slot goes back (or is moved) to the place taken next": it is taken next, and is on the list once
+pub back-next : (o : Order) (k : ℕ) (w : List ℕ) → take-by o (put-back o k w) ≡ some (record { slot = k; rest = without k w })
+back-next Old k w = refl
+back-next New k w = take-last-snoc (without k w) k

@@ -53,12 +53,12 @@ pub record Exploration (E : Type 0) : Type 0 where
 -- ---- the waitlist
 
 -- "a changed slot waits again, at the last-joined end, or keeps its place if already waiting"
-abbrev pub wait-if : Bool → ℕ → List ℕ → List ℕ
-wait-if true k w = w
-wait-if false k w = w ++ (k ∷ [])
+abbrev pub wait-unless : Bool → ℕ → List ℕ → List ℕ
+wait-unless true k w = w
+wait-unless false k w = w ++ (k ∷ [])
 
 abbrev pub wait : ℕ → List ℕ → List ℕ
-wait k w = wait-if (some-of (eqb k) w) k w
+wait k w = wait-unless (some-of (eqb k) w) k w
 
 abbrev pub wait-all : List ℕ → List ℕ → List ℕ
 wait-all [] w = w
@@ -121,9 +121,9 @@ abbrev pub first-verdict : Bool → Verdict
 first-verdict true = Alarm
 first-verdict false = Open
 
-abbrev pub note-if : Bool → ℕ → List ℕ → List ℕ
-note-if true i r = r
-note-if false i r = i ∷ r
+abbrev pub note-unless : Bool → ℕ → List ℕ → List ℕ
+note-unless true i r = r
+note-unless false i r = i ∷ r
 
 module _ {E G : Type 0} (D : Domain E G) where
   -- step 2. `join` "changes only a slot of the same location, to the join"
@@ -133,7 +133,7 @@ module _ {E G : Type 0} (D : Domain E G) where
   -- the slots, counted from i, that it changes
   abbrev pub changed : E → ℕ → List E → List ℕ
   changed e i [] = []
-  changed e i (x ∷ xs) = note-if (D .equal (joined e x) x) i (changed e (suc i) xs)
+  changed e i (x ∷ xs) = note-unless (D .equal (joined e x) x) i (changed e (suc i) xs)
 
   -- "`sep` never changes a slot"
   abbrev pub merged : Mode → E → List E → List E
@@ -240,6 +240,6 @@ module _ {E G : Type 0} (D : Domain E G) where
   abbrev pub start-with : Verdict → Settings → ℕ → E → Exploration E
   start-with v s r e = record { settings = s; capacity = r; iterations = 0; reached = e ∷ []; waitlist = 0 ∷ []; verdict = v; edge = 0 }
 
-  -- "Starting puts the initial entry in slot 0, waiting"
+  -- "Starting puts the initial entry ... in slot 0, waiting"
   unfoldable pub start : Settings → ℕ → E → Exploration E
   start s r e = start-with (first-verdict (D .error e)) s r e

@@ -91,7 +91,7 @@ holds le a b = leZ a b
 holds gt a b = ltZ b a
 holds ge a b = leZ b a
 
--- the number lies in the range of variable k
+-- the number lies in the range of variable k; a variable that the chart has not bounds nothing
 abbrev pub in-range : List Var → ℕ → ℤ → Bool
 in-range [] k z = true
 in-range (v ∷ vs) zero z = within (v .lo) (v .hi) z

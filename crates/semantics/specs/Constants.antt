@@ -16,7 +16,7 @@ pub record AbstractState : Type 0 where
   pub loc : ℕ
   pub vals : List Value
 
--- "It covers a state with the same location and equal values where the entry has one"
+-- "It covers a state with the same location and equal values where the entry has one"; a state's values are in range
 pub record Covers (c : Chart) (e : AbstractState) (s : State) : Type 0 where
   pub loc : e .loc ≡ s .loc
   pub vals : Matches (e .vals) (s .vals)
@@ -45,7 +45,7 @@ value-or-top false v = top
 abbrev pub join-value : Value → Value → Value
 join-value a b = value-or-top (equal-value a b) b
 
--- of two lists of different length, the second: no case of one chart's states
+-- as long as the second list; lists of different length are no case of one chart's states
 abbrev pub join-values : List Value → List Value → List Value
 join-values [] ys = ys
 join-values (x ∷ xs) [] = []

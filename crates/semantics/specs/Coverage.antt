@@ -1,9 +1,9 @@
 -- Executions, what a domain owes, and what the algorithm then gives: executions covered, and an analysis in form. Document 01,
--- "Runs" and "Whole walks". Assumes nothing.
+-- "Runs"; what covered means is the trainer's third demand (docs/DECISIONS.md). Assumes nothing.
 use mathlib.Core.Path.{_≡_}
 use mathlib.Core.Logic.{_⊎_}
 use mathlib.Core.Bool.{Bool, true, false}
-use mathlib.Core.List.{List, [], _∷_}
+use mathlib.Core.List.{List, [], _∷_, _++_}
 use Prim.Native.Nat.{ℕ, _≤_, _<_}
 use lib.Dec.{T}
 use lib.ListN.{length}
@@ -73,7 +73,7 @@ abbrev pub Every : {A : Type 0} → (A → Type 0) → List A → Type 0
 Every P [] = Unit
 Every P (x ∷ xs) = P x × Every P xs
 
--- what form rule 21 asks, over any domain: P of every abstract state, no edge above the last
+-- the part of form rule 21 that an analysis keeps over any domain: P of every abstract state, no edge above the last
 pub record Tidy {E : Type 0} (P : E → Type 0) (last : ℕ) (w : Exploration E) : Type 0 where
   pub within : length (w .reached) ≤ w .capacity
   pub queue : Queue (length (w .reached)) (w .waitlist)
@@ -90,12 +90,23 @@ module _ {E G : Type 0} (D : Domain E G) where
   abbrev pub Raises : G → E → Type 0
   Raises g e = (D .post g e ≡ fault) ⊎ ((f : E) × (D .post g e ≡ to f) × T (D .error f))
 
-  -- an alarm names an edge that raises it; a full table is met by an edge that raises none, so it hides no alarm; and where the
-  -- iteration goes on, no edge raises one
+  abbrev pub Quiet : E → List G → Type 0
+  Quiet e gs = (g : G) → In g gs → Raises g e → ⊥
+
+  -- the edge at which the iteration breaks off: no edge before it raises an alarm
+  pub record Breaks (e : E) (gs : List G) : Type 0 where
+    pub before : List G
+    pub edge : G
+    pub after : List G
+    pub parts : gs ≡ before ++ (edge ∷ after)
+    pub quiet : Quiet e before
+
+  -- an alarm comes of the first edge that raises one, which it names; a full table is met by a successor that raises none, before
+  -- any edge does, so it hides no alarm; and where the iteration goes on, no edge raises one
   abbrev pub Caused : ℕ → E → List G → Out E → Type 0
-  Caused r e gs (on en wa) = (g : G) → In g gs → Raises g e → ⊥
-  Caused r e gs (alarmed n en wa) = (g : G) × In g gs × (D .number g ≡ n) × Raises g e
-  Caused r e gs (full en wa) = (g : G) × In g gs × (Raises g e → ⊥) × (r ≤ length en)
+  Caused r e gs (on en wa) = Quiet e gs
+  Caused r e gs (alarmed n en wa) = (b : Breaks e gs) × (D .number (b .edge) ≡ n) × Raises (b .edge) e
+  Caused r e gs (full en wa) = (b : Breaks e gs) × (f : E) × (D .post (b .edge) e ≡ to f) × (D .error f ≡ false) × (r ≤ length en)
 
 -- ---- what a domain owes to cover the system: `Covers e s`, and the form `Fit` that its states keep
 

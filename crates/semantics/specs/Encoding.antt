@@ -32,11 +32,11 @@ padded n ws = ws ++ replicate (n - length ws) (pos 0)
 abbrev pub var-words : Var → List ℤ
 var-words v = v .lo ∷ v .hi ∷ word (v .init) ∷ []
 
--- the kind, and the name's 16 bytes, 0 after its end
 abbrev pub kind-word : Bool → ℤ
 kind-word true = pos 1
 kind-word false = pos 0
 
+-- the kind, and the name's 16 bytes, 0 after its end
 abbrev pub loc-words : Loc → List ℤ
 loc-words l = kind-word (l .error) ∷ padded 16 (map pos (l .name))
 
@@ -76,14 +76,14 @@ encode c = pos (length (c .vars)) ∷ pos (length (c .locs)) ∷ pos (length (c 
 abbrev pub var-in : List ℤ → Var
 var-in ws = record { lo = getD ws 0 (pos 0); hi = getD ws 1 (pos 0); init = val (getD ws 2 (pos 0)) }
 
-abbrev pub byte-if : Bool → ℤ → List ℕ → List ℕ
-byte-if true x bs = []
-byte-if false x bs = natAbs x ∷ bs
+abbrev pub byte-unless : Bool → ℤ → List ℕ → List ℕ
+byte-unless true x bs = []
+byte-unless false x bs = natAbs x ∷ bs
 
 abbrev pub name-in : ℕ → List ℤ → List ℕ
 name-in zero ws = []
 name-in (suc n) [] = []
-name-in (suc n) (x ∷ xs) = byte-if (eqZ x (pos 0)) x (name-in n xs)
+name-in (suc n) (x ∷ xs) = byte-unless (eqZ x (pos 0)) x (name-in n xs)
 
 abbrev pub loc-in : List ℤ → Loc
 loc-in ws = record { name = name-in 16 (drop 1 ws); error = eqZ (getD ws 0 (pos 0)) (pos 1) }

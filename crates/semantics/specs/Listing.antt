@@ -40,7 +40,7 @@ abbrev pub mark : Bool → List ℕ
 mark true = bytes "w"
 mark false = bytes "-"
 
--- "slot, location name, values, `w` if waiting else `-`"
+-- "Slot lines: slot, location name, values ..., `w` if waiting else `-`"
 abbrev pub slot-text : Chart → List ℕ → ℕ → AbstractState → List ℕ
 slot-text c wa s e = line-of (decimal s) (loc-text (c .locs) (e .loc) ∷ (map val-text (e .vals) ++ (mark (some-of (eqb s) wa) ∷ [])))
 
@@ -48,7 +48,7 @@ abbrev pub slots-text : Chart → List ℕ → ℕ → List AbstractState → Li
 slots-text c wa s [] = []
 slots-text c wa s (e ∷ es) = slot-text c wa s e ++ slots-text c wa (suc s) es
 
--- "Header: merge, stop, order, verdict, rounds, used slots, alarm edge or 0", after the word `walk`; then the slot lines
+-- "Header: merge, stop, order, verdict ..., rounds, used slots, alarm edge or 0", after the word `walk`; then the slot lines
 unfoldable pub listing-text : Chart → Exploration AbstractState → List ℕ
 listing-text c w =
     line-of (bytes "walk") (

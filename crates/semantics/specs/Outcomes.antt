@@ -89,13 +89,13 @@ pub record ReadOutcome : Type 0 where
   pub answer : Answer
   pub words : List ℤ
 
-abbrev pub held-if : Bool → Chart → List ℤ → ReadOutcome
-held-if true c ws = record { answer = refused-by 14 0; words = ws }
-held-if false c ws = record { answer = fine 0; words = encode c ++ drop (length (encode c)) ws }
+abbrev pub held-unless : Bool → Chart → List ℤ → ReadOutcome
+held-unless true c ws = record { answer = refused-by 14 0; words = ws }
+held-unless false c ws = record { answer = fine 0; words = encode c ++ drop (length (encode c)) ws }
 
 abbrev pub held-by : Reading → List ℤ → ReadOutcome
 held-by (refused n l) ws = record { answer = refused-by n l; words = ws }
-held-by (accepted c) ws = held-if (ltb (length ws) (length (encode c))) c ws
+held-by (accepted c) ws = held-unless (ltb (length ws) (length (encode c))) c ws
 
 -- the file's own refusals, "then 14"
 unfoldable pub read-outcome : List ℕ → List ℤ → ReadOutcome

@@ -9,7 +9,7 @@ use lib.ListN.{length, getD}
 use lib.IntN.{ℤ, pos, negsuc}
 use lib.Signed.{leZ}
 use Rattle.semantics.specs.Lists.{pick, is-empty, all}
-use Rattle.semantics.specs.Text.{bytes, between, same-bytes, lines, fields, name-ok, natural-of, positive, number-of}
+use Rattle.semantics.specs.Text.{bytes, between, same-bytes, lines, fields, name-ok, natural-of, nonnegative, number-of}
 use Rattle.semantics.specs.Chart.{Value, known, top, Var, Loc, Operand, num, var, Rel, eq, ne, lt, le, gt, ge, Op, assign, add, sub, input, assume, skip, Edge, Chart, within, small, in-range}
 
 -- ---- a refusal's number, or a value
@@ -50,7 +50,7 @@ location-field n f = below-or n (number-of f)
 -- one of n variables: "`$` must be followed by a number without `-`, else 6"
 unfoldable pub target-field : ℕ → List ℕ → Res ℕ
 target-field n [] = fail 6
-target-field n (b ∷ bs) = check (eqb b 36) 6 (below-or n (positive (natural-of bs)))
+target-field n (b ∷ bs) = check (eqb b 36) 6 (below-or n (nonnegative (natural-of bs)))
 
 -- "An operand is a number or `$k`"
 unfoldable pub operand-field : ℕ → List ℕ → Res Operand
@@ -215,8 +215,8 @@ unfoldable pub judged : ℕ → So-far → List (List (List ℕ)) → Reading
 judged n s [] = ended (is-empty (s .chart .locs)) (s .chart)
 judged n s (l ∷ ls) = onward n (judge s l) (λ t. judged (suc n) t ls)
 
-abbrev pub so-far : So-far
-so-far = record { names = []; chart = record { vars = []; locs = []; edges = [] } }
+abbrev pub nothing-read : So-far
+nothing-read = record { names = []; chart = record { vars = []; locs = []; edges = [] } }
 
 -- "tab, LF, 0x21..0x7E"
 abbrev pub byte-ok : ℕ → Bool
@@ -245,4 +245,4 @@ read text =
     refused-if (ltb 32768 (length text)) 1
     (refused-at (bad-byte-line 1 text) 2
     (refused-at (open-line 0 10 text) 3
-    (judged 1 so-far (map fields (lines text)))))
+    (judged 1 nothing-read (map fields (lines text)))))

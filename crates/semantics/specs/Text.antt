@@ -8,7 +8,7 @@ use Prim.Native.Nat.{ℕ, zero, suc, _+_, _-_, _*_, _/_, _%_}
 use lib.Dec.{leb, ltb, eqb}
 use lib.ListN.{length}
 use lib.IntN.{ℤ, pos, negsuc}
-use Rattle.semantics.specs.Lists.{pick, is-empty, all}
+use Rattle.semantics.specs.Lists.{pick, is-empty, all, all-pairs}
 
 -- the bytes of a text in ASCII
 abbrev pub bytes : String → List ℕ
@@ -20,10 +20,7 @@ abbrev pub between : ℕ → ℕ → ℕ → Bool
 between a b n = leb a n && leb n b
 
 abbrev pub same-bytes : List ℕ → List ℕ → Bool
-same-bytes [] [] = true
-same-bytes [] (y ∷ ys) = false
-same-bytes (x ∷ xs) [] = false
-same-bytes (x ∷ xs) (y ∷ ys) = eqb x y && same-bytes xs ys
+same-bytes xs ys = all-pairs eqb xs ys
 
 -- ---- lines and fields: "fields parted by one tab, each line ended by LF"
 
@@ -65,9 +62,9 @@ unfoldable pub natural-of : List ℕ → Option ℕ
 natural-of [] = none
 natural-of (b ∷ bs) = pick (eqb b 48) (pick (is-empty bs) (some 0) none) (digits 0 (b ∷ bs))
 
-abbrev pub positive : Option ℕ → Option ℤ
-positive none = none
-positive (some n) = some (pos n)
+abbrev pub nonnegative : Option ℕ → Option ℤ
+nonnegative none = none
+nonnegative (some n) = some (pos n)
 
 abbrev pub negative : Option ℕ → Option ℤ
 negative none = none
@@ -76,7 +73,7 @@ negative (some (suc n)) = some (negsuc n)
 
 unfoldable pub number-of : List ℕ → Option ℤ
 number-of [] = none
-number-of (b ∷ bs) = pick (eqb b 45) (negative (natural-of bs)) (positive (natural-of (b ∷ bs)))
+number-of (b ∷ bs) = pick (eqb b 45) (negative (natural-of bs)) (nonnegative (natural-of (b ∷ bs)))
 
 -- the decimal digits of n, put in front of the bytes given; the first number bounds the steps, and n is enough
 unfoldable pub digits-of : ℕ → ℕ → List ℕ → List ℕ

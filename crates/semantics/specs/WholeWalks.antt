@@ -199,6 +199,6 @@ pub record WholeWalk (text : List ℕ) (c : Chart) (m : Memory) (ks : List LentC
   -- every state of every execution is covered, or it or an earlier one by a slot still waiting; safe: none stands at an error location
   pub covering : Covering (system c) (Covers c) (load c (played c m ks .memory))
 
--- for each accepted file, and each list of calls, refused ones included, whose first is a start that goes through
+-- for each accepted file (reading answers 0 exactly where it accepts), and each list of calls, refused ones included, whose first is a start that goes through
 abbrev pub WholeWalks : Type 0
 WholeWalks = (text : List ℕ) (c : Chart) → read text ≡ accepted c → (m : Memory) (ks : List LentCall) → HandedOn c m ks → T (started-first c (map call-of ks)) → WholeWalk text c m ks
