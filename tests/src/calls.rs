@@ -1,0 +1,243 @@
+//! The calls on lent words. Each judges its own case first, in the stated
+//! order, and a refused one changes nothing.
+
+use crate::analysis::{
+    check_budget, check_settings, Analysis, Reached, Settings, Verdict, Waitlist, MAX_ITERATIONS,
+};
+use crate::chart::{Chart, EdgeId, SlotId};
+use crate::domain::TOP;
+use crate::encoding::{decode, encode};
+use crate::listing;
+use crate::reader;
+use crate::refusal::{Reason, Refusal};
+use crate::renderer::render;
+
+/// 0 and line 0 from a call that goes through, else the refusal's number and line.
+#[derive(Clone, Copy, Debug, PartialEq, Eq)]
+pub struct Answer {
+    pub number: u32,
+    pub line: u32,
+}
+
+/// What goes with an analysis from call to call, beside the table and the waitlist.
+#[derive(Clone, Copy, Debug, PartialEq, Eq)]
+pub struct Record {
+    pub settings: Settings,
+    pub capacity: u32,
+    pub iterations: u32,
+    /// Slots in use.
+    pub used: u32,
+    /// Slots on the waitlist.
+    pub waiting: u32,
+    pub verdict: Verdict,
+    /// The edge that raised the alarm, or 0.
+    pub edge: u32,
+}
+
+/// Fills `words` with the encoding of the chart that `file` reads to.
+pub fn read(file: &[u8], words: &mut [i32]) -> Answer {
+    Answer::from(reader::read(file).and_then(|chart| {
+        let encoded = encode(&chart);
+        words.get_mut(..encoded.len()).ok_or(Reason::TooFewWords)?.copy_from_slice(&encoded);
+        Ok(())
+    }))
+}
+
+/// Begins an analysis anew, whatever the lent words and the record hold.
+pub fn start(
+    chart: &[i32],
+    settings: Settings,
+    capacity: i32,
+    table: &mut [i32],
+    waitlist: &mut [i32],
+    record: &mut Record,
+) -> Answer {
+    let begun = (|| {
+        check_settings(settings, i64::from(capacity))?;
+        let chart = held_chart(chart)?;
+        check_words(&chart, capacity as u32, table, waitlist)?;
+        Ok(Analysis::start(&chart, settings, capacity as usize))
+    })();
+    Answer::from(begun.map(|analysis| store(&analysis, table, waitlist, record)))
+}
+
+/// Iterates until a verdict or the end of the budget.
+pub fn run(
+    chart: &[i32],
+    budget: i32,
+    table: &mut [i32],
+    waitlist: &mut [i32],
+    record: &mut Record,
+) -> Answer {
+    let advanced = (|| {
+        check_budget(i64::from(budget))?;
+        let chart = held_chart(chart)?;
+        let mut analysis = held_analysis(&chart, table, waitlist, record)?;
+        if record.verdict != Verdict::Open {
+            return Err(Reason::Finished.into());
+        }
+        if record.iterations == MAX_ITERATIONS {
+            return Err(Reason::IterationLimit.into());
+        }
+        analysis.run(&chart, budget as u32);
+        Ok(analysis)
+    })();
+    Answer::from(advanced.map(|analysis| store(&analysis, table, waitlist, record)))
+}
+
+/// Writes the listing to the beginning of `space`; answers also its length, 0 when refused.
+pub fn listing(
+    chart: &[i32],
+    table: &[i32],
+    waitlist: &[i32],
+    record: &Record,
+    space: &mut [u8],
+) -> (Answer, usize) {
+    let written = (|| {
+        let chart = held_chart(chart)?;
+        let analysis = held_analysis(&chart, table, waitlist, record)?;
+        let text = listing::listing(&chart, &analysis);
+        space.get_mut(..text.len()).ok_or(Reason::ListingSpace)?.copy_from_slice(&text);
+        Ok(text.len())
+    })();
+    (Answer::from(written.map(|_| ())), written.unwrap_or(0))
+}
+
+/// The chart whose encoding begins `words`: 20 unless some file reads to it.
+/// The words are read back through a file, so this accepts what reading can produce.
+fn held_chart(words: &[i32]) -> Result<Chart, Reason> {
+    decode(words)
+        .and_then(|chart| reader::read(&render(&chart)).ok())
+        .filter(|chart| words.starts_with(&encode(chart)))
+        .ok_or(Reason::ChartForm)
+}
+
+/// The analysis in the lent words: 14, then 21.
+fn held_analysis(
+    chart: &Chart,
+    table: &[i32],
+    waitlist: &[i32],
+    record: &Record,
+) -> Result<Analysis, Reason> {
+    check_words(chart, record.capacity, table, waitlist)?;
+    if !is_in_form(chart, table, waitlist, record) {
+        return Err(Reason::AnalysisForm);
+    }
+    Ok(load(chart, table, waitlist, record))
+}
+
+/// 14, by a capacity that may be of any size.
+fn check_words(
+    chart: &Chart,
+    capacity: u32,
+    table: &[i32],
+    waitlist: &[i32],
+) -> Result<(), Reason> {
+    let capacity = u64::from(capacity);
+    if (table.len() as u64) < capacity * chart.width() as u64 || (waitlist.len() as u64) < capacity
+    {
+        return Err(Reason::TooFewWords);
+    }
+    Ok(())
+}
+
+/// Whether no clause of 21 applies, once the words lent are enough for the capacity.
+fn is_in_form(chart: &Chart, table: &[i32], waitlist: &[i32], record: &Record) -> bool {
+    let Record { settings, capacity, used, waiting, .. } = *record;
+    if check_settings(settings, i64::from(capacity)).is_err() || used > capacity || waiting > used {
+        return false;
+    }
+    let width = chart.width();
+    let (used, waiting, capacity) = (used as usize, waiting as usize, capacity as usize);
+    let (rows, unused_rows) = table[..capacity * width].split_at(used * width);
+    let (slots, unused_slots) = waitlist[..capacity].split_at(waiting);
+
+    rows.chunks_exact(width).all(|row| is_of_chart(chart, row))
+        && are_distinct_and_used(slots, used)
+        && unused_rows.iter().chain(unused_slots).all(|&word| word == 0)
+        && record.iterations <= MAX_ITERATIONS
+        && record.edge as usize <= chart.edges.len()
+        && (record.edge == 0 || record.verdict == Verdict::Alarm)
+        && (record.verdict == Verdict::Safe) == (waiting == 0)
+}
+
+fn is_of_chart(chart: &Chart, row: &[i32]) -> bool {
+    (0..chart.locations.len() as i32).contains(&row[0])
+        && chart
+            .variables
+            .iter()
+            .zip(&row[1..])
+            .all(|(variable, &value)| value == TOP || variable.contains(value))
+}
+
+fn are_distinct_and_used(slots: &[i32], used: usize) -> bool {
+    let mut is_named = vec![false; used];
+    slots.iter().all(|&slot| {
+        usize::try_from(slot)
+            .ok()
+            .and_then(|slot| is_named.get_mut(slot))
+            .is_some_and(|is_named| !std::mem::replace(is_named, true))
+    })
+}
+
+/// The analysis that lent words in form stand for.
+fn load(chart: &Chart, table: &[i32], waitlist: &[i32], record: &Record) -> Analysis {
+    let mut reached = Reached::new(chart.width());
+    for row in table.chunks_exact(chart.width()).take(record.used as usize) {
+        reached.push(row);
+    }
+    let mut waiting = Waitlist::new(record.capacity as usize);
+    for &slot in &waitlist[..record.waiting as usize] {
+        waiting.add(SlotId(slot as usize));
+    }
+    Analysis {
+        settings: record.settings,
+        capacity: record.capacity as usize,
+        iterations: record.iterations,
+        verdict: record.verdict,
+        edge: Some(EdgeId(record.edge as usize)).filter(|edge| edge.0 > 0),
+        reached,
+        waitlist: waiting,
+    }
+}
+
+/// Writes all words of the capacity, unused ones 0, and none past it.
+fn store(analysis: &Analysis, table: &mut [i32], waitlist: &mut [i32], record: &mut Record) {
+    let capacity = analysis.capacity;
+    let reached = &analysis.reached;
+    let (rows, unused_rows) =
+        table[..capacity * reached.width()].split_at_mut(reached.words().len());
+    rows.copy_from_slice(reached.words());
+    unused_rows.fill(0);
+    let (slots, unused_slots) = waitlist[..capacity].split_at_mut(analysis.waitlist.len());
+    for (word, slot) in slots.iter_mut().zip(analysis.waitlist.slots()) {
+        *word = slot.0 as i32;
+    }
+    unused_slots.fill(0);
+    *record = Record {
+        settings: analysis.settings,
+        capacity: capacity as u32,
+        iterations: analysis.iterations,
+        used: reached.len() as u32,
+        waiting: analysis.waitlist.len() as u32,
+        verdict: analysis.verdict,
+        edge: analysis.edge.map_or(0, |edge| edge.0 as u32),
+    };
+}
+
+impl Answer {
+    pub const DONE: Answer = Answer { number: 0, line: 0 };
+
+    pub fn refused(number: u32, line: u32) -> Self {
+        Answer { number, line }
+    }
+}
+
+impl From<Result<(), Refusal>> for Answer {
+    fn from(result: Result<(), Refusal>) -> Self {
+        match result {
+            Ok(()) => Answer::DONE,
+            Err(refusal) => Answer::refused(refusal.reason as u32, refusal.line),
+        }
+    }
+}

@@ -1,0 +1,22 @@
+//! The reference walker: a reachability analyser for flow charts, written a
+//! second time from document 01 alone, so that the verified program can be
+//! compared with it.
+//!
+//! `program::respond` is the whole walk program, `calls` has the calls on lent
+//! words, `random` makes charts, inputs and calls to compare on, and `explorer`
+//! checks the answers against the concrete states of small charts.
+
+pub mod analysis;
+pub mod calls;
+pub mod chart;
+pub mod domain;
+pub mod encoding;
+pub mod explorer;
+pub mod listing;
+pub mod memory;
+pub mod program;
+pub mod random;
+pub mod reader;
+pub mod refusal;
+pub mod renderer;
+pub mod text;

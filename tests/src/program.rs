@@ -1,0 +1,82 @@
+//! The walk program: one go line and one chart in, one listing or refusal out.
+
+use crate::analysis::{
+    check_budget, check_settings, Analysis, Merge, Order, Settings, Stop, Verdict,
+};
+use crate::listing::{listing, refusal_line};
+use crate::reader;
+use crate::refusal::{Reason, Refusal};
+use crate::text;
+
+/// The go line's end must be among so many bytes.
+const MAX_GO_LINE: usize = 64;
+
+#[derive(Clone, Copy, Debug, PartialEq, Eq)]
+pub struct GoLine {
+    pub settings: Settings,
+    pub capacity: usize,
+    pub budget: u32,
+}
+
+pub fn respond(input: &[u8]) -> Vec<u8> {
+    walk(input).unwrap_or_else(refusal_line)
+}
+
+fn walk(input: &[u8]) -> Result<Vec<u8>, Refusal> {
+    let (go, file) = read_go_line(input)?;
+    let chart = reader::read(file)?;
+    let mut analysis = Analysis::start(&chart, go.settings, go.capacity);
+    if analysis.verdict != Verdict::Alarm {
+        analysis.run(&chart, go.budget);
+    }
+    Ok(listing(&chart, &analysis))
+}
+
+/// The go line and the chart file after it; every refusal is on line 0.
+fn read_go_line(input: &[u8]) -> Result<(GoLine, &[u8]), Reason> {
+    let head = &input[..input.len().min(MAX_GO_LINE)];
+    let end = head.iter().position(|&byte| byte == text::LINE_FEED);
+    if end.is_none() && input.len() > MAX_GO_LINE {
+        return Err(Reason::TooLong);
+    }
+    let line = &head[..end.unwrap_or(head.len())];
+    if !line.iter().all(|&byte| text::is_allowed(byte)) {
+        return Err(Reason::BadByte);
+    }
+    let end = end.ok_or(Reason::MissingLineEnd)?;
+    Ok((read_go_fields(line)?, &input[end + 1..]))
+}
+
+fn read_go_fields(line: &[u8]) -> Result<GoLine, Reason> {
+    let fields: Vec<&[u8]> = text::fields(line).collect();
+    let [go, merge, stop, order, capacity, budget] = fields[..] else {
+        return Err(Reason::FieldCount);
+    };
+    if fields.iter().any(|field| field.is_empty()) {
+        return Err(Reason::FieldCount);
+    }
+
+    if go != b"go" {
+        return Err(Reason::Malformed);
+    }
+    let settings = Settings {
+        merge: find_word(Merge::ALL, Merge::word, merge)?,
+        stop: find_word(Stop::ALL, Stop::word, stop)?,
+        order: find_word(Order::ALL, Order::word, order)?,
+    };
+    // Numbers in form only; their size is judged by 11 and 13.
+    let capacity = text::number(capacity).ok_or(Reason::Malformed)?;
+    let budget = text::number(budget).ok_or(Reason::Malformed)?;
+
+    check_settings(settings, capacity)?;
+    check_budget(budget)?;
+    Ok(GoLine { settings, capacity: capacity as usize, budget: budget as u32 })
+}
+
+fn find_word<T: Copy, const N: usize>(
+    all: [T; N],
+    word: fn(T) -> &'static str,
+    field: &[u8],
+) -> Result<T, Reason> {
+    all.into_iter().find(|&each| word(each).as_bytes() == field).ok_or(Reason::Malformed)
+}

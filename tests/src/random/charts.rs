@@ -1,0 +1,230 @@
+//! Random charts that reading accepts.
+
+use super::Random;
+use crate::chart::{
+    Chart, Edge, Location, LocationId, Name, Operand, Operation, Relation, Variable, MAX_EDGES,
+    MAX_LOCATIONS, MAX_VARIABLES, NUMBERS,
+};
+
+/// Bounds on a random chart.
+#[derive(Clone, Copy, Debug)]
+pub struct Shape {
+    pub variables: usize,
+    pub locations: usize,
+    pub edges: usize,
+    /// The most values in a variable's range.
+    pub span: i32,
+}
+
+/// Few enough states to go through all of them.
+pub const SMALL: Shape = Shape { variables: 3, locations: 6, edges: 14, span: 5 };
+
+/// Up to what a file may hold; long counts fill even the largest table.
+pub const LARGE: Shape =
+    Shape { variables: MAX_VARIABLES, locations: MAX_LOCATIONS, edges: MAX_EDGES, span: 65_536 };
+
+/// Few locations with long counts, for full tables and many joins.
+pub const DEEP: Shape = Shape { variables: 4, locations: 4, edges: 12, span: 400 };
+
+pub fn chart(random: &mut Random, shape: Shape) -> Chart {
+    let count = up_to(random, shape.variables);
+    let variables: Vec<Variable> = (0..count).map(|index| variable(random, shape, index)).collect();
+    let locations = locations(random, shape);
+    let edges = edges(random, shape, &variables, &locations);
+    Chart { variables, locations, edges }
+}
+
+/// From 0 to `most`, the upper half and `most` itself more often.
+fn up_to(random: &mut Random, most: usize) -> usize {
+    match random.below(8) {
+        0 | 1 => random.below(most + 1),
+        2 | 3 => most,
+        _ => most - random.below(most / 2 + 1),
+    }
+}
+
+fn variable(random: &mut Random, shape: Shape, index: usize) -> Variable {
+    let (lowest, highest) = (*NUMBERS.start(), *NUMBERS.end());
+    let reach = match random.below(8) {
+        0 => 0,
+        1 => shape.span - 1,
+        2..=5 => random.between(1, 4.min(shape.span - 1)),
+        _ => random.below(shape.span as usize) as i32,
+    };
+    let low = match random.below(8) {
+        0 => lowest,
+        1 => highest - reach,
+        2 => -1,
+        3 => -reach,
+        4 => random.between(-20, 20),
+        _ => 0,
+    };
+    // A wide range does not fit everywhere; move it back into the numbers.
+    let low = low.clamp(lowest, highest - reach);
+    let high = low + reach;
+    let init = match random.below(10) {
+        0..=2 => None,
+        3..=5 => Some(low),
+        6 => Some(high),
+        _ => Some(random.between(low, high)),
+    };
+    Variable { name: name(random, index), low, high, init }
+}
+
+fn locations(random: &mut Random, shape: Shape) -> Vec<Location> {
+    let count = up_to(random, shape.locations).max(1);
+    // Many error locations alarm early, none lets tables fill and ends safe.
+    let errors = random.pick(&[0, 0, 5, 10, 25]);
+    (0..count)
+        .map(|index| {
+            let percent = if index == 0 { errors / 4 } else { errors };
+            Location { name: name(random, index), is_error: random.percent(percent) }
+        })
+        .collect()
+}
+
+/// Of every length and sort of byte; the index before a first hyphen or after
+/// a last one, by which names are apart.
+fn name(random: &mut Random, index: usize) -> Name {
+    const BYTES: &[u8] = b"ABCXYZabcxyz0123456789-";
+    let length = random.pick(&[1, 2, 4, 8, 15, 16]);
+    let mut bytes = Vec::new();
+    match random.below(3) {
+        0 => bytes.extend(format!("{index}").bytes()),
+        1 => {
+            bytes.extend(format!("{index}-").bytes());
+            while bytes.len() < length {
+                bytes.push(random.pick(BYTES));
+            }
+        }
+        _ => {
+            let ending = format!("-{index}");
+            bytes.push(random.pick(b"AZaz"));
+            while bytes.len() + ending.len() < length {
+                bytes.push(random.pick(BYTES));
+            }
+            bytes.extend(ending.bytes());
+        }
+    }
+    Name::new(&bytes).expect("at most 16 bytes")
+}
+
+fn edges(
+    random: &mut Random,
+    shape: Shape,
+    variables: &[Variable],
+    locations: &[Location],
+) -> Vec<Edge> {
+    let wanted = up_to(random, shape.edges);
+    let mut edges = Vec::with_capacity(wanted);
+    // First edges that lead to each location from an earlier one, so that most are reached.
+    for to in (1..locations.len()).take(wanted) {
+        let from = random.below(to);
+        let operation = match locations[to].is_error {
+            true => condition(random, variables),
+            false => passing(random, variables),
+        };
+        edges.push(Edge { from: LocationId(from), to: LocationId(to), operation });
+    }
+    while edges.len() < wanted {
+        let from = random.below(locations.len());
+        let to = if random.percent(30) { from } else { random.below(locations.len()) };
+        // Conditions keep an error location from ending most analyses at once.
+        let operation = match locations[to].is_error && random.percent(80) {
+            true => condition(random, variables),
+            false => operation(random, variables),
+        };
+        edges.push(Edge { from: LocationId(from), to: LocationId(to), operation });
+    }
+    random.shuffle(&mut edges);
+    edges
+}
+
+fn operation(random: &mut Random, variables: &[Variable]) -> Operation {
+    match random.below(10) {
+        0 => Operation::Skip,
+        1..=3 => condition(random, variables),
+        4..=6 => passing(random, variables),
+        _ => computation(random, variables),
+    }
+}
+
+/// An operation that seldom halts.
+fn passing(random: &mut Random, variables: &[Variable]) -> Operation {
+    let Some(target) = target(random, variables) else {
+        return Operation::Skip;
+    };
+    let variable = &variables[target];
+    match random.below(10) {
+        0 | 1 => Operation::Skip,
+        2..=5 => {
+            let value = Operand::Number(random.between(variable.low, variable.high));
+            Operation::Set { target, value }
+        }
+        6 | 7 => {
+            let low = random.between(variable.low, variable.high);
+            let high = if random.percent(40) { low } else { random.between(low, variable.high) };
+            Operation::In { target, low, high }
+        }
+        _ => counting(random, target),
+    }
+}
+
+/// Counting up and down is what makes many abstract states.
+fn counting(random: &mut Random, target: usize) -> Operation {
+    let (left, right) = (Operand::Variable(target), Operand::Number(1));
+    match random.below(3) {
+        0 => Operation::Sub { target, left, right },
+        _ => Operation::Add { target, left, right },
+    }
+}
+
+/// An operation of any operands.
+fn computation(random: &mut Random, variables: &[Variable]) -> Operation {
+    let Some(target) = target(random, variables) else {
+        return Operation::Skip;
+    };
+    if random.percent(40) {
+        return counting(random, target);
+    }
+    let left = operand(random, variables, target);
+    let right = operand(random, variables, target);
+    match random.below(3) {
+        0 => Operation::Set { target, value: left },
+        1 => Operation::Add { target, left, right },
+        _ => Operation::Sub { target, left, right },
+    }
+}
+
+fn condition(random: &mut Random, variables: &[Variable]) -> Operation {
+    let Some(target) = target(random, variables) else {
+        return Operation::Skip;
+    };
+    let relation = random.pick(&Relation::ALL);
+    Operation::If { target, relation, right: operand(random, variables, target) }
+}
+
+fn target(random: &mut Random, variables: &[Variable]) -> Option<usize> {
+    (!variables.is_empty()).then(|| random.below(variables.len()))
+}
+
+fn operand(random: &mut Random, variables: &[Variable], target: usize) -> Operand {
+    if random.percent(40) {
+        Operand::Variable(random.below(variables.len()))
+    } else {
+        Operand::Number(literal(random, &variables[target]))
+    }
+}
+
+/// Inside the range, beside it, or at the ends of all numbers.
+fn literal(random: &mut Random, variable: &Variable) -> i32 {
+    let (lowest, highest) = (*NUMBERS.start(), *NUMBERS.end());
+    match random.below(16) {
+        0..=7 => random.between(variable.low, variable.high),
+        8 => (variable.low - 1).max(lowest),
+        9 => (variable.high + 1).min(highest),
+        10 => lowest,
+        11 => highest,
+        _ => random.between(-2, 3),
+    }
+}

@@ -1,0 +1,160 @@
+//! The form of the walk and of the chart held: 21 and 20 in the stated cases and no other.
+
+use reference::analysis::{Stop, Verdict};
+use reference::domain::TOP;
+use reference::memory::{Memory, JUNK};
+
+use crate::common::settings;
+use crate::support::{case_a_underway, listing_answer, refused, DONE};
+
+type Disturb = fn(&mut Memory);
+
+#[test]
+fn form_21() {
+    let out_of_form: [(&str, Disturb); 36] = [
+        ("used above capacity", |m| {
+            m.record.used = 9;
+            m.table[32..36].fill(0);
+        }),
+        ("used far above capacity", |m| m.record.used = u32::MAX),
+        ("waiting above used", |m| m.record.waiting = 6),
+        ("waiting far above used", |m| m.record.waiting = u32::MAX),
+        ("location below 0", |m| m.table[4] = -1),
+        ("location past the last", |m| m.table[4] = 6),
+        ("location unspecific", |m| m.table[0] = TOP),
+        ("location of the last slot in use", |m| m.table[16] = 6),
+        ("value below its range", |m| m.table[1] = -1),
+        ("value above its range", |m| m.table[2] = 2),
+        ("value above another range", |m| m.table[3] = 10),
+        ("value past unspecific", |m| m.table[19] = TOP + 1),
+        ("value that is the least word", |m| m.table[19] = i32::MIN),
+        ("waiting slot not in use", |m| m.waitlist[0] = 5),
+        ("waiting slot past the capacity", |m| m.waitlist[1] = 8),
+        ("waiting slot below 0", |m| m.waitlist[0] = -1),
+        ("waiting slot named twice", |m| m.waitlist[0] = 4),
+        ("a slot in use no longer counted", |m| m.record.used = 4),
+        ("last slot in use not counted, nor waiting", |m| {
+            m.record.used = 4;
+            m.record.waiting = 1;
+            m.waitlist[1] = 0;
+        }),
+        ("waiting slot no longer counted", |m| m.record.waiting = 1),
+        ("first unused table word", |m| m.table[20] = 1),
+        ("last unused table word", |m| m.table[31] = -1),
+        ("first unused list word", |m| m.waitlist[2] = 1),
+        ("last unused list word", |m| m.waitlist[7] = 2),
+        ("iterations above 60,000", |m| m.record.iterations = 60_001),
+        ("edge above the last", |m| {
+            m.record.verdict = Verdict::Alarm;
+            m.record.edge = 7;
+        }),
+        ("edge with open", |m| m.record.edge = 1),
+        ("edge with room", |m| {
+            m.record.verdict = Verdict::Full;
+            m.record.edge = 6;
+        }),
+        ("edge with safe", |m| {
+            no_list(m, Verdict::Safe);
+            m.record.edge = 6;
+        }),
+        ("capacity 0", |m| m.record.capacity = 0),
+        ("settings that 12 refuses", |m| m.record.settings.stop = Stop::Join),
+        ("safe with a list", |m| m.record.verdict = Verdict::Safe),
+        ("open without a list", |m| no_list(m, Verdict::Open)),
+        ("alarm without a list", |m| no_list(m, Verdict::Alarm)),
+        ("room without a list", |m| no_list(m, Verdict::Full)),
+        ("capacity that 11 refuses", |m| {
+            m.record.capacity = 257;
+            m.table.resize(257 * 4, 0);
+            m.table[32..37].fill(0);
+            m.waitlist.resize(257, 0);
+            m.waitlist[8..11].fill(0);
+        }),
+    ];
+    for (clause, disturb) in out_of_form {
+        let mut memory = case_a_underway();
+        disturb(&mut memory);
+        assert_eq!(memory.run(1), refused(21), "{clause}");
+        assert_eq!(memory.run(0), refused(21), "{clause}");
+        assert_eq!(listing_answer(&memory), refused(21), "{clause}");
+    }
+}
+
+fn no_list(memory: &mut Memory, verdict: Verdict) {
+    memory.record.verdict = verdict;
+    memory.record.waiting = 0;
+    memory.waitlist[..2].fill(0);
+}
+
+/// 21 is given in the stated cases and no other.
+#[test]
+fn form_21_leaves_unusual_walks_alone() {
+    let in_form: [(&str, u32, Disturb); 15] = [
+        ("no slot in use", 22, |m| {
+            no_list(m, Verdict::Safe);
+            m.record.used = 0;
+            m.table[..20].fill(0);
+        }),
+        ("several slots of a location with join", 0, |m| {
+            m.record.settings = settings("join join new")
+        }),
+        ("a waiting slot at an error location", 0, |m| m.table[12] = 5),
+        ("an error location, not waiting", 0, |m| m.table[4] = 5),
+        ("an alarm without an edge", 22, |m| m.record.verdict = Verdict::Alarm),
+        ("an alarm edge that leads elsewhere", 22, |m| {
+            m.record.verdict = Verdict::Alarm;
+            m.record.edge = 1;
+        }),
+        ("room with slots left", 22, |m| m.record.verdict = Verdict::Full),
+        ("a zero slot counted in", 0, |m| m.record.used = 6),
+        ("all slots counted in", 0, |m| m.record.used = 8),
+        ("two equal slots", 0, |m| m.table.copy_within(0..4, 4)),
+        ("a list in another order", 0, |m| m.waitlist.swap(0, 1)),
+        ("any other slot in use waiting", 0, |m| m.waitlist[0] = 0),
+        ("iterations at 0", 0, |m| m.record.iterations = 0),
+        ("other words past the capacity", 0, |m| {
+            m.table[32..].fill(5);
+            m.waitlist[8..].fill(5);
+        }),
+        ("safe", 22, |m| no_list(m, Verdict::Safe)),
+    ];
+    for (case, number, disturb) in in_form {
+        let mut memory = case_a_underway();
+        disturb(&mut memory);
+        assert_eq!(listing_answer(&memory), DONE, "{case}");
+        assert_eq!(memory.run(100), refused(number), "{case}");
+        assert_eq!(listing_answer(&memory), DONE, "{case}, after its run");
+    }
+}
+
+/// Words after the encoded chart are not looked at; any change in it is seen.
+#[test]
+fn the_chart_held() {
+    let underway = case_a_underway();
+    let mut memory = underway.clone();
+    memory.chart.extend([JUNK, 0, 7]);
+    assert_eq!(memory.clone().run(1), DONE);
+    memory.chart.clear();
+    assert_eq!(listing_answer(&memory), refused(20));
+    for length in 0..underway.chart.len() {
+        let mut memory = underway.clone();
+        memory.chart.truncate(length.max(1));
+        assert_eq!(memory.run(1), refused(20), "{length} words");
+    }
+    let settings = underway.record.settings;
+    let names = 3 + 3 * 3;
+    #[rustfmt::skip]
+    let out_of_form = [
+        (0, 9), (0, -1), (1, 0), (1, 65), (2, 257), (2, i32::MAX),
+        (3, -32_769), (3, 2), (4, -1), (4, 32_768), (5, 2), (5, -1), (5, 32_769),
+        (names, 2), (names, -1), (names + 1, 0), (names + 1, 95), (names + 1, 256 + 116),
+        (names + 1, 10), (names + 1, 9), (names + 1, -1), (names + 5, 45),
+        (names + 2, 0),
+    ];
+    for (place, word) in out_of_form {
+        let mut memory = underway.clone();
+        memory.chart[place] = word;
+        assert_eq!(memory.start(settings, 8), refused(20), "word {place} = {word}");
+        assert_eq!(listing_answer(&memory), refused(20), "word {place} = {word}");
+    }
+}

@@ -1,0 +1,10 @@
+//! The calls on lent words: cases that a listing cannot show.
+
+#[path = "../common/mod.rs"]
+mod common;
+mod form;
+mod order;
+mod reading;
+mod support;
+mod waitlist;
+mod walks;

@@ -1,0 +1,162 @@
+//! The generators reach everything there is to compare: every operation and
+//! relation, every refusal number and every verdict.
+
+use std::collections::BTreeMap;
+
+use reference::chart::{Chart, Operand, Operation};
+use reference::program::respond;
+use reference::random::{count, inputs, seed, Random};
+
+const INPUTS: usize = 20_000;
+/// Of each, so that another seed finds it too.
+const FEWEST: usize = 20;
+
+/// A smaller count cannot be expected to reach everything.
+fn at_least(default: usize) -> usize {
+    count(default).max(default)
+}
+
+/// Counts by label; a label not in `wanted` or too rare fails.
+fn assert_all_met(met: &BTreeMap<String, usize>, wanted: &[String]) {
+    for (label, times) in met {
+        println!("{label}: {times}");
+    }
+    for label in wanted {
+        let times = met.get(label).copied().unwrap_or(0);
+        assert!(times >= FEWEST, "{label} is met {times} times only");
+    }
+    for label in met.keys() {
+        assert!(wanted.contains(label), "{label} cannot be");
+    }
+}
+
+#[test]
+fn inputs_meet_every_refusal_and_every_verdict() {
+    let mut random = Random::new(seed());
+    let mut met = BTreeMap::new();
+    for _ in 0..at_least(INPUTS) {
+        let output = respond(&inputs::program_input(&mut random));
+        let header = String::from_utf8_lossy(output.split(|&byte| byte == b'\n').next().unwrap());
+        let fields: Vec<&str> = header.split('\t').collect();
+        let label = match fields[0] {
+            // Whether the go line or a chart line is refused.
+            "refused" if fields[2] == "0" => format!("refused {}, line 0", fields[1]),
+            "refused" => format!("refused {}", fields[1]),
+            _ => format!("{} {} {} {}", fields[1], fields[2], fields[3], fields[4]),
+        };
+        *met.entry(label).or_insert(0) += 1;
+    }
+    let mut wanted: Vec<String> = (2..=10).map(|number| format!("refused {number}")).collect();
+    for number in [1, 2, 3, 5, 6, 8, 11, 12, 13] {
+        wanted.push(format!("refused {number}, line 0"));
+    }
+    for settings in ["sep sep", "join sep", "join join"] {
+        for order in ["old", "new"] {
+            for verdict in ["safe", "alarm", "room", "open"] {
+                wanted.push(format!("{settings} {order} {verdict}"));
+            }
+        }
+    }
+    assert_all_met(&met, &wanted);
+}
+
+#[test]
+fn charts_have_every_operation() {
+    let mut random = Random::new(seed() ^ 1);
+    let mut met = BTreeMap::new();
+    for _ in 0..at_least(2_000) {
+        let chart = inputs::chart(&mut random);
+        for label in labels(&chart) {
+            *met.entry(label).or_insert(0) += 1;
+        }
+    }
+    let mut wanted: Vec<String> = Vec::new();
+    for operation in ["set", "add", "sub", "if eq", "if ne", "if lt", "if le", "if gt", "if ge"] {
+        wanted.push(format!("{operation}, number"));
+        wanted.push(format!("{operation}, variable"));
+    }
+    for label in [
+        "skip",
+        "in, one value",
+        "in, several values",
+        "literal -32768",
+        "literal 32767",
+        "a variable with itself",
+        "self-loop",
+        "no variable",
+        "eight variables",
+        "init *",
+        "init * on one value",
+        "range from -32768",
+        "range to 32767",
+        "error location at the start",
+    ] {
+        wanted.push(label.to_string());
+    }
+    assert_all_met(&met, &wanted);
+}
+
+fn labels(chart: &Chart) -> Vec<String> {
+    let mut labels = Vec::new();
+    let mut label = |holds: bool, text: &str| {
+        if holds {
+            labels.push(text.to_string());
+        }
+    };
+    label(chart.variables.is_empty(), "no variable");
+    label(chart.variables.len() == 8, "eight variables");
+    label(chart.locations[0].is_error, "error location at the start");
+    for variable in &chart.variables {
+        label(variable.init.is_none(), "init *");
+        label(variable.init.is_none() && variable.low == variable.high, "init * on one value");
+        label(variable.low == -32_768, "range from -32768");
+        label(variable.high == 32_767, "range to 32767");
+    }
+    for edge in &chart.edges {
+        label(edge.from == edge.to, "self-loop");
+        let (word, target, operands) = match edge.operation {
+            Operation::Skip => {
+                label(true, "skip");
+                continue;
+            }
+            Operation::In { low, high, .. } => {
+                label(true, if low == high { "in, one value" } else { "in, several values" });
+                continue;
+            }
+            Operation::Set { target, value } => ("set".to_string(), target, vec![value]),
+            Operation::Add { target, left, right } => {
+                ("add".to_string(), target, vec![left, right])
+            }
+            Operation::Sub { target, left, right } => {
+                ("sub".to_string(), target, vec![left, right])
+            }
+            Operation::If { target, relation, right } => {
+                (format!("if {}", relation.word()), target, vec![right])
+            }
+        };
+        for operand in operands {
+            match operand {
+                Operand::Number(number) => {
+                    label(true, &format!("{word}, number"));
+                    label(number == -32_768, "literal -32768");
+                    label(number == 32_767, "literal 32767");
+                }
+                Operand::Variable(variable) => {
+                    label(true, &format!("{word}, variable"));
+                    label(variable == target, "a variable with itself");
+                }
+            }
+        }
+    }
+    labels
+}
+
+/// One seed makes the same inputs everywhere.
+#[test]
+fn one_seed_makes_one_list() {
+    let (mut one, mut other) = (Random::new(7), Random::new(7));
+    let mut third = Random::new(8);
+    let first = inputs::program_input(&mut one);
+    assert_eq!(first, inputs::program_input(&mut other));
+    assert_ne!(first, inputs::program_input(&mut third));
+}
