@@ -1,0 +1,54 @@
+-- Two texts that are the same, and the bytes of a name, one byte at a time. Assumes nothing.
+use mathlib.Core.Path.{_≡_, refl, ap}
+use mathlib.Core.Bool.{Bool, true, false, _&&_}
+use mathlib.Core.List.{List, [], _∷_}
+use Prim.Native.Nat.{ℕ, suc, _+_, _≤_, _<_}
+use native.Mathlib.Numerals.{add-one}
+use lib.Dec.{eqb}
+use lib.ListN.{length, getD, drop, drop-of-length-le}
+use lib.Seq.{drop-cons}
+use borrow.Author.Tests.{eq-eqb, ne-eqb, le-leb, lt-leb}
+use Rattle.semantics.specs.Lists.{all}
+use Rattle.semantics.specs.Text.{same-bytes, name-byte, name-ok}
+
+pub and-no : (t : Bool) → (t && false) ≡ false
+and-no true = refl
+and-no false = refl
+
+pub same-short : (a b : List ℕ) → (length a ≡ length b → ⊥) → same-bytes a b ≡ false
+same-short [] [] h = absurd (h refl)
+same-short [] (y ∷ ys) h = refl
+same-short (x ∷ xs) [] h = refl
+same-short (x ∷ xs) (y ∷ ys) h = rw (same-short xs ys (λ e. h (ap suc e))) (and-no (eqb x y))
+
+module _ (a b : List ℕ) (i : ℕ) where
+  pub same-step : i < length a → i < length b → getD a i 0 ≡ getD b i 0 → same-bytes (drop i a) (drop i b) ≡ same-bytes (drop (i + 1) a) (drop (i + 1) b)
+  same-step h k e = rw (add-one, drop-cons a i 0, drop-cons b i 0) (simp (eq-eqb _ _ e))
+
+  pub same-stop : i < length a → i < length b → (getD a i 0 ≡ getD b i 0 → ⊥) → same-bytes (drop i a) (drop i b) ≡ false
+  same-stop h k e = rw (drop-cons a i 0, drop-cons b i 0) (simp (ne-eqb _ _ e))
+
+  pub same-end : length a ≤ i → length b ≤ i → same-bytes (drop i a) (drop i b) ≡ true
+  same-end h k = rw (drop-of-length-le a h, drop-of-length-le b k)
+
+-- ---- names
+
+module _ (p : ℕ → Bool) (l : List ℕ) (i : ℕ) where
+  pub all-step : i < length l → p (getD l i 0) ≡ true → all p (drop i l) ≡ all p (drop (i + 1) l)
+  all-step h t = rw (add-one, drop-cons l i 0) (simp t)
+
+  pub all-stop : i < length l → p (getD l i 0) ≡ false → all p (drop i l) ≡ false
+  all-stop h t = rw (drop-cons l i 0) (simp t)
+
+  pub all-end : length l ≤ i → all p (drop i l) ≡ true
+  all-end h = rw (drop-of-length-le l h)
+
+module _ (l : List ℕ) where
+  pub name-short : length l < 1 → name-ok l ≡ false
+  name-short h = simp (lt-leb 1 (length l) h)
+
+  pub name-long : 16 < length l → name-ok l ≡ false
+  name-long h = simp (lt-leb (length l) 16 h, and-no)
+
+  pub name-all : 1 ≤ length l → length l ≤ 16 → name-ok l ≡ all name-byte l
+  name-all h k = simp (le-leb 1 (length l) h, le-leb (length l) 16 k)

@@ -1,0 +1,170 @@
+-- Numbers, digit by digit, and what stays the same where a number is cut at 100,000. Assumes nothing.
+use mathlib.Core.Path.{_≡_, refl, ap, _∙_}
+use mathlib.Core.Bool.{Bool, true, false}
+use mathlib.Core.Logic.{_⊎_, inl, inr, ⊎-elim}
+use mathlib.Core.List.{List, [], _∷_}
+use mathlib.Core.Option.{Option, some, none}
+use Prim.Native.Nat.{ℕ, zero, suc, _+_, _-_, _*_, _≤_, _<_, min}
+use native.Mathlib.Decide.{decLt}
+use native.Mathlib.Numerals.{add-one}
+use native.Mathlib.Omega.{arith}
+use lib.ListN.{length, getD, take, drop, drop-of-length-le}
+use lib.Seq.{drop-cons, take-length}
+use lib.IntN.{ℤ, pos, negsuc, negℤ, _-ℤ_, +ℤ-idl}
+use mir.Syntax.{w32}
+use mir.Val.{SFits, toZ, ofZ}
+use mir.ValLaws.{toZ-ofZ}
+use mir.Facts.{toZ-pos}
+use borrow.Author.Tests.{eq-eqb, ne-eqb, le-leb, lt-leb, le-ltb}
+use Rattle.semantics.specs.Lists.{pick}
+use Rattle.semantics.specs.Text.{between, digits, natural-of, nonnegative, negative, number-of}
+use Rattle.semantics.specs.Chart.{small}
+use Rattle.semantics.specs.Reading.{ok, check, small-or, below-or}
+use Rattle.text.specs.Fields.{clamp, naturalRead, numberRead, naturalSaid, numberSaid}
+use Rattle.text.specs.declared.Natural.the-variants as natural
+use Rattle.text.specs.declared.NumberRead.the-variants as number
+use Rattle.text.proofs.Bytes.{and-no}
+
+lt-or-ge : (a b : ℕ) → (a < b) ⊎ (b ≤ a)
+lt-or-ge a b = go (decLt a b)
+  where
+    go : Dec (a < b) → (a < b) ⊎ (b ≤ a)
+    go (yes h) = inl h
+    go (no h) = inr (omega arith)
+
+-- ---- along the digits, at place i
+module _ (l : List ℕ) (n i : ℕ) where
+  pub digits-end : length l ≤ i → digits n (drop i l) ≡ some n
+  unfolding digits
+  digits-end h = rw (drop-of-length-le l h)
+
+  pub digits-step : i < length l → 48 ≤ getD l i 0 → getD l i 0 ≤ 57 → digits n (drop i l) ≡ digits (n * 10 + (getD l i 0 - 48)) (drop (i + 1) l)
+  unfolding digits
+  digits-step h lo hi = rw (add-one, drop-cons l i 0) (simp (le-leb _ _ lo, le-leb _ _ hi))
+
+  pub digits-low : i < length l → getD l i 0 < 48 → digits n (drop i l) ≡ none
+  unfolding digits
+  digits-low h lo = rw (drop-cons l i 0) (simp (lt-leb _ _ lo))
+
+  pub digits-high : i < length l → 57 < getD l i 0 → digits n (drop i l) ≡ none
+  unfolding digits
+  digits-high h hi = rw (drop-cons l i 0) (simp (lt-leb _ _ hi, and-no))
+
+-- numbers that are the same once cut lead to the same answer
+pub cut-same : (l : List ℕ) (n m : ℕ) → min n 100000 ≡ min m 100000 → naturalRead (digits n l) ≡ naturalRead (digits m l)
+unfolding digits naturalRead
+cut-same [] n m h = ap natural.Is h
+cut-same (b ∷ bs) n m h = go (between 48 57 b) (cut-same bs (n * 10 + (b - 48)) (m * 10 + (b - 48)) (omega arith))
+  where
+    go : (t : Bool) → naturalRead (digits (n * 10 + (b - 48)) bs) ≡ naturalRead (digits (m * 10 + (b - 48)) bs)
+        → naturalRead (pick t (digits (n * 10 + (b - 48)) bs) none) ≡ naturalRead (pick t (digits (m * 10 + (b - 48)) bs) none)
+    go true ih = ih
+    go false ih = refl
+
+-- ---- a natural number, by its first byte
+
+pub natural-empty : (l : List ℕ) → length l ≡ 0 → natural-of l ≡ none
+unfolding natural-of
+natural-empty [] h = refl
+natural-empty (b ∷ bs) h = absurd (omega arith)
+
+pub natural-zero : (l : List ℕ) → length l ≡ 1 → getD l 0 0 ≡ 48 → natural-of l ≡ some 0
+unfolding natural-of
+natural-zero [] h e = absurd (omega arith)
+natural-zero (b ∷ []) h e = simp (eq-eqb _ _ e)
+natural-zero (b ∷ x ∷ xs) h e = absurd (omega arith)
+
+pub natural-lead : (l : List ℕ) → (length l ≡ 0 → ⊥) → (length l ≡ 1 → ⊥) → getD l 0 0 ≡ 48 → natural-of l ≡ none
+unfolding natural-of
+natural-lead [] n h e = refl
+natural-lead (b ∷ []) n h e = absurd (h refl)
+natural-lead (b ∷ x ∷ xs) n h e = simp (eq-eqb _ _ e)
+
+pub natural-digits : (l : List ℕ) → (length l ≡ 0 → ⊥) → (getD l 0 0 ≡ 48 → ⊥) → natural-of l ≡ digits 0 l
+unfolding natural-of
+natural-digits [] n e = absurd (n refl)
+natural-digits (b ∷ bs) n e = simp (ne-eqb _ _ e)
+
+-- ---- a number, by its first byte
+
+pub number-empty : (l : List ℕ) → length l ≡ 0 → number-of l ≡ none
+unfolding number-of
+number-empty [] h = refl
+number-empty (b ∷ bs) h = absurd (omega arith)
+
+pub number-minus : (l : List ℕ) → (length l ≡ 0 → ⊥) → getD l 0 0 ≡ 45 → number-of l ≡ negative (natural-of (take (length l - 1) (drop 1 l)))
+unfolding number-of
+number-minus [] n e = absurd (n refl)
+number-minus (b ∷ bs) n e =
+    let k : length (b ∷ bs) - 1 ≡ length bs = omega arith in
+    rw (k, take-length bs) (simp (eq-eqb _ _ e))
+
+pub number-plus : (l : List ℕ) → (length l ≡ 0 → ⊥) → (getD l 0 0 ≡ 45 → ⊥) → number-of l ≡ nonnegative (natural-of l)
+unfolding number-of
+number-plus [] n e = absurd (n refl)
+number-plus (b ∷ bs) n e = simp (ne-eqb _ _ e)
+
+-- ---- a cut natural number says all that a cut number asks
+
+pub plus-cut : (o : Option ℕ) → numberRead (nonnegative (naturalSaid (naturalRead o))) ≡ numberRead (nonnegative o)
+unfolding numberRead naturalSaid naturalRead
+plus-cut none = refl
+plus-cut (some n) = ap (λ (k : ℕ). number.Is (pos k)) (omega arith)
+
+min-suc : (n : ℕ) → min (suc n) 100000 ≡ suc (min n 99999)
+min-suc n = omega arith
+
+pub minus-cut : (o : Option ℕ) → numberRead (negative (naturalSaid (naturalRead o))) ≡ numberRead (negative o)
+unfolding numberRead naturalSaid naturalRead
+minus-cut none = refl
+minus-cut (some zero) = refl
+minus-cut (some (suc n)) = rw (min-suc n) (ap (λ (k : ℕ). number.Is (negsuc k)) (omega arith))
+
+-- the machine's 0 - v for a cut v, and what it reads back
+neg-fits : (v : ℕ) → v ≤ 100000 → SFits w32 (negℤ (pos v))
+neg-fits zero h = record { sfits = omega arith }
+neg-fits (suc k) h = record { sfits = omega arith }
+
+sub-neg : (v : ℕ) → v ≤ 100000 → pos 0 -ℤ toZ w32 v ≡ negℤ (pos v)
+sub-neg v h = rw (toZ-pos w32 {n = v} (omega arith)) (+ℤ-idl _)
+
+pub sub-fits : (v : ℕ) → v ≤ 100000 → SFits w32 (pos 0 -ℤ toZ w32 v)
+sub-fits v h = rw (sub-neg v h) (neg-fits v h)
+
+pub sub-back : (v : ℕ) → v ≤ 100000 → toZ w32 (ofZ w32 (pos 0 -ℤ toZ w32 v)) ≡ negℤ (pos v)
+sub-back v h = toZ-ofZ w32 _ (sub-fits v h) ∙ sub-neg v h
+
+pub minus-is : (v : ℕ) → (v ≡ 0 → ⊥) → number.Is (negℤ (pos (min v 100000))) ≡ numberRead (negative (some v))
+unfolding numberRead
+minus-is zero h = absurd (h refl)
+minus-is (suc n) h = rw (min-suc n)
+
+-- ---- the tests of a field cannot tell a cut number from the number
+
+small-cut : (z : ℤ) → check (small (clamp z)) 7 (ok (clamp z)) ≡ check (small z) 7 (ok z)
+unfolding check
+small-cut (pos n) =
+    ⊎-elim
+    (λ h. let e : min n 100000 ≡ n = omega arith in rw e)
+    (λ h. simp (lt-leb n 32767 (omega arith), lt-leb (min n 100000) 32767 (omega arith)))
+    (lt-or-ge n 32768)
+small-cut (negsuc n) =
+    ⊎-elim
+    (λ h. let e : min n 99999 ≡ n = omega arith in rw e)
+    (λ h. simp (lt-leb n 32767 (omega arith), lt-leb (min n 99999) 32767 (omega arith)))
+    (lt-or-ge n 32768)
+
+pub small-or-cut : (o : Option ℤ) → small-or (numberSaid (numberRead o)) ≡ small-or o
+unfolding numberSaid numberRead
+small-or-cut none = refl
+small-or-cut (some z) = small-cut z
+
+pub below-or-cut : (count : ℕ) (o : Option ℤ) → count ≤ 256 → below-or count (numberSaid (numberRead o)) ≡ below-or count o
+unfolding numberSaid numberRead check
+below-or-cut count none h = refl
+below-or-cut count (some (negsuc n)) h = refl
+below-or-cut count (some (pos n)) h =
+    ⊎-elim
+    (λ k. let e : min n 100000 ≡ n = omega arith in rw e)
+    (λ k. simp (le-ltb n count (omega arith), le-ltb (min n 100000) count (omega arith)))
+    (lt-or-ge n 256)

@@ -1,0 +1,107 @@
+-- One field by its tests: a place below a count, a variable after `$`, an operand, an initial value. Assumes nothing.
+use mathlib.Core.Path.{_≡_, refl, sym, ap, subst, _∙_}
+use mathlib.Core.Bool.{Bool, true, false}
+use mathlib.Core.List.{List, [], _∷_}
+use mathlib.Core.Option.{Option, some, none}
+use Prim.Native.Nat.{ℕ, _-_, _≤_, _<_}
+use native.Mathlib.Omega.{arith}
+use lib.Dec.{T}
+use lib.ListN.{length, getD, take, drop}
+use lib.Seq.{take-length}
+use lib.IntN.{ℤ, pos, negsuc, natAbs}
+use lib.Signed.{ltZ}
+use borrow.Author.Tests.{eq-eqb, ne-eqb, lt-ltb, le-ltb, ltb-true}
+use Rattle.semantics.specs.Text.{bytes, same-bytes, natural-of, nonnegative, number-of}
+use Rattle.semantics.specs.Chart.{known, top, num, var, small, within, eqZ}
+use Rattle.semantics.specs.Encoding.{val, val-if, word}
+use Rattle.semantics.specs.Reading.{fail, ok, check, andThen, small-or, below-or, number-field, target-field, operand-field, init-field}
+use Rattle.words.proofs.Words.{eqZ-true, ne-eqZ}
+
+module _ (n : ℕ) where
+  pub below-neg : (z : ℤ) → ltZ z (pos 0) ≡ true → below-or n (some z) ≡ fail 10
+  below-neg (pos k) e = absurd (omega (arith, ltb-true k 0 e))
+  below-neg (negsuc k) e = refl
+
+  module _ (k : ℕ) where
+    pub below-yes : (z : ℤ) → ltZ z (pos 0) ≡ false → k ≡ natAbs z → k < n → ok k ≡ below-or n (some z)
+    unfolding check
+    below-yes (pos m) e q h = let l : m < n = omega arith in rw (lt-ltb m n l) (ap ok q)
+    below-yes (negsuc m) e q h = absurd (subst T e tt)
+
+    pub below-no : (z : ℤ) → ltZ z (pos 0) ≡ false → k ≡ natAbs z → n ≤ k → fail 10 ≡ below-or n (some z)
+    unfolding check
+    below-no (pos m) e q h = let l : n ≤ m = omega arith in rw (le-ltb m n l)
+    below-no (negsuc m) e q h = refl
+
+  pub target-none : (l : List ℕ) → length l ≡ 0 → target-field n l ≡ fail 6
+  unfolding target-field
+  target-none [] h = refl
+  target-none (b ∷ bs) h = absurd (omega arith)
+
+  pub target-other : (l : List ℕ) → (getD l 0 0 ≡ 36 → ⊥) → target-field n l ≡ fail 6
+  unfolding target-field check
+  target-other [] h = refl
+  target-other (b ∷ bs) h = simp (ne-eqb _ _ h)
+
+  pub target-is : (l : List ℕ) → (length l ≡ 0 → ⊥) → getD l 0 0 ≡ 36 → target-field n l ≡ below-or n (nonnegative (natural-of (take (length l - 1) (drop 1 l))))
+  unfolding target-field check
+  target-is [] h e = absurd (h refl)
+  target-is (b ∷ bs) h e =
+      let k : length (b ∷ bs) - 1 ≡ length bs = omega arith in
+      rw (k, take-length bs) (simp (eq-eqb _ _ e))
+
+  pub operand-var : (l : List ℕ) → getD l 0 0 ≡ 36 → operand-field n l ≡ andThen (target-field n l) (λ k. ok (var k))
+  unfolding operand-field
+  operand-var l e = simp (eq-eqb _ _ e)
+
+  pub operand-num : (l : List ℕ) → (getD l 0 0 ≡ 36 → ⊥) → operand-field n l ≡ andThen (number-field l) (λ z. ok (num z))
+  unfolding operand-field
+  operand-num l e = simp (ne-eqb _ _ e)
+
+-- ---- an initial value
+
+not-both : (n : ℕ) (z : ℤ) → fail n ≡ ok z → ⊥
+not-both n z e = let q : _≡_ {A = ℕ} 0 1 = cc in omega arith
+
+small-of : (o : Option ℤ) (z : ℤ) → small-or o ≡ ok z → small z ≡ true
+unfolding check
+small-of none z e = absurd (not-both 6 z e)
+small-of (some y) z e = go (small y) refl e
+  where
+    go : (t : Bool) → small y ≡ t → check t 7 (ok y) ≡ ok z → small z ≡ true
+    go true s q = let p : y ≡ z = cc in ap small (sym p) ∙ s
+    go false s q = absurd (not-both 7 z q)
+
+small-not-top : (z : ℤ) → small z ≡ true → z ≡ pos 32768 → ⊥
+small-not-top z s e = let t : small (pos 32768) ≡ true = ap small (sym e) ∙ s in subst T (sym t) tt
+
+-- a number that a field says is no word of top
+pub number-known : (l : List ℕ) (z : ℤ) → number-field l ≡ ok z → val z ≡ known z
+unfolding number-field
+number-known l z e = rw (ne-eqZ {a = z} {b = pos 32768} (small-not-top z (small-of (number-of l) z e)))
+
+-- the word of a value says the value
+pub word-val : (z : ℤ) → word (val z) ≡ z
+word-val z = go (eqZ z (pos 32768)) refl
+  where
+    go : (t : Bool) → eqZ z (pos 32768) ≡ t → word (val-if t z) ≡ z
+    go true e = sym (eqZ-true z (pos 32768) e)
+    go false e = refl
+
+module _ (lo hi : ℤ) (l : List ℕ) where
+  pub init-star : same-bytes l (bytes "*") ≡ true → init-field lo hi l ≡ ok top
+  unfolding init-field
+  init-star e = simp e
+
+  pub init-other : same-bytes l (bytes "*") ≡ false → init-field lo hi l ≡ andThen (number-field l) (λ z. check (within lo hi z) 7 (ok (known z)))
+  unfolding init-field
+  init-other e = simp e
+
+  module _ (z : ℤ) (is : number-field l ≡ ok z) where
+    pub init-in : within lo hi z ≡ true → ok (val z) ≡ andThen (number-field l) (λ x. check (within lo hi x) 7 (ok (known x)))
+    unfolding andThen check
+    init-in h = rw is (rw h (ap ok (number-known l z is)))
+
+    pub init-out : within lo hi z ≡ false → fail 7 ≡ andThen (number-field l) (λ x. check (within lo hi x) 7 (ok (known x)))
+    unfolding andThen check
+    init-out h = rw is (rw h)

@@ -1,0 +1,29 @@
+-- `text::as_number` meets its contract. Assumes nothing.
+use borrow.Author.Needs.{needs}
+use mathlib.Core.Path.{_≡_}
+use mir.Syntax.{w32}
+use mir.Val.{toZ, ofZ}
+use Rattle.semantics.specs.Reading.{andThen}
+use Rattle.text.specs.Fields.{wordRes, operandRes}
+use Rattle.text.proofs.as_number.Statement.{statement}
+use Rattle.text.proofs.as_number.Tie as tie
+
+enum-known-w : tie.Need-enum-known-w
+enum-known-w c = search needs
+
+enum-known-w-2 : tie.Need-enum-known-w-2
+enum-known-w-2 c = search needs
+
+returns : tie.Need-returns
+unfolding operandRes wordRes andThen
+returns c = simp (c .before .w .given .1)
+
+returns-2 : tie.Need-returns-2
+unfolding operandRes wordRes andThen
+returns-2 c =
+    let z = c .before .w2 .given .0 .0 in
+    let q : toZ w32 (ofZ w32 z) ≡ z = search needs in
+    simp (c .before .w2 .given .1, q)
+
+pub as-number-spec : {M : Type 1} → statement M
+as-number-spec = tie.close (tie.spec enum-known-w enum-known-w-2 returns returns-2)

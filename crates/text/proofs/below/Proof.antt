@@ -1,0 +1,66 @@
+-- `text::below` meets its contract. Assumes nothing.
+use borrow.Author.Needs.{needs}
+use mathlib.Core.Path.{_≡_, sym}
+use mathlib.Core.Bool.{true, false}
+use lib.IntN.{pos, natAbs}
+use lib.Signed.{ltZ}
+use mir.Syntax.{w32}
+use mir.Val.{toZ, ofZ}
+use Rattle.text.specs.Fields.{numberSaid, indexRes}
+use Rattle.text.proofs.Judged.{below-neg, below-yes, below-no}
+use Rattle.text.proofs.below.Statement.{statement}
+use Rattle.text.proofs.below.Tie as tie
+
+enum-told : tie.Need-enum-told
+enum-told c = search needs
+
+enum-known-n : tie.Need-enum-known-n
+enum-known-n c = search needs
+
+returns : tie.Need-returns
+unfolding indexRes numberSaid
+returns c =
+    let a = c .before .before in
+    let z = a .n .given .0 .0 in
+    let q : toZ w32 (ofZ w32 z) ≡ z = search needs in
+    let t : ltZ z (pos 0) ≡ true = rw q at (c .if1 .taken) in
+    simp (a .n .given .1) (sym (below-neg _ z t))
+
+magnitude-requires : tie.Need-magnitude-requires
+magnitude-requires c κs = search needs
+
+returns-2 : tie.Need-returns-2
+unfolding indexRes numberSaid
+returns-2 c =
+    let a = c .before .before .before .before in
+    let z = a .n .given .0 .0 in
+    let q : toZ w32 (ofZ w32 z) ≡ z = search needs in
+    let t : ltZ z (pos 0) ≡ false = rw q at (c .before .before .if1 .left) in
+    let e : c .before .magnitude .result ≡ natAbs z = rw q at (c .before .magnitude .ensures .0) in
+    simp (a .n .given .1) (below-yes _ _ z t e (c .if2 .taken))
+
+returns-3 : tie.Need-returns-3
+unfolding indexRes numberSaid
+returns-3 c = simp (c .enum-told .given .1)
+
+returns-4 : tie.Need-returns-4
+unfolding indexRes numberSaid
+returns-4 c =
+    let a = c .before .before .before .before in
+    let z = a .n .given .0 .0 in
+    let q : toZ w32 (ofZ w32 z) ≡ z = search needs in
+    let t : ltZ z (pos 0) ≡ false = rw q at (c .before .before .if1 .left) in
+    let e : c .before .magnitude .result ≡ natAbs z = rw q at (c .before .magnitude .ensures .0) in
+    simp (a .n .given .1) (below-no _ _ z t e (c .if2 .left))
+
+pub below-spec : {M : Type 1} → statement M
+below-spec =
+    tie.close
+    (tie.spec
+    enum-told
+    enum-known-n
+    returns
+    magnitude-requires
+    returns-2
+    returns-3
+    returns-4)

@@ -1,0 +1,85 @@
+-- `text::digits_in` meets its contract: the digits passed, cut, say as much of the answer as all. Assumes nothing.
+use borrow.Author.Needs.{needs}
+use native.Mathlib.Omega.{arith}
+use mathlib.Core.Path.{_≡_, refl, sym, ap, _∙_}
+use lib.ListN.{length, drop}
+use Prim.Native.Nat.{_-_, _≤_}
+use Rattle.semantics.specs.Text.{digits}
+use Rattle.text.specs.Fields.{naturalRead}
+use Rattle.text.specs.declared.Natural.the-variants as natural
+use Rattle.text.proofs.Digits.{digits-end, digits-step, digits-low, digits-high, cut-same}
+use Rattle.text.proofs.digits_in.Statement.{statement}
+use Rattle.text.proofs.digits_in.Tie as tie
+
+abbrev Inv-loop : tie.InvT-loop
+Inv-loop f n₀ i₀ n i = (i ≤ length f) × (n ≤ 100000) × (naturalRead (digits 0 f) ≡ naturalRead (digits n (drop i f)))
+
+abbrev μ-loop : tie.MeasureT-loop
+μ-loop f n₀ i₀ n i = length f - i
+
+loop-holds : tie.Need-loop-holds Inv-loop μ-loop
+loop-holds c = (omega arith, omega arith, refl)
+
+shared-slice-read-wide : tie.Need-shared-slice-read-wide Inv-loop μ-loop
+shared-slice-read-wide c = search needs
+
+wide-requires : tie.Need-wide-requires Inv-loop μ-loop
+wide-requires c κs = search needs
+
+returns : tie.Need-returns Inv-loop μ-loop
+unfolding naturalRead
+returns c =
+    let k = c .before .before .before in
+    sym (k .before .loop .inv .2 ∙ ap naturalRead (digits-low _ _ _ (k .loop-test .taken) (omega arith)))
+
+returns-2 : tie.Need-returns-2 Inv-loop μ-loop
+unfolding naturalRead
+returns-2 c =
+    let k = c .before .before .before .before in
+    sym (k .before .loop .inv .2 ∙ ap naturalRead (digits-high _ _ _ (k .loop-test .taken) (omega arith)))
+
+mul-cut : tie.Need-mul-cut Inv-loop μ-loop
+mul-cut c = search needs
+
+add-cut : tie.Need-add-cut Inv-loop μ-loop
+add-cut c = search needs
+
+cut-requires : tie.Need-cut-requires Inv-loop μ-loop
+cut-requires c κs = search needs
+
+add-i : tie.Need-add-i Inv-loop μ-loop
+add-i c = search needs
+
+loop-less : tie.Need-loop-less Inv-loop μ-loop
+loop-less c = search needs
+
+loop-again : tie.Need-loop-again Inv-loop μ-loop
+loop-again c =
+    let k = c .before .before .before .before .before in (
+      omega arith,
+      omega arith,
+      k .before .loop .inv .2 ∙ ap naturalRead (digits-step _ _ _ (k .loop-test .taken) (omega arith) (omega arith)) ∙ cut-same _ _ _ (omega arith),
+    )
+
+returns-3 : tie.Need-returns-3 Inv-loop μ-loop
+unfolding naturalRead
+returns-3 c = sym (c .before .loop .inv .2 ∙ ap naturalRead (digits-end _ _ _ (c .loop-test .left)) ∙ ap natural.Is (omega arith))
+
+pub digits-in-spec : {M : Type 1} → statement M
+digits-in-spec =
+    tie.close
+    (tie.spec
+    Inv-loop
+    μ-loop
+    loop-holds
+    shared-slice-read-wide
+    wide-requires
+    returns
+    returns-2
+    mul-cut
+    add-cut
+    cut-requires
+    add-i
+    loop-less
+    loop-again
+    returns-3)

@@ -1,0 +1,63 @@
+-- `text::field_count` meets its contract: the fields passed and those that are left are as many as all. Assumes nothing.
+use borrow.Author.Needs.{needs}
+use mathlib.Core.Path.{_≡_}
+use Prim.Native.Nat.{_+_, _-_, _≤_}
+use lib.Dec.{eqb}
+use lib.ListN.{length, drop, getD}
+use denote.Ref.{now}
+use Rattle.semantics.specs.Text.{fields}
+use Rattle.text.proofs.Parts.{count-next, count-last, tab-few}
+use native.Mathlib.Omega.{arith}
+use Rattle.text.proofs.field_count.Statement.{statement}
+use Rattle.text.proofs.field_count.Tie as tie
+
+abbrev Inv-loop : tie.InvT-loop
+Inv-loop line n₀ i₀ n i = (i ≤ length line) × (n ≤ i + 1) × (n + length (fields (drop i line)) ≡ length (fields line) + 1)
+
+abbrev μ-loop : tie.MeasureT-loop
+μ-loop line n₀ i₀ n i = length line - i
+
+loop-holds : tie.Need-loop-holds Inv-loop μ-loop
+loop-holds c = (omega arith, omega arith, omega arith)
+
+shared-slice-read-parted : tie.Need-shared-slice-read-parted Inv-loop μ-loop
+shared-slice-read-parted c = search needs
+
+parted-requires : tie.Need-parted-requires Inv-loop μ-loop
+parted-requires c κs = search needs
+
+-- a tab is one field more
+few : (c : tie.After-parted Inv-loop μ-loop) → c .parted .result ≤ 1
+few c = let l = c .before .before .before in rw (c .parted .ensures) (tab-few (eqb (getD (now (l .before .before .args .line)) (l .loop .i) 0) 9))
+
+add-n : tie.Need-add-n Inv-loop μ-loop
+add-n c = omega (arith, few c)
+
+add-i : tie.Need-add-i Inv-loop μ-loop
+add-i c = search needs
+
+loop-less : tie.Need-loop-less Inv-loop μ-loop
+loop-less c = search needs
+
+loop-again : tie.Need-loop-again Inv-loop μ-loop
+loop-again c =
+    let l = c .before .before .before in
+    omega (arith, few c, c .parted .ensures, count-next (now (l .before .before .args .line)) (l .loop .i) (c .before .before .loop-test .taken))
+
+returns : tie.Need-returns Inv-loop μ-loop
+returns c = omega (arith, count-last (now (c .before .before .before .args .line)) (c .before .loop .i) (c .loop-test .left))
+
+pub field-count-spec : {M : Type 1} → statement M
+field-count-spec =
+    tie.close
+    (tie.spec
+    Inv-loop
+    μ-loop
+    loop-holds
+    shared-slice-read-parted
+    parted-requires
+    add-n
+    add-i
+    loop-less
+    loop-again
+    returns)

@@ -1,0 +1,61 @@
+-- `text::find` meets its contract: the first b is as far from each place passed as from the start. Assumes nothing.
+use borrow.Author.Needs.{needs}
+use mathlib.Core.Path.{_≡_}
+use Prim.Native.Nat.{_+_, _-_, _≤_, max}
+use lib.ListN.{length, drop}
+use denote.Ref.{now}
+use Rattle.text.specs.Fields.{up-to}
+use Rattle.text.proofs.Lines.{up-to-here, up-to-skip, up-to-end}
+use native.Mathlib.Omega.{arith}
+use Rattle.text.proofs.find.Statement.{statement}
+use Rattle.text.proofs.find.Tie as tie
+
+abbrev Inv-loop : tie.InvT-loop
+Inv-loop text from b i₀ i = (from ≤ i) × (i ≤ max from (length text)) × (i + up-to b (drop i text) ≡ from + up-to b (drop from text))
+
+abbrev μ-loop : tie.MeasureT-loop
+μ-loop text from b i₀ i = length text - i
+
+loop-holds : tie.Need-loop-holds Inv-loop μ-loop
+loop-holds c = search needs
+
+shared-slice-read-if1 : tie.Need-shared-slice-read-if1 Inv-loop μ-loop
+shared-slice-read-if1 c = search needs
+
+returns : tie.Need-returns Inv-loop μ-loop
+returns c =
+    let l = c .before .before .before in
+    let a = l .before .args in
+    omega (arith, up-to-here (a .b) (now (a .text)) (l .loop .i) (c .before .before .loop-test .taken) (c .if1 .taken))
+
+add-i : tie.Need-add-i Inv-loop μ-loop
+add-i c = search needs
+
+loop-less : tie.Need-loop-less Inv-loop μ-loop
+loop-less c = search needs
+
+loop-again : tie.Need-loop-again Inv-loop μ-loop
+loop-again c =
+    let l = c .before .before .before in
+    let a = l .before .args in
+    omega (arith, up-to-skip (a .b) (now (a .text)) (l .loop .i) (c .before .before .loop-test .taken) (c .if1 .left))
+
+returns-2 : tie.Need-returns-2 Inv-loop μ-loop
+returns-2 c =
+    let l = c .before in
+    let a = l .before .args in
+    omega (arith, up-to-end (a .b) (now (a .text)) (l .loop .i) (c .loop-test .left))
+
+pub find-spec : {M : Type 1} → statement M
+find-spec =
+    tie.close
+    (tie.spec
+    Inv-loop
+    μ-loop
+    loop-holds
+    shared-slice-read-if1
+    returns
+    add-i
+    loop-less
+    loop-again
+    returns-2)

@@ -1,0 +1,39 @@
+-- `text::init_field` meets its contract: `*` is top. Assumes nothing.
+use borrow.Author.Needs.{needs}
+use mathlib.Core.Path.{sym, _∙_}
+use mir.Syntax.{w32}
+use mir.ValLaws.{toZ-ofZ}
+use Rattle.semantics.specs.Text.{same-bytes}
+use Rattle.text.specs.Fields.{initRes}
+use Rattle.text.proofs.Judged.{init-star, init-other}
+use Rattle.text.proofs.init_field.Statement.{statement}
+use Rattle.text.proofs.init_field.Tie as tie
+
+slice-aggregate-same-bytes : tie.Need-slice-aggregate-same-bytes
+slice-aggregate-same-bytes c = search needs
+
+same-bytes-requires : tie.Need-same-bytes-requires
+same-bytes-requires c κs = search needs
+
+returns : tie.Need-returns
+unfolding initRes
+returns c = sym (init-star _ _ _ (sym (c .before .same-bytes .ensures) ∙ c .if1 .taken))
+
+init-number-requires : tie.Need-init-number-requires
+init-number-requires c κs = search needs
+
+returns-2 : tie.Need-returns-2
+returns-2 c =
+    let s = c .before .before .before .before .before in
+    simp (toZ-ofZ w32 (s .args .lo) (s .fits .lo), toZ-ofZ w32 (s .args .hi) (s .fits .hi)) at (c .init-number .ensures)
+    ∙ sym (init-other _ _ _ (sym (c .before .before .same-bytes .ensures) ∙ c .before .if1 .left))
+
+pub init-field-spec : {M : Type 1} → statement M
+init-field-spec =
+    tie.close
+    (tie.spec
+    slice-aggregate-same-bytes
+    same-bytes-requires
+    returns
+    init-number-requires
+    returns-2)

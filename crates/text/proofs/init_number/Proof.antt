@@ -1,0 +1,73 @@
+-- `text::init_number` meets its contract. Assumes nothing.
+use borrow.Author.Needs.{needs}
+use mathlib.Core.Path.{_≡_, sym, ap, _∙_}
+use mathlib.Core.Bool.{true, false}
+use denote.Ref.{now}
+use mir.Syntax.{w32}
+use mir.Val.{toZ, ofZ}
+use mir.ValLaws.{toZ-ofZ}
+use Rattle.semantics.specs.Chart.{within}
+use Rattle.semantics.specs.Reading.{ok, andThen, number-field}
+use Rattle.text.specs.Fields.{wordRes, initRes}
+use Rattle.text.proofs.Judged.{init-in, init-out}
+use Rattle.text.proofs.init_number.Statement.{statement}
+use Rattle.text.proofs.init_number.Tie as tie
+
+number-field-requires : tie.Need-number-field-requires
+number-field-requires c κs = search needs
+
+enum-known-n : tie.Need-enum-known-n
+enum-known-n c = search needs
+
+enum-known-z : tie.Need-enum-known-z
+enum-known-z c = search needs
+
+inside-requires : tie.Need-inside-requires
+inside-requires c κs = search needs
+
+returns : tie.Need-returns
+unfolding initRes wordRes andThen
+returns c =
+    let a = c .before .before .before in
+    let z = a .z .given .0 .0 in
+    let q : toZ w32 (ofZ w32 z) ≡ z = search needs in
+    let s = a .before .before .before .before in
+    let f = now (s .args .f) in
+    let lo = toZ-ofZ w32 (s .args .lo) (s .fits .lo) in
+    let hi = toZ-ofZ w32 (s .args .hi) (s .fits .hi) in
+    let e : number-field f ≡ ok z = sym (a .before .before .number-field .ensures) ∙ ap wordRes (a .z .given .1) in
+    let m : within (s .args .lo) (s .args .hi) z ≡ true = simp (lo, hi, q) at (sym (c .before .inside .ensures) ∙ c .if1 .taken) in
+    rw q (init-in (s .args .lo) (s .args .hi) f z e m)
+
+returns-2 : tie.Need-returns-2
+unfolding initRes wordRes andThen
+returns-2 c =
+    let a = c .before in
+    let e : number-field (now (a .before .before .before .before .args .f)) ≡ _ = sym (a .before .before .number-field .ensures) ∙ ap wordRes (a .n .given .1) in
+    simp e
+
+returns-3 : tie.Need-returns-3
+unfolding initRes wordRes andThen
+returns-3 c =
+    let a = c .before .before .before in
+    let z = a .z .given .0 .0 in
+    let q : toZ w32 (ofZ w32 z) ≡ z = search needs in
+    let s = a .before .before .before .before in
+    let f = now (s .args .f) in
+    let lo = toZ-ofZ w32 (s .args .lo) (s .fits .lo) in
+    let hi = toZ-ofZ w32 (s .args .hi) (s .fits .hi) in
+    let e : number-field f ≡ ok z = sym (a .before .before .number-field .ensures) ∙ ap wordRes (a .z .given .1) in
+    let m : within (s .args .lo) (s .args .hi) z ≡ false = simp (lo, hi, q) at (sym (c .before .inside .ensures) ∙ c .if1 .left) in
+    init-out (s .args .lo) (s .args .hi) f z e m
+
+pub init-number-spec : {M : Type 1} → statement M
+init-number-spec =
+    tie.close
+    (tie.spec
+    number-field-requires
+    enum-known-n
+    enum-known-z
+    inside-requires
+    returns
+    returns-2
+    returns-3)

@@ -1,0 +1,53 @@
+-- `text::minus` meets its contract: the machine takes the cut number from 0. Assumes nothing.
+use borrow.Author.Needs.{needs}
+use native.Mathlib.Omega.{arith}
+use mathlib.Core.Path.{ap, _∙_}
+use lib.IntN.{pos, negℤ}
+use Prim.Native.Nat.{ℕ}
+use Rattle.text.specs.Fields.{numberRead, naturalSaid}
+use Rattle.text.specs.declared.NumberRead.the-variants as number
+use Rattle.text.proofs.Digits.{sub-fits, sub-back, minus-is}
+use Rattle.text.proofs.minus.Statement.{statement}
+use Rattle.text.proofs.minus.Tie as tie
+
+enum-told : tie.Need-enum-told
+enum-told c = search needs
+
+enum-known-n : tie.Need-enum-known-n
+enum-known-n c = search needs
+
+returns : tie.Need-returns
+unfolding numberRead naturalSaid
+returns c = simp (c .before .before .n .given .1, c .if1 .taken)
+
+cut-requires : tie.Need-cut-requires
+cut-requires c κs = search needs
+
+cast-t6 : tie.Need-cast-t6
+cast-t6 c = search needs
+
+sub-t7 : tie.Need-sub-t7
+sub-t7 c = sub-fits (c .cut .result) (omega arith)
+
+returns-2 : tie.Need-returns-2
+unfolding numberRead naturalSaid
+returns-2 c = simp (c .enum-told .given .1)
+
+returns-3 : tie.Need-returns-3
+unfolding naturalSaid
+returns-3 c =
+    simp (c .before .before .before .n .given .1)
+    (ap number.Is (sub-back (c .cut .result) (omega arith) ∙ ap (λ (k : ℕ). negℤ (pos k)) (c .cut .ensures)) ∙ minus-is _ (c .before .if1 .left))
+
+pub minus-spec : {M : Type 1} → statement M
+minus-spec =
+    tie.close
+    (tie.spec
+    enum-told
+    enum-known-n
+    returns
+    cut-requires
+    cast-t6
+    sub-t7
+    returns-2
+    returns-3)

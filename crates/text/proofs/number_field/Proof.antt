@@ -1,0 +1,22 @@
+-- `text::number_field` meets its contract: the tests cannot tell a cut number from the number. Assumes nothing.
+use borrow.Author.Needs.{needs}
+use mathlib.Core.Path.{ap, _∙_}
+use Rattle.semantics.specs.Reading.{small-or, number-field}
+use Rattle.text.specs.Fields.{numberSaid}
+use Rattle.text.specs.declared.NumberRead.{NumberRead}
+use Rattle.text.proofs.Digits.{small-or-cut}
+use Rattle.text.proofs.number_field.Statement.{statement}
+use Rattle.text.proofs.number_field.Tie as tie
+
+number-requires : tie.Need-number-requires
+number-requires c κs = search needs
+
+small-word-requires : tie.Need-small-word-requires
+small-word-requires c κs = search needs
+
+returns : tie.Need-returns
+unfolding number-field
+returns c = c .small-word .ensures ∙ ap (λ (n : NumberRead). small-or (numberSaid n)) (c .before .number .ensures) ∙ small-or-cut _
+
+pub number-field-spec : {M : Type 1} → statement M
+number-field-spec = tie.close (tie.spec number-requires small-word-requires returns)

@@ -1,0 +1,34 @@
+-- `text::plus` meets its contract. Assumes nothing.
+use borrow.Author.Needs.{needs}
+use native.Mathlib.Omega.{arith}
+use mathlib.Core.Path.{ap, _∙_}
+use lib.IntN.{pos}
+use mir.Syntax.{w32}
+use mir.Facts.{toZ-pos}
+use Rattle.text.specs.Fields.{numberRead, naturalSaid}
+use Rattle.text.specs.declared.NumberRead.the-variants as number
+use Rattle.text.proofs.plus.Statement.{statement}
+use Rattle.text.proofs.plus.Tie as tie
+
+enum-told : tie.Need-enum-told
+enum-told c = search needs
+
+enum-known-n : tie.Need-enum-known-n
+enum-known-n c = search needs
+
+cut-requires : tie.Need-cut-requires
+cut-requires c κs = search needs
+
+cast-t5 : tie.Need-cast-t5
+cast-t5 c = search needs
+
+returns : tie.Need-returns
+unfolding numberRead naturalSaid
+returns c = simp (c .enum-told .given .1)
+
+returns-2 : tie.Need-returns-2
+unfolding numberRead naturalSaid
+returns-2 c = simp (c .before .before .n .given .1) (ap number.Is (toZ-pos w32 (omega arith) ∙ ap pos (c .cut .ensures)))
+
+pub plus-spec : {M : Type 1} → statement M
+plus-spec = tie.close (tie.spec enum-told enum-known-n cut-requires cast-t5 returns returns-2)

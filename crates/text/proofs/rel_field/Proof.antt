@@ -1,0 +1,143 @@
+-- `text::rel_field` meets its contract. Assumes nothing.
+use borrow.Author.Needs.{needs}
+use mathlib.Core.Path.{_≡_, sym, _∙_}
+use mathlib.Core.Bool.{false}
+use denote.Ref.{now}
+use Rattle.semantics.specs.Text.{bytes, same-bytes}
+use Rattle.semantics.specs.Reading.{rel-field}
+use Rattle.text.specs.Fields.{relRes}
+use Rattle.text.proofs.rel_field.Statement.{statement}
+use Rattle.text.proofs.rel_field.Tie as tie
+
+-- the words that it is not
+no1 : (c : tie.Else1) → same-bytes (now (c .before .before .before .before .args .f)) (bytes "eq") ≡ false
+no1 c = sym (c .before .same-bytes .ensures) ∙ c .if1 .left
+
+no2 : (c : tie.Else2) → same-bytes (now (c .before .before .before .before .before .before .before .args .f)) (bytes "ne") ≡ false
+no2 c = sym (c .before .same-bytes2 .ensures) ∙ c .if2 .left
+
+no3 : (c : tie.Else3) → same-bytes (now (c .before .before .before .before .before .before .before .before .before .before .args .f)) (bytes "lt") ≡ false
+no3 c = sym (c .before .same-bytes3 .ensures) ∙ c .if3 .left
+
+no4 : (c : tie.Else4) → same-bytes (now (c .before .before .before .before .before .before .before .before .before .before .before .before .before .args .f)) (bytes "le") ≡ false
+no4 c = sym (c .before .same-bytes4 .ensures) ∙ c .if4 .left
+
+no5 : (c : tie.Else5) → same-bytes (now (c .before .before .before .before .before .before .before .before .before .before .before .before .before .before .before .before .args .f)) (bytes "gt") ≡ false
+no5 c = sym (c .before .same-bytes5 .ensures) ∙ c .if5 .left
+
+no6 : (c : tie.Else6) → same-bytes (now (c .before .before .before .before .before .before .before .before .before .before .before .before .before .before .before .before .before .before .before .args .f)) (bytes "ge") ≡ false
+no6 c = sym (c .before .same-bytes6 .ensures) ∙ c .if6 .left
+
+slice-aggregate-same-bytes : tie.Need-slice-aggregate-same-bytes
+slice-aggregate-same-bytes c = search needs
+
+same-bytes-requires : tie.Need-same-bytes-requires
+same-bytes-requires c κs = search needs
+
+returns : tie.Need-returns
+unfolding rel-field relRes
+returns c = rw (sym (c .before .same-bytes .ensures) ∙ c .if1 .taken)
+
+slice-aggregate-same-bytes-2 : tie.Need-slice-aggregate-same-bytes-2
+slice-aggregate-same-bytes-2 c = search needs
+
+same-bytes-requires-2 : tie.Need-same-bytes-requires-2
+same-bytes-requires-2 c κs = search needs
+
+returns-2 : tie.Need-returns-2
+unfolding rel-field relRes
+returns-2 c =
+    let e1 = c .before .before .before in
+    rw (no1 e1, sym (c .before .same-bytes2 .ensures) ∙ c .if2 .taken)
+
+slice-aggregate-same-bytes-3 : tie.Need-slice-aggregate-same-bytes-3
+slice-aggregate-same-bytes-3 c = search needs
+
+same-bytes-requires-3 : tie.Need-same-bytes-requires-3
+same-bytes-requires-3 c κs = search needs
+
+returns-3 : tie.Need-returns-3
+unfolding rel-field relRes
+returns-3 c =
+    let e2 = c .before .before .before in
+    let e1 = e2 .before .before .before in
+    rw (no1 e1, no2 e2, sym (c .before .same-bytes3 .ensures) ∙ c .if3 .taken)
+
+slice-aggregate-same-bytes-4 : tie.Need-slice-aggregate-same-bytes-4
+slice-aggregate-same-bytes-4 c = search needs
+
+same-bytes-requires-4 : tie.Need-same-bytes-requires-4
+same-bytes-requires-4 c κs = search needs
+
+returns-4 : tie.Need-returns-4
+unfolding rel-field relRes
+returns-4 c =
+    let e3 = c .before .before .before in
+    let e2 = e3 .before .before .before in
+    let e1 = e2 .before .before .before in
+    rw (no1 e1, no2 e2, no3 e3, sym (c .before .same-bytes4 .ensures) ∙ c .if4 .taken)
+
+slice-aggregate-same-bytes-5 : tie.Need-slice-aggregate-same-bytes-5
+slice-aggregate-same-bytes-5 c = search needs
+
+same-bytes-requires-5 : tie.Need-same-bytes-requires-5
+same-bytes-requires-5 c κs = search needs
+
+returns-5 : tie.Need-returns-5
+unfolding rel-field relRes
+returns-5 c =
+    let e4 = c .before .before .before in
+    let e3 = e4 .before .before .before in
+    let e2 = e3 .before .before .before in
+    let e1 = e2 .before .before .before in
+    rw (no1 e1, no2 e2, no3 e3, no4 e4, sym (c .before .same-bytes5 .ensures) ∙ c .if5 .taken)
+
+slice-aggregate-same-bytes-6 : tie.Need-slice-aggregate-same-bytes-6
+slice-aggregate-same-bytes-6 c = search needs
+
+same-bytes-requires-6 : tie.Need-same-bytes-requires-6
+same-bytes-requires-6 c κs = search needs
+
+returns-6 : tie.Need-returns-6
+unfolding rel-field relRes
+returns-6 c =
+    let e5 = c .before .before .before in
+    let e4 = e5 .before .before .before in
+    let e3 = e4 .before .before .before in
+    let e2 = e3 .before .before .before in
+    let e1 = e2 .before .before .before in
+    rw (no1 e1, no2 e2, no3 e3, no4 e4, no5 e5, sym (c .before .same-bytes6 .ensures) ∙ c .if6 .taken)
+
+returns-7 : tie.Need-returns-7
+unfolding rel-field relRes
+returns-7 c =
+    let e5 = c .before .before .before in
+    let e4 = e5 .before .before .before in
+    let e3 = e4 .before .before .before in
+    let e2 = e3 .before .before .before in
+    let e1 = e2 .before .before .before in
+    rw (no1 e1, no2 e2, no3 e3, no4 e4, no5 e5, no6 c)
+
+pub rel-field-spec : {M : Type 1} → statement M
+rel-field-spec =
+    tie.close
+    (tie.spec
+    slice-aggregate-same-bytes
+    same-bytes-requires
+    returns
+    slice-aggregate-same-bytes-2
+    same-bytes-requires-2
+    returns-2
+    slice-aggregate-same-bytes-3
+    same-bytes-requires-3
+    returns-3
+    slice-aggregate-same-bytes-4
+    same-bytes-requires-4
+    returns-4
+    slice-aggregate-same-bytes-5
+    same-bytes-requires-5
+    returns-5
+    slice-aggregate-same-bytes-6
+    same-bytes-requires-6
+    returns-6
+    returns-7)

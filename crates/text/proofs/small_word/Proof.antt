@@ -1,0 +1,53 @@
+-- `text::small_word` meets its contract. Assumes nothing.
+use borrow.Author.Needs.{needs}
+use mathlib.Core.Path.{_≡_, sym, _∙_}
+use mathlib.Core.Bool.{true, false}
+use mir.Syntax.{w32}
+use mir.Val.{toZ, ofZ}
+use Rattle.semantics.specs.Chart.{small}
+use Rattle.semantics.specs.Reading.{check}
+use Rattle.text.specs.Fields.{numberSaid, wordRes}
+use Rattle.text.proofs.small_word.Statement.{statement}
+use Rattle.text.proofs.small_word.Tie as tie
+
+enum-told : tie.Need-enum-told
+enum-told c = search needs
+
+enum-known-n : tie.Need-enum-known-n
+enum-known-n c = search needs
+
+inside-requires : tie.Need-inside-requires
+inside-requires c κs = search needs
+
+returns : tie.Need-returns
+unfolding wordRes numberSaid check
+returns c =
+    let a = c .before .before .before in
+    let z = a .n .given .0 .0 in
+    let q : toZ w32 (ofZ w32 z) ≡ z = search needs in
+    let m : small z ≡ true = rw q at (sym (c .before .inside .ensures) ∙ c .if1 .taken) in
+    simp (a .n .given .1, q, m)
+
+returns-2 : tie.Need-returns-2
+unfolding wordRes numberSaid check
+returns-2 c = simp (c .enum-told .given .1)
+
+returns-3 : tie.Need-returns-3
+unfolding wordRes numberSaid check
+returns-3 c =
+    let a = c .before .before .before in
+    let z = a .n .given .0 .0 in
+    let q : toZ w32 (ofZ w32 z) ≡ z = search needs in
+    let m : small z ≡ false = rw q at (sym (c .before .inside .ensures) ∙ c .if1 .left) in
+    simp (a .n .given .1, m)
+
+pub small-word-spec : {M : Type 1} → statement M
+small-word-spec =
+    tie.close
+    (tie.spec
+    enum-told
+    enum-known-n
+    inside-requires
+    returns
+    returns-2
+    returns-3)

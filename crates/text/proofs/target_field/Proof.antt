@@ -1,0 +1,57 @@
+-- `text::target_field` meets its contract: a `$`, and a number without sign. Assumes nothing.
+use borrow.Author.Needs.{needs}
+use mathlib.Core.Path.{sym, ap, _∙_}
+use Rattle.semantics.specs.Reading.{below-or}
+use Rattle.text.specs.Fields.{numberSaid, indexRes}
+use Rattle.text.specs.declared.NumberRead.{NumberRead}
+use Rattle.text.proofs.Digits.{below-or-cut}
+use Rattle.text.proofs.Judged.{target-none, target-other, target-is}
+use Rattle.text.proofs.target_field.Statement.{statement}
+use Rattle.text.proofs.target_field.Tie as tie
+
+returns : tie.Need-returns
+unfolding indexRes
+returns c = sym (target-none _ _ (c .if1 .taken))
+
+shared-slice-read-if2 : tie.Need-shared-slice-read-if2
+shared-slice-read-if2 c = search needs
+
+returns-2 : tie.Need-returns-2
+unfolding indexRes
+returns-2 c = sym (target-other _ _ (c .if2 .taken))
+
+sub-unsigned : tie.Need-sub-unsigned
+sub-unsigned c = search needs
+
+part-unsigned-start : tie.Need-part-unsigned-start
+part-unsigned-start c = search needs
+
+part-unsigned-end : tie.Need-part-unsigned-end
+part-unsigned-end c = search needs
+
+unsigned-requires : tie.Need-unsigned-requires
+unsigned-requires c κs = search needs
+
+below-requires : tie.Need-below-requires
+below-requires c κs = search needs
+
+returns-3 : tie.Need-returns-3
+returns-3 c =
+    let k = c .before .before .before in
+    let s = k .before .before .before .before in
+    c .below .ensures ∙ ap (λ (n : NumberRead). below-or (s .args .count) (numberSaid n)) (c .before .unsigned .ensures)
+    ∙ below-or-cut _ _ (s .pre) ∙ sym (target-is _ _ (k .before .before .if1 .left) (k .if2 .left))
+
+pub target-field-spec : {M : Type 1} → statement M
+target-field-spec =
+    tie.close
+    (tie.spec
+    returns
+    shared-slice-read-if2
+    returns-2
+    sub-unsigned
+    part-unsigned-start
+    part-unsigned-end
+    unsigned-requires
+    below-requires
+    returns-3)

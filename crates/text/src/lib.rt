@@ -1,0 +1,461 @@
+// Reading pieces of a text: its lines, the fields of a line, and what one field says or by which number it is refused.
+ghost use mathlib.Core.Path.{_≡_};
+ghost use Prim.Native.Nat.{_≤_, min};
+ghost use lib.Dec.{eqb};
+ghost use lib.ListN.{length, getD};
+ghost use Rattle.semantics.specs.Lists.{pick};
+ghost use Rattle.semantics.specs.Text.{same-bytes, between, fields, name-byte, name-ok, digits, natural-of, nonnegative, negative, number-of};
+ghost use Rattle.semantics.specs.Chart.{within, known, num, var};
+ghost use Rattle.semantics.specs.Reading.{ok, check, andThen, nth, none-empty, small-or, number-field, below-or, location-field, target-field, operand-field, init-field, kind-field, rel-field, op-word-field};
+ghost use Rattle.text.specs.Fields.{Found, naturalRead, numberRead, naturalSaid, numberSaid, indexRes, wordRes, initRes, operandRes, flagRes, relRes, opWordRes};
+
+pub fn same_bytes(a: &[u8], b: &[u8]) -> bool
+    ensures { λ r. ⌜ r ≡ same-bytes (now (a .entry)) (now (b .entry)) ⌝ }
+{
+    if a.len() != b.len() {
+        return false;
+    }
+    let mut i = 0;
+    while i < a.len() {
+        if a[i] != b[i] {
+            return false;
+        }
+        i += 1;
+    }
+    true
+}
+
+// The place of the first b at or after `from`, or the length.
+fn find(text: &[u8], from: usize, b: u8) -> usize
+    ensures { λ r. ⌜ Found b (now (text .entry)) from r ⌝ }
+{
+    let mut i = from;
+    while i < text.len() {
+        if text[i] == b {
+            return i;
+        }
+        i += 1;
+    }
+    i
+}
+
+// The place of the first LF at or after `from`, or the length.
+pub fn line_end(text: &[u8], from: usize) -> usize
+    ensures { λ r. ⌜ Found 10 (now (text .entry)) from r ⌝ }
+{
+    find(text, from, 10)
+}
+
+// Field k of a line, as a part of it; empty past the last.
+pub fn field(line: &[u8], k: usize) -> &[u8]
+    ensures { λ r. ⌜ now r ≡ nth (fields (now (line .entry))) k ⌝ }
+{
+    let mut at = 0;
+    let mut left = k;
+    loop {
+        let end = find(line, at, 9);
+        if left == 0 {
+            return &line[at..end];
+        }
+        if end == line.len() {
+            return &line[end..];
+        }
+        at = end + 1;
+        left -= 1;
+    }
+}
+
+// One more field where the byte is a tab.
+fn parted(b: u8) -> usize
+    ensures { λ r. ⌜ r ≡ pick (eqb b 9) 1 0 ⌝ }
+{
+    if b == 9 {
+        return 1;
+    }
+    0
+}
+
+pub fn field_count(line: &[u8]) -> usize
+    ensures { λ r. ⌜ r ≡ length (fields (now (line .entry))) ⌝ }
+{
+    let mut n = 1;
+    let mut i = 0;
+    while i < line.len() {
+        n += parted(line[i]);
+        i += 1;
+    }
+    n
+}
+
+pub fn none_empty(line: &[u8]) -> bool
+    ensures { λ r. ⌜ r ≡ none-empty (fields (now (line .entry))) ⌝ }
+{
+    let mut at = 0;
+    loop {
+        let end = find(line, at, 9);
+        if end == at {
+            return false;
+        }
+        if end == line.len() {
+            return true;
+        }
+        at = end + 1;
+    }
+}
+
+fn name_byte(b: u8) -> bool
+    ensures { λ r. ⌜ r ≡ name-byte b ⌝ }
+{
+    ((65 <= b) & (b <= 90)) | ((97 <= b) & (b <= 122)) | ((48 <= b) & (b <= 57)) | (b == 45)
+}
+
+pub fn name_ok(f: &[u8]) -> bool
+    ensures { λ r. ⌜ r ≡ name-ok (now (f .entry)) ⌝ }
+{
+    if f.len() < 1 {
+        return false;
+    }
+    if 16 < f.len() {
+        return false;
+    }
+    let mut i = 0;
+    while i < f.len() {
+        if !name_byte(f[i]) {
+            return false;
+        }
+        i += 1;
+    }
+    true
+}
+
+// A number without sign, cut at 100,000.
+enum Natural {
+    Malformed,
+    Is(u32),
+}
+
+// A number, its magnitude cut at 100,000. Named so since a function is called `number`.
+pub enum NumberRead {
+    Malformed,
+    Is(i32),
+}
+
+fn cut(n: u32) -> u32
+    ensures { λ r. ⌜ r ≡ min n 100000 ⌝ }
+{
+    if n < 100000 { n } else { 100000 }
+}
+
+fn wide(b: u8) -> u32
+    ensures { λ r. ⌜ r ≡ b ⌝ }
+{
+    b as u32
+}
+
+fn digits_in(f: &[u8]) -> Natural
+    ensures { λ r. ⌜ r ≡ naturalRead (digits 0 (now (f .entry))) ⌝ }
+{
+    let mut n: u32 = 0;
+    let mut i = 0;
+    while i < f.len() {
+        let b = wide(f[i]);
+        if b < 48 {
+            return Natural::Malformed;
+        }
+        if 57 < b {
+            return Natural::Malformed;
+        }
+        n = cut(n * 10 + (b - 48));
+        i += 1;
+    }
+    Natural::Is(n)
+}
+
+fn natural_in(f: &[u8]) -> Natural
+    ensures { λ r. ⌜ r ≡ naturalRead (natural-of (now (f .entry))) ⌝ }
+{
+    if f.len() == 0 {
+        return Natural::Malformed;
+    }
+    if f[0] != 48 {
+        return digits_in(f);
+    }
+    if f.len() == 1 {
+        return Natural::Is(0);
+    }
+    Natural::Malformed
+}
+
+fn plus(n: Natural) -> NumberRead
+    ensures { λ r. ⌜ r ≡ numberRead (nonnegative (naturalSaid n)) ⌝ }
+{
+    match n {
+        Natural::Malformed => NumberRead::Malformed,
+        Natural::Is(v) => NumberRead::Is(cut(v) as i32),
+    }
+}
+
+fn minus(n: Natural) -> NumberRead
+    ensures { λ r. ⌜ r ≡ numberRead (negative (naturalSaid n)) ⌝ }
+{
+    match n {
+        Natural::Malformed => NumberRead::Malformed,
+        Natural::Is(v) => {
+            if v == 0 {
+                return NumberRead::Malformed;
+            }
+            NumberRead::Is(0 - (cut(v) as i32))
+        }
+    }
+}
+
+// A number without sign.
+fn unsigned(f: &[u8]) -> NumberRead
+    ensures { λ r. ⌜ r ≡ numberRead (nonnegative (natural-of (now (f .entry)))) ⌝ }
+{
+    plus(natural_in(f))
+}
+
+// A number of any length.
+pub fn number(f: &[u8]) -> NumberRead
+    ensures { λ r. ⌜ r ≡ numberRead (number-of (now (f .entry))) ⌝ }
+{
+    if f.len() == 0 {
+        return NumberRead::Malformed;
+    }
+    if f[0] == 45 {
+        return minus(natural_in(&f[1..]));
+    }
+    unsigned(f)
+}
+
+// What a field says, or the refusal's number: a location or a variable by its number, a number, an operand, a test.
+pub enum Index {
+    Refused(u32),
+    Is(usize),
+}
+
+pub enum Word {
+    Refused(u32),
+    Is(i32),
+}
+
+pub enum Operand {
+    Refused(u32),
+    Number(i32),
+    Var(usize),
+}
+
+pub enum Flag {
+    Refused(u32),
+    Is(bool),
+}
+
+pub enum Relation {
+    Refused(u32),
+    Eq,
+    Ne,
+    Lt,
+    Le,
+    Gt,
+    Ge,
+}
+
+pub enum OpWord {
+    Refused(u32),
+    Set,
+    Add,
+    Sub,
+    In,
+    If,
+    Skip,
+}
+
+fn inside(lo: i32, hi: i32, z: i32) -> bool
+    ensures { λ r. ⌜ r ≡ within lo hi z ⌝ }
+{
+    (lo <= z) & (z <= hi)
+}
+
+fn small_word(n: NumberRead) -> Word
+    ensures { λ r. ⌜ wordRes r ≡ small-or (numberSaid n) ⌝ }
+{
+    match n {
+        NumberRead::Malformed => Word::Refused(6),
+        NumberRead::Is(z) => {
+            if inside(-32768, 32767, z) {
+                return Word::Is(z);
+            }
+            Word::Refused(7)
+        }
+    }
+}
+
+pub fn number_field(f: &[u8]) -> Word
+    ensures { λ r. ⌜ wordRes r ≡ number-field (now (f .entry)) ⌝ }
+{
+    small_word(number(f))
+}
+
+// One of the first `count` numbers.
+fn below(count: usize, n: NumberRead) -> Index
+    ensures { λ r. ⌜ indexRes r ≡ below-or count (numberSaid n) ⌝ }
+{
+    match n {
+        NumberRead::Malformed => Index::Refused(6),
+        NumberRead::Is(z) => {
+            if z < 0 {
+                return Index::Refused(10);
+            }
+            let k = words::magnitude(z);
+            if k < count {
+                return Index::Is(k);
+            }
+            Index::Refused(10)
+        }
+    }
+}
+
+pub fn location_field(count: usize, f: &[u8]) -> Index
+    requires { ⌜ count ≤ 256 ⌝ }
+    ensures { λ r. ⌜ indexRes r ≡ location-field count (now (f .entry)) ⌝ }
+{
+    below(count, number(f))
+}
+
+pub fn target_field(count: usize, f: &[u8]) -> Index
+    requires { ⌜ count ≤ 256 ⌝ }
+    ensures { λ r. ⌜ indexRes r ≡ target-field count (now (f .entry)) ⌝ }
+{
+    if f.len() == 0 {
+        return Index::Refused(6);
+    }
+    if f[0] != 36 {
+        return Index::Refused(6);
+    }
+    below(count, unsigned(&f[1..]))
+}
+
+// The byte that a field begins with; 0 where it is empty.
+fn first(f: &[u8]) -> u8
+    ensures { λ r. ⌜ r ≡ getD (now (f .entry)) 0 0 ⌝ }
+{
+    if f.len() == 0 {
+        return 0;
+    }
+    f[0]
+}
+
+fn as_variable(k: Index) -> Operand
+    ensures { λ r. ⌜ operandRes r ≡ andThen (indexRes k) (λ n. ok (var n)) ⌝ }
+{
+    match k {
+        Index::Refused(n) => Operand::Refused(n),
+        Index::Is(v) => Operand::Var(v),
+    }
+}
+
+fn as_number(w: Word) -> Operand
+    ensures { λ r. ⌜ operandRes r ≡ andThen (wordRes w) (λ z. ok (num z)) ⌝ }
+{
+    match w {
+        Word::Refused(n) => Operand::Refused(n),
+        Word::Is(z) => Operand::Number(z),
+    }
+}
+
+pub fn operand_field(count: usize, f: &[u8]) -> Operand
+    requires { ⌜ count ≤ 256 ⌝ }
+    ensures { λ r. ⌜ operandRes r ≡ operand-field count (now (f .entry)) ⌝ }
+{
+    if first(f) == 36 {
+        return as_variable(target_field(count, f));
+    }
+    as_number(number_field(f))
+}
+
+// An initial value that is a number.
+fn init_number(lo: i32, hi: i32, f: &[u8]) -> Word
+    ensures { λ r. ⌜ initRes r ≡ andThen (number-field (now (f .entry))) (λ z. check (within lo hi z) 7 (ok (known z))) ⌝ }
+{
+    match number_field(f) {
+        Word::Refused(n) => Word::Refused(n),
+        Word::Is(z) => {
+            if inside(lo, hi, z) {
+                return Word::Is(z);
+            }
+            Word::Refused(7)
+        }
+    }
+}
+
+// The word of an initial value: for `*`, the word of top.
+pub fn init_field(lo: i32, hi: i32, f: &[u8]) -> Word
+    ensures { λ r. ⌜ initRes r ≡ init-field lo hi (now (f .entry)) ⌝ }
+{
+    if same_bytes(f, b"*") {
+        return Word::Is(words::TOP);
+    }
+    init_number(lo, hi, f)
+}
+
+// Whether the location is an error location.
+pub fn kind_field(f: &[u8]) -> Flag
+    ensures { λ r. ⌜ flagRes r ≡ kind-field (now (f .entry)) ⌝ }
+{
+    if same_bytes(f, b"o") {
+        return Flag::Is(false);
+    }
+    if same_bytes(f, b"e") {
+        return Flag::Is(true);
+    }
+    Flag::Refused(6)
+}
+
+pub fn rel_field(f: &[u8]) -> Relation
+    ensures { λ r. ⌜ relRes r ≡ rel-field (now (f .entry)) ⌝ }
+{
+    if same_bytes(f, b"eq") {
+        return Relation::Eq;
+    }
+    if same_bytes(f, b"ne") {
+        return Relation::Ne;
+    }
+    if same_bytes(f, b"lt") {
+        return Relation::Lt;
+    }
+    if same_bytes(f, b"le") {
+        return Relation::Le;
+    }
+    if same_bytes(f, b"gt") {
+        return Relation::Gt;
+    }
+    if same_bytes(f, b"ge") {
+        return Relation::Ge;
+    }
+    Relation::Refused(6)
+}
+
+pub fn op_word_field(f: &[u8]) -> OpWord
+    ensures { λ r. ⌜ opWordRes r ≡ op-word-field (now (f .entry)) ⌝ }
+{
+    if same_bytes(f, b"set") {
+        return OpWord::Set;
+    }
+    if same_bytes(f, b"add") {
+        return OpWord::Add;
+    }
+    if same_bytes(f, b"sub") {
+        return OpWord::Sub;
+    }
+    if same_bytes(f, b"in") {
+        return OpWord::In;
+    }
+    if same_bytes(f, b"if") {
+        return OpWord::If;
+    }
+    if same_bytes(f, b"skip") {
+        return OpWord::Skip;
+    }
+    OpWord::Refused(6)
+}

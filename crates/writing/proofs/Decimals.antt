@@ -1,0 +1,66 @@
+-- The decimal digits of a number: those of its tenth, and its last. Assumes nothing.
+use mathlib.Core.Path.{_≡_, refl, sym, ap, subst, _∙_}
+use mathlib.Core.Bool.{Bool, true, false}
+use mathlib.Core.List.{List, [], _∷_, _++_, append-assoc}
+use Prim.Native.Nat.{ℕ, zero, suc, _+_, _/_, _%_, _≤_, _<_}
+use native.Mathlib.Omega.{arith}
+use lib.Dec.{T, ltb}
+use lib.ListN.{length, length-append}
+use lib.IntN.{ℤ, pos, negsuc, natAbs}
+use lib.Signed.{ltZ}
+use borrow.Author.Tests.{lt-ltb, le-ltb, ltb-true, ltb-false}
+use Rattle.semantics.specs.Text.{digits-of, decimal, decimalZ}
+
+abbrev last : ℕ → ℕ
+last n = 48 + n % 10
+
+abbrev digits-if : Bool → ℕ → ℕ → List ℕ → List ℕ
+digits-if t f n bs = elim t [ true ↦ last n ∷ bs | false ↦ digits-of f (n / 10) (last n ∷ bs) ]
+
+-- what stands behind stays behind
+digits-front : (f n : ℕ) (bs : List ℕ) → digits-of f n bs ≡ digits-of f n [] ++ bs
+unfolding digits-of
+digits-front zero n bs = refl
+digits-front (suc f) n bs = go (ltb n 10) (digits-front f (n / 10) (last n ∷ bs)) (digits-front f (n / 10) (last n ∷ []))
+  where
+    go : (t : Bool) → digits-of f (n / 10) (last n ∷ bs) ≡ digits-of f (n / 10) [] ++ (last n ∷ bs)
+        → digits-of f (n / 10) (last n ∷ []) ≡ digits-of f (n / 10) [] ++ (last n ∷ []) → digits-if t f n bs ≡ digits-if t f n [] ++ bs
+    go true p q = refl
+    go false p q = p ∙ rw q (sym (append-assoc (digits-of f (n / 10) []) (last n ∷ []) bs))
+
+-- more steps than enough change nothing
+digits-enough : (f g n : ℕ) (bs : List ℕ) → n ≤ f → n ≤ g → digits-of f n bs ≡ digits-of g n bs
+unfolding digits-of
+digits-enough zero zero n bs h k = refl
+digits-enough zero (suc g) n bs h k = ap (λ (t : Bool). digits-if t g n bs) (sym (lt-ltb n 10 (omega arith)))
+digits-enough (suc f) zero n bs h k = ap (λ (t : Bool). digits-if t f n bs) (lt-ltb n 10 (omega arith))
+digits-enough (suc f) (suc g) n bs h k = go (ltb n 10) refl (digits-enough f g (n / 10) (last n ∷ bs))
+  where
+    go : (t : Bool) → ltb n 10 ≡ t → (n / 10 ≤ f → n / 10 ≤ g → digits-of f (n / 10) (last n ∷ bs) ≡ digits-of g (n / 10) (last n ∷ bs)) → digits-if t f n bs ≡ digits-if t g n bs
+    go true e ih = refl
+    go false e ih = let l : 10 ≤ n = ltb-false n 10 e in ih (omega arith) (omega arith)
+
+pub decimal-one : (n : ℕ) → n < 10 → decimal n ≡ last n ∷ []
+unfolding digits-of
+decimal-one zero h = refl
+decimal-one (suc n) h = ap (λ (t : Bool). digits-if t n (suc n) []) (lt-ltb (suc n) 10 h)
+
+pub decimal-more : (n : ℕ) → 10 ≤ n → decimal n ≡ decimal (n / 10) ++ (last n ∷ [])
+unfolding digits-of
+decimal-more zero h = absurd (omega arith)
+decimal-more (suc n) h =
+    ap (λ (t : Bool). digits-if t n (suc n) []) (le-ltb (suc n) 10 h) ∙ digits-front n (suc n / 10) (last (suc n) ∷ [])
+    ∙ ap (λ (l : List ℕ). l ++ (last (suc n) ∷ [])) (digits-enough n (suc n / 10) (suc n / 10) [] (omega arith) (omega arith))
+
+-- one digit less
+pub decimal-shorter : (n : ℕ) → 10 ≤ n → length (decimal n) ≡ length (decimal (n / 10)) + 1
+decimal-shorter n h = ap length (decimal-more n h) ∙ length-append (decimal (n / 10)) (last n ∷ [])
+
+-- a number with its sign
+pub decimalZ-below : (z : ℤ) → ltZ z (pos 0) ≡ true → decimalZ z ≡ 45 ∷ decimal (natAbs z)
+decimalZ-below (pos n) e = absurd (omega (arith, ltb-true n 0 e))
+decimalZ-below (negsuc n) e = refl
+
+pub decimalZ-else : (z : ℤ) → ltZ z (pos 0) ≡ false → decimalZ z ≡ decimal (natAbs z)
+decimalZ-else (pos n) e = refl
+decimalZ-else (negsuc n) e = absurd (subst T e tt)

@@ -1,0 +1,69 @@
+-- `writing::put_bytes` meets its contract: the bytes passed are put. Assumes nothing.
+use borrow.Author.Needs.{needs}
+use native.Mathlib.Omega.{arith}
+use mathlib.Core.Path.{_≡_, refl, _∙_}
+use Prim.Native.Nat.{_-_, _≤_}
+use native.Mathlib.Numerals.{add-one}
+use denote.Ref.{now}
+use lib.ListN.{length, take}
+use lib.Seq.{take-suc, take-all}
+use Rattle.writing.specs.Writing.{Put}
+use Rattle.writing.proofs.Written.{put-none, put-then, put-same}
+use Rattle.writing.proofs.put_bytes.Statement.{statement}
+use Rattle.writing.proofs.put_bytes.Tie as tie
+
+abbrev Inv-loop : tie.InvT-loop
+Inv-loop out₀ at s place₀ i₀ out place i = (i ≤ length s) × (length out ≡ length out₀) × Put at (take i s) out₀ out place
+
+abbrev μ-loop : tie.MeasureT-loop
+μ-loop out₀ at s place₀ i₀ out place i = length s - i
+
+cut-requires : tie.Need-cut-requires Inv-loop μ-loop
+cut-requires c κs = search needs
+
+loop-holds : tie.Need-loop-holds Inv-loop μ-loop
+loop-holds c = (omega arith, refl, put-none _ _ _ (c .cut .ensures) (omega arith))
+
+shared-slice-read-put-byte : tie.Need-shared-slice-read-put-byte Inv-loop μ-loop
+shared-slice-read-put-byte c = search needs
+
+put-byte-requires : tie.Need-put-byte-requires Inv-loop μ-loop
+put-byte-requires c κs = search needs
+
+add-i : tie.Need-add-i Inv-loop μ-loop
+add-i c = search needs
+
+loop-less : tie.Need-loop-less Inv-loop μ-loop
+loop-less c = search needs
+
+loop-again : tie.Need-loop-again Inv-loop μ-loop
+loop-again c =
+    let p = c .before .before .put-byte in
+    let t = c .before .before .before .before .before in
+    let s = now (t .before .before .before .before .before .args .s) in (
+      omega arith,
+      p .kept .0 ∙ t .before .loop .inv .1,
+      rw (add-one, take-suc s (t .before .loop .i) 0 (t .loop-test .taken)) (put-then (t .before .loop .inv .2) (p .ensures)),
+    )
+
+same-length : tie.Need-same-length Inv-loop μ-loop
+same-length c = search needs
+
+returns : tie.Need-returns Inv-loop μ-loop
+returns c = put-same (take-all _ _ (c .loop-test .left)) (c .before .loop .inv .2)
+
+pub put-bytes-spec : {M : Type 1} → statement M
+put-bytes-spec =
+    tie.close
+    (tie.spec
+    Inv-loop
+    μ-loop
+    cut-requires
+    loop-holds
+    shared-slice-read-put-byte
+    put-byte-requires
+    add-i
+    loop-less
+    loop-again
+    same-length
+    returns)
