@@ -24,3 +24,4 @@ pub mod MarkedCases
 pub mod Simulate
 pub mod Verdicts
 pub mod Executions
+pub mod Formed

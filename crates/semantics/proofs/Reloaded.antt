@@ -19,7 +19,7 @@ use Rattle.semantics.specs.Outcomes.{put-in}
 use Rattle.semantics.proofs.ListFacts.{from-true}
 use Rattle.semantics.proofs.Values.{and-left, and-right, eqZ-same}
 
-all-each : (bs : List Bool) → T (all-of bs) → Every (λ b. T b) bs
+pub all-each : (bs : List Bool) → T (all-of bs) → Every (λ b. T b) bs
 all-each [] t = tt
 all-each (b ∷ bs) t = (and-left b (all-of bs) t, all-each bs (and-right b (all-of bs) t))
 
@@ -36,18 +36,18 @@ words-back : (xs : List ℤ) → map word (map val xs) ≡ xs
 words-back [] = refl
 words-back (x ∷ xs) = λ i. word-back x i ∷ words-back xs i
 
-slots-back : (n : ℕ) (xs : List ℤ) → T (all (below n) xs) → map pos (map natAbs xs) ≡ xs
+pub slots-back : (n : ℕ) (xs : List ℤ) → T (all (below n) xs) → map pos (map natAbs xs) ≡ xs
 slots-back n [] t = refl
 slots-back n (x ∷ xs) t =
     let p = pos-natAbs x (and-left (nonNeg x) (ltb (natAbs x) n) (and-left (below n x) (all (below n) xs) t)) in
     λ i. p i ∷ slots-back n xs (and-right (below n x) (all (below n) xs) t) i
 
-zeros-back : (ws : List ℤ) → T (zeros ws) → replicate (length ws) (pos 0) ≡ ws
+pub zeros-back : (ws : List ℤ) → T (zeros ws) → replicate (length ws) (pos 0) ≡ ws
 zeros-back [] t = refl
 zeros-back (x ∷ xs) t = let p = eqZ-same (pos 0) x (and-left (eqZ (pos 0) x) (zeros xs) t) in λ i. p i ∷ zeros-back xs (and-right (eqZ (pos 0) x) (zeros xs) t) i
 
 -- a part in use and zeros after it, within the first n words
-padded-back : (n k : ℕ) (ws : List ℤ) → k ≤ n → n ≤ length ws → T (zeros (drop k (take n ws))) → padded n (take k ws) ≡ take n ws
+pub padded-back : (n k : ℕ) (ws : List ℤ) → k ≤ n → n ≤ length ws → T (zeros (drop k (take n ws))) → padded n (take k ws) ≡ take n ws
 padded-back n k ws l h z =
     let front : take k (take n ws) ≡ take k ws = take-take k n ws l in
     let ln : length (take n ws) ≡ n = length-take-le n ws h in
@@ -59,13 +59,13 @@ padded-back n k ws l h z =
     ∙ take-append-drop k (take n ws)
 
 module _ (c : Chart) where
-  row-back : (r : List ℤ) → T (row-ok c r) → row (state-in r) ≡ r
+  pub row-back : (r : List ℤ) → T (row-ok c r) → row (state-in r) ≡ r
   row-back [] t = absurd t
   row-back (x ∷ xs) t =
       let p = pos-natAbs x (and-left (nonNeg x) (ltb (natAbs x) (length (c .locs))) (and-left (below (length (c .locs)) x) (all-pairs value-ok (c .vars) xs) t)) in
       λ i. p i ∷ words-back xs i
 
-  rows-back : (n : ℕ) (t : List ℤ) → T (rows-ok c n t) → each row (states-in (width c) n t) ≡ take (n * width c) t
+  pub rows-back : (n : ℕ) (t : List ℤ) → T (rows-ok c n t) → each row (states-in (width c) n t) ≡ take (n * width c) t
   rows-back zero t h = let z : 0 * width c ≡ 0 = omega arith in rw z
   rows-back (suc n) t h =
       let k = width c in
@@ -74,7 +74,7 @@ module _ (c : Chart) where
       let s : suc n * k ≡ k + n * k = omega arith in
       (λ i. p i ++ q i) ∙ sym (take-add k (n * k) t) ∙ ap (λ (m : ℕ). take m t) (sym s)
 
-  states-count : (n : ℕ) (t : List ℤ) → length (states-in (width c) n t) ≡ n
+  pub states-count : (n : ℕ) (t : List ℤ) → length (states-in (width c) n t) ≡ n
   states-count zero t = refl
   states-count (suc n) t = ap suc (states-count n (drop (width c) t))
 

@@ -10,7 +10,7 @@ use native.Mathlib.Omega.{arith}
 use lib.Dec.{T, ltb, eqb, eqb→eq, eqb-refl, ltb→lt}
 use lib.ListN.{length, length-append, length-map}
 use Rattle.semantics.specs.Lists.{In, some-of, get, pick}
-use Rattle.semantics.specs.Algorithm.{verdict-of, Domain, Step, halt, fault, to, Mode, Sep, Order, Old, New, Verdict, Open, Safe, Alarm, Full, Settings, Exploration, Out, on, alarmed, full, then, wait, wait-unless, drop-if, without, Taken, later, take-last, take-by, put-back, joined, note-unless, changed, wait-all, merged, rewait, stopped, store-if, stop-if, arrive, error-if, visit, leave, finish, with-copy, with-taken, iteration, run, start, Join, iterate-if, start-with, first-verdict}
+use Rattle.semantics.specs.Algorithm.{verdict-of, Domain, Step, halt, fault, to, Mode, Sep, Order, Old, New, Verdict, Open, Safe, Alarm, Full, Settings, Exploration, Out, on, alarmed, full, then, wait, join-unless, drop-if, without, Taken, later, take-last, take-by, put-back, joined, note-unless, changed, wait-all, merged, rewait, stopped, store-if, stop-if, arrive, error-if, visit, leave, finish, with-copy, with-taken, iteration, run, start, Join, iterate-if, start-with, first-verdict}
 use Rattle.semantics.proofs.ListFacts.{from-true, from-false, none-some, in-last}
 use Rattle.semantics.specs.Coverage.{Distinct, Queue, Every, Tidy}
 
@@ -41,7 +41,7 @@ join-queue n k w l h q = record { once = distinct-snoc k w h (q .once); used = �
 pub wait-queue : (n k : ℕ) (w : List ℕ) → k < n → Queue n w → Queue n (wait k w)
 wait-queue n k w l q = go (some-of (eqb k) w) refl
   where
-    go : (b : Bool) → some-of (eqb k) w ≡ b → Queue n (wait-unless b k w)
+    go : (b : Bool) → some-of (eqb k) w ≡ b → Queue n (join-unless b k w)
     go true e = q
     go false e = join-queue n k w l (some-not k w e) q
 

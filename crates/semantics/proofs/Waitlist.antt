@@ -7,21 +7,21 @@ use mathlib.Core.Option.{Option, none, some}
 use Prim.Native.Nat.{ℕ}
 use lib.Dec.{eqb, eqb→eq}
 use Rattle.semantics.specs.Lists.{In, some-of}
-use Rattle.semantics.specs.Algorithm.{Order, Old, New, wait, wait-unless, drop-if, without, Taken, later, take-last, take-by, put-back}
+use Rattle.semantics.specs.Algorithm.{Order, Old, New, wait, join-unless, drop-if, without, Taken, later, take-last, take-by, put-back}
 use Rattle.semantics.proofs.ListFacts.{from-true, none-some, some-at, at-in, in-left, in-last}
 
 -- a slot that is on the list stays on it
 pub wait-keeps : (k : ℕ) (w : List ℕ) (j : ℕ) → In j w → In j (wait k w)
 wait-keeps k w j h = go (some-of (eqb k) w)
   where
-    go : (b : Bool) → In j (wait-unless b k w)
+    go : (b : Bool) → In j (join-unless b k w)
     go true = h
     go false = in-left j w (k ∷ []) h
 
 pub wait-joins : (k : ℕ) (w : List ℕ) → In k (wait k w)
 wait-joins k w = go (some-of (eqb k) w) refl
   where
-    go : (b : Bool) → some-of (eqb k) w ≡ b → In k (wait-unless b k w)
+    go : (b : Bool) → some-of (eqb k) w ≡ b → In k (join-unless b k w)
     go true e =
         let r = some-at (eqb k) w (from-true e) in
         subst (λ (m : ℕ). In m w) (sym (eqb→eq k (r .1) (r .3))) (at-in w (r .0) (r .1) (r .2))

@@ -53,12 +53,12 @@ pub record Exploration (E : Type 0) : Type 0 where
 -- ---- the waitlist
 
 -- "a changed slot waits again, at the last-joined end, or keeps its place if already waiting"
-abbrev pub wait-unless : Bool → ℕ → List ℕ → List ℕ
-wait-unless true k w = w
-wait-unless false k w = w ++ (k ∷ [])
+abbrev pub join-unless : Bool → ℕ → List ℕ → List ℕ
+join-unless true k w = w
+join-unless false k w = w ++ (k ∷ [])
 
 abbrev pub wait : ℕ → List ℕ → List ℕ
-wait k w = wait-unless (some-of (eqb k) w) k w
+wait k w = join-unless (some-of (eqb k) w) k w
 
 abbrev pub wait-all : List ℕ → List ℕ → List ℕ
 wait-all [] w = w

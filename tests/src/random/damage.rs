@@ -29,7 +29,7 @@ const BAD_BYTES: [u8; 8] = [0x00, 0x0B, 0x0D, 0x1F, 0x20, 0x7F, 0x80, 0xFF];
 pub fn chart_file(random: &mut Random, file: &mut Vec<u8>) {
     let times = random.pick(&[1, 1, 1, 1, 2, 3]);
     for _ in 0..times {
-        match random.below(17) {
+        match random.below(20) {
             0 => lengthen(random, file),
             1 => bad_byte(random, file),
             2 => cut(random, file),
@@ -41,6 +41,7 @@ pub fn chart_file(random: &mut Random, file: &mut Vec<u8>) {
             13 => repeat_name(random, file),
             14 => dangling_reference(random, file),
             15 => number_out_of_range(random, file),
+            16..=18 => several_faults(random, file),
             _ => flip_byte(random, file),
         }
     }
@@ -146,6 +147,30 @@ fn replace_field(random: &mut Random, file: &mut Vec<u8>) {
         let place = random.below(fields.len());
         let word = if random.percent(75) { random.pick(&FIELDS) } else { random.pick(&WORDS) };
         fields[place] = word.as_bytes().to_vec();
+    });
+}
+
+/// Faults side by side on a line, which tell in what order they are judged.
+fn several_faults(random: &mut Random, file: &mut Vec<u8>) {
+    #[rustfmt::skip]
+    const FAULTS: [&str; 16] = [
+        "-0", "x_y", "07", "$-1", "$", "*", "99999", "-32769", "32768", "$9", "$4294967296", "64",
+        "-1", "4294967296", "", "mul",
+    ];
+    let repeats_name = random.percent(30);
+    if repeats_name {
+        repeat_name(random, file);
+    }
+    edit_fields(random, file, |random, fields| {
+        // With a name that is there already a fault after it counts first.
+        for place in 1 + usize::from(repeats_name)..fields.len() {
+            if random.percent(40) {
+                fields[place] = random.pick(&FAULTS).as_bytes().to_vec();
+            }
+        }
+        if random.percent(10) {
+            fields.push(b"0".to_vec());
+        }
     });
 }
 

@@ -1,0 +1,110 @@
+-- `rows::join_row` meets its contract: the row is what is joined so far, and then what is left to join. Assumes nothing.
+use mathlib.Core.Path.{_≡_, sym, refl, _∙_}
+use mathlib.Core.Bool.{_&&_}
+use mathlib.Core.List.{_++_}
+use Prim.Native.Nat.{_-_, _≤_, _<_}
+use native.Mathlib.Omega.{arith}
+use borrow.Author.Needs.{needs, sfits-of}
+use lib.IntN.{pos}
+use lib.ListN.{length, take, drop, getD, length-set}
+use mir.Syntax.{w32}
+use mir.ValLaws.{toZ-ofZ}
+use Rattle.words.proofs.Words.{bits-eqb}
+use Rattle.rows.specs.Rows.{word-join, words-join, same-words, row-join}
+use Rattle.rows.proofs.Turns.{join-turn, join-end, same-start, same-turn, same-end}
+use Rattle.rows.proofs.join_row.Statement.{statement}
+use Rattle.rows.proofs.join_row.Tie as tie
+
+abbrev Inv-loop : tie.InvT-loop
+Inv-loop s₀ e same₀ i₀ s same i =
+    (1 ≤ i) × (i ≤ length s) × (length s ≡ length s₀)
+    × (row-join e s₀ ≡ take i s ++ words-join (drop i e) (drop i s))
+    × (same-words (row-join e s₀) s₀ ≡ same && same-words (words-join (drop i e) (drop i s)) (drop i s))
+
+abbrev μ-loop : tie.MeasureT-loop
+μ-loop s₀ e same₀ i₀ s same i = length s - i
+
+loop-holds : tie.Need-loop-holds Inv-loop μ-loop
+loop-holds c = (omega arith, omega arith, refl, refl, same-start (c .args .e .now) (c .args .s .now) (omega arith))
+
+mul-x : tie.Need-mul-x Inv-loop μ-loop
+mul-x c = omega arith
+
+shared-slice-copy-out-x : tie.Need-shared-slice-copy-out-x Inv-loop μ-loop
+shared-slice-copy-out-x c = omega arith
+
+mul-y : tie.Need-mul-y Inv-loop μ-loop
+mul-y c = omega arith
+
+slice-copy-out-y : tie.Need-slice-copy-out-y Inv-loop μ-loop
+slice-copy-out-y c = omega arith
+
+join-word-requires : tie.Need-join-word-requires Inv-loop μ-loop
+join-word-requires c κs = search needs
+
+mul-z : tie.Need-mul-z Inv-loop μ-loop
+mul-z c = omega arith
+
+slice-set-from-z : tie.Need-slice-set-from-z Inv-loop μ-loop
+slice-set-from-z c = omega arith
+
+add-i : tie.Need-add-i Inv-loop μ-loop
+add-i c = omega arith
+
+loop-less : tie.Need-loop-less Inv-loop μ-loop
+loop-less c = simp length-set (omega arith)
+
+loop-again : tie.Need-loop-again Inv-loop μ-loop
+loop-again c =
+    let b = c .before .before .before .before in
+    let e = b .before .args .e .now in
+    let s = b .loop .s in
+    let i = b .loop .i in
+    let x = getD e i (pos 0) in
+    let y = getD s i (pos 0) in
+    let z = c .join-word .result in
+    let fy = sfits-of (c .before .y .given) in
+    let fz = sfits-of {z = z} (c .join-word .ok) in
+    let joined : z ≡ word-join x y = rw (toZ-ofZ w32 x (sfits-of (c .before .before .x .given)), toZ-ofZ w32 y fy) at (c .join-word .ensures) in
+    let he : i < length e = omega arith in
+    let hs : i < length s = omega arith in
+    let bz = toZ-ofZ w32 z fz in (
+      omega arith,
+      simp length-set (omega arith),
+      simp length-set (b .loop .inv .2),
+      rw bz (b .loop .inv .3 ∙ join-turn e s i he hs z joined),
+      rw (bits-eqb w32 {a = z} {b = y} fz fy, bz) (b .loop .inv .4 ∙ same-turn e s i he hs z joined (b .loop .same)),
+    )
+
+same-length : tie.Need-same-length Inv-loop μ-loop
+same-length c = c .before .loop .inv .2
+
+returns : tie.Need-returns Inv-loop μ-loop
+returns c =
+    let b = c .before in
+    let e = b .before .args .e .now in
+    let he : length e ≤ b .loop .i = omega arith in
+    let hs : length (b .loop .s) ≤ b .loop .i = omega arith in (
+      sym (b .loop .inv .4 ∙ same-end e (b .loop .s) (b .loop .i) he hs (b .loop .same)),
+      sym (b .loop .inv .3 ∙ join-end e (b .loop .s) (b .loop .i) he hs),
+    )
+
+pub join-row-spec : {M : Type 1} → statement M
+join-row-spec =
+    tie.close
+    (tie.spec
+    Inv-loop
+    μ-loop
+    loop-holds
+    mul-x
+    shared-slice-copy-out-x
+    mul-y
+    slice-copy-out-y
+    join-word-requires
+    mul-z
+    slice-set-from-z
+    add-i
+    loop-less
+    loop-again
+    same-length
+    returns)

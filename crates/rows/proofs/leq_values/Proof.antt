@@ -1,0 +1,79 @@
+-- `rows::leq_values` meets its contract: what is said of the whole is said of the words passed and of what is left. Assumes nothing.
+use mathlib.Core.Path.{_≡_, sym, refl, _∙_}
+use mathlib.Core.Bool.{_&&_}
+use Prim.Native.Nat.{_-_, _≤_}
+use native.Mathlib.Omega.{arith}
+use borrow.Author.Needs.{needs, sfits-of}
+use lib.IntN.{pos}
+use lib.ListN.{length, drop, getD}
+use mir.Syntax.{w32}
+use mir.ValLaws.{toZ-ofZ}
+use Rattle.rows.specs.Rows.{word-leq, words-leq}
+use Rattle.rows.proofs.Turns.{leq-turn, leq-end}
+use Rattle.rows.proofs.leq_values.Statement.{statement}
+use Rattle.rows.proofs.leq_values.Tie as tie
+
+abbrev Inv-loop : tie.InvT-loop
+Inv-loop s e ok₀ i₀ ok i = (1 ≤ i) × (i ≤ length s) × (words-leq (drop 1 e) (drop 1 s) ≡ ok && words-leq (drop i e) (drop i s))
+
+abbrev μ-loop : tie.MeasureT-loop
+μ-loop s e ok₀ i₀ ok i = length s - i
+
+loop-holds : tie.Need-loop-holds Inv-loop μ-loop
+loop-holds c = (omega arith, omega arith, refl)
+
+mul-x : tie.Need-mul-x Inv-loop μ-loop
+mul-x c = omega arith
+
+shared-slice-copy-out-x : tie.Need-shared-slice-copy-out-x Inv-loop μ-loop
+shared-slice-copy-out-x c = omega arith
+
+mul-y : tie.Need-mul-y Inv-loop μ-loop
+mul-y c = omega arith
+
+shared-slice-copy-out-y : tie.Need-shared-slice-copy-out-y Inv-loop μ-loop
+shared-slice-copy-out-y c = omega arith
+
+leq-word-requires : tie.Need-leq-word-requires Inv-loop μ-loop
+leq-word-requires c κs = search needs
+
+add-i : tie.Need-add-i Inv-loop μ-loop
+add-i c = omega arith
+
+loop-less : tie.Need-loop-less Inv-loop μ-loop
+loop-less c = omega arith
+
+loop-again : tie.Need-loop-again Inv-loop μ-loop
+loop-again c =
+    let b = c .before .before .before .before in
+    let a = b .before .args in
+    let e = a .e .now in
+    let s = a .s .now in
+    let i = b .loop .i in
+    let bx = toZ-ofZ w32 (getD e i (pos 0)) (sfits-of (c .before .before .x .given)) in
+    let by = toZ-ofZ w32 (getD s i (pos 0)) (sfits-of (c .before .y .given)) in
+    let found : c .leq-word .result ≡ word-leq (getD e i (pos 0)) (getD s i (pos 0)) = rw (bx, by) at (c .leq-word .ensures) in
+    (omega arith, omega arith, b .loop .inv .2 ∙ leq-turn e s i (omega arith) (omega arith) (b .loop .ok) ∙ rw found)
+
+returns : tie.Need-returns Inv-loop μ-loop
+returns c =
+    let b = c .before in
+    let a = b .before .args in
+    sym (b .loop .inv .2 ∙ leq-end (a .e .now) (a .s .now) (b .loop .i) (omega arith) (omega arith) (b .loop .ok))
+
+pub leq-values-spec : {M : Type 1} → statement M
+leq-values-spec =
+    tie.close
+    (tie.spec
+    Inv-loop
+    μ-loop
+    loop-holds
+    mul-x
+    shared-slice-copy-out-x
+    mul-y
+    shared-slice-copy-out-y
+    leq-word-requires
+    add-i
+    loop-less
+    loop-again
+    returns)

@@ -1,0 +1,47 @@
+-- `rows::merge_row` meets its contract. Assumes nothing.
+use mathlib.Core.Path.{sym}
+use borrow.Author.Needs.{needs, sfits-of}
+use lib.IntN.{pos}
+use lib.ListN.{getD}
+use mir.Syntax.{w32}
+use Rattle.words.proofs.Words.{bits-eq, bits-ne}
+use Rattle.rows.proofs.Turns.{same-refl}
+use Rattle.rows.proofs.merge_row.Statement.{statement}
+use Rattle.rows.proofs.merge_row.Tie as tie
+
+shared-slice-copy-out-l : tie.Need-shared-slice-copy-out-l
+shared-slice-copy-out-l c = search needs
+
+slice-copy-out-m : tie.Need-slice-copy-out-m
+slice-copy-out-m c = search needs
+
+join-row-requires : tie.Need-join-row-requires
+join-row-requires c κs = search needs
+
+same-length : tie.Need-same-length
+same-length c = search needs
+
+returns : tie.Need-returns
+returns c =
+    let p = c .before .before .before .before in
+    let a = p .before .before .args in
+    let q = bits-eq w32 {a = getD (a .e .now) 0 (pos 0)} {b = getD (a .s .now) 0 (pos 0)} (sfits-of (p .before .l .given)) (sfits-of (p .m .given)) (c .before .before .before .if1 .taken) in
+    rw q (c .before .join-row .ensures)
+
+returns-2 : tie.Need-returns-2
+returns-2 c =
+    let p = c .before in
+    let a = p .before .before .args in
+    let q = bits-ne w32 {a = getD (a .e .now) 0 (pos 0)} {b = getD (a .s .now) 0 (pos 0)} (sfits-of (p .before .l .given)) (sfits-of (p .m .given)) (c .if1 .left) in
+    (rw q (sym (same-refl (a .s .now))), rw q)
+
+pub merge-row-spec : {M : Type 1} → statement M
+merge-row-spec =
+    tie.close
+    (tie.spec
+    shared-slice-copy-out-l
+    slice-copy-out-m
+    join-row-requires
+    same-length
+    returns
+    returns-2)

@@ -1,0 +1,81 @@
+-- One abstract state as a row of words, its location and then one word a variable: order, join and merge, with no word on the rows'
+-- form; rows of a table; and the rows as a domain of the algorithm. Assumes nothing.
+use mathlib.Core.Bool.{Bool, false, _&&_, _||_}
+use mathlib.Core.List.{List, [], _∷_, _++_}
+use Prim.Native.Nat.{ℕ, zero, suc}
+use lib.IntN.{ℤ, pos}
+use lib.ListN.{take, drop, getD}
+use Rattle.semantics.specs.Lists.{pick, all-pairs}
+use Rattle.semantics.specs.Chart.{eqZ}
+use Rattle.semantics.specs.Algorithm.{Domain, Step}
+
+-- ---- words, 32,768 being top
+
+abbrev pub word-leq : ℤ → ℤ → Bool
+word-leq x y = eqZ y (pos 32768) || eqZ x y
+
+abbrev pub word-join : ℤ → ℤ → ℤ
+word-join x y = pick (eqZ x y) y (pos 32768)
+
+abbrev pub words-leq : List ℤ → List ℤ → Bool
+words-leq e s = all-pairs word-leq e s
+
+abbrev pub words-join : List ℤ → List ℤ → List ℤ
+words-join [] s = s
+words-join (x ∷ e) [] = []
+words-join (x ∷ e) (y ∷ s) = word-join x y ∷ words-join e s
+
+abbrev pub same-words : List ℤ → List ℤ → Bool
+same-words e s = all-pairs eqZ e s
+
+-- ---- rows
+
+abbrev pub same-place : List ℤ → List ℤ → Bool
+same-place e s = eqZ (getD e 0 (pos 0)) (getD s 0 (pos 0))
+
+-- the row e lies under the row s
+abbrev pub row-leq : List ℤ → List ℤ → Bool
+row-leq e s = same-place e s && words-leq (drop 1 e) (drop 1 s)
+
+-- e joined into s
+abbrev pub row-join : List ℤ → List ℤ → List ℤ
+row-join e s = take 1 s ++ words-join (drop 1 e) (drop 1 s)
+
+-- the same where the locations agree, else s
+abbrev pub row-merge : List ℤ → List ℤ → List ℤ
+row-merge e s = pick (same-place e s) (row-join e s) s
+
+-- the join of rows of one place
+abbrev pub join-of : List ℤ → List (List ℤ) → List ℤ
+join-of x [] = x
+join-of x (y ∷ ys) = join-of (row-join x y) ys
+
+abbrev pub leq-join-of : List ℤ → List (List ℤ) → Bool
+leq-join-of e [] = false
+leq-join-of e (x ∷ xs) = row-leq e (join-of x xs)
+
+-- ---- tables
+
+-- the first n rows, of w words each
+abbrev pub rows-of : ℕ → ℕ → List ℤ → List (List ℤ)
+rows-of w zero t = []
+rows-of w (suc n) t = take w t ∷ rows-of w n (drop w t)
+
+-- the first n rows, of w words each, merged with e; the words after them stay
+abbrev pub rows-merge : List ℤ → ℕ → ℕ → List ℤ → List ℤ
+rows-merge e w zero t = t
+rows-merge e w (suc n) t = row-merge e (take w t) ++ rows-merge e w n (drop w t)
+
+-- ---- the rows as a domain, over the transfer by an edge, counted from 0 here, and the test of an error location
+
+abbrev pub row-domain : (ℕ → List ℤ → Step (List ℤ)) → (List ℤ → Bool) → Domain (List ℤ) ℕ
+row-domain post error = record {
+  number = λ g. suc g;
+  post = post;
+  error = error;
+  same-place = same-place;
+  equal = same-words;
+  leq = row-leq;
+  merge = row-join;
+  leq-join = leq-join-of;
+}

@@ -1,0 +1,218 @@
+-- The effect of an operation on a row's words is its effect on the values that they say. Assumes nothing.
+use mathlib.Core.Path.{_≡_, refl, sym, ap, _∙_}
+use mathlib.Core.Bool.{Bool, true, false, _||_}
+use mathlib.Core.List.{List, [], _∷_, _++_, map}
+use mathlib.Core.Option.{Option, none, some}
+use Prim.Native.Nat.{ℕ, zero, suc, _+_, _<_}
+use native.Mathlib.Numerals.{add-one}
+use native.Mathlib.Omega.{arith}
+use lib.Dec.{T, ltb→lt}
+use lib.IntN.{ℤ, pos, natAbs, _+ℤ_, _-ℤ_}
+use lib.ListN.{length, getD, set, List·getD-map}
+use lib.Signed.{leZ}
+use Rattle.semantics.specs.Lists.{pick, some-if, all}
+use Rattle.semantics.specs.Chart.{Value, known, top, Var, Operand, num, var, Rel, eq, ne, lt, le, gt, ge, Op, assign, add, sub, input, assume, skip, Chart, eqZ, small, holds, in-range}
+use Rattle.semantics.specs.Algorithm.{Step, halt, to}
+use Rattle.semantics.specs.Constants.{operand-value, both, assign-value, one-of, one-known, tested, effect}
+use Rattle.semantics.specs.Encoding.{word, tag, held, rel-code, op-words, encode, count, var-ok, operand-ok, op-ok, chart-ok}
+use Rattle.semantics.proofs.Values.{and-left, and-right}
+use Rattle.semantics.proofs.StatesOk.{ValOk, ValsOk}
+use Rattle.semantics.proofs.Stored.{not-any}
+use Rattle.words.proofs.Words.{eqZ-true}
+use Rattle.rows.specs.Rows.{word-join}
+use Rattle.transfer.specs.Transfer.{step-of, operand-at, set-ranged, set-value, assign-at, add-at, sub-at, input-at, holds-by, refine-by, tested-by, assume-at, op-by}
+use Rattle.transfer.proofs.Places.{range-is}
+
+-- a value whose word is top's only where it is top
+abbrev pub Plain : Value → Type 0
+Plain (known z) = eqZ z (pos 32768) ≡ false
+Plain top = Unit
+
+small-plain : (z : ℤ) → T (small z) → Plain (known z)
+small-plain z t = not-any z (pos 32767) (search (and-left, and-right)) tt
+
+value-plain : (v : Var) (x : Value) → T (var-ok v) → ValOk v x → Plain x
+value-plain v (known z) t h =
+    let p : T (leZ z (v .hi)) = search (and-left, and-right) in
+    let q : T (leZ (v .hi) (pos 32767)) = search (and-left, and-right) depth 8 in
+    not-any z (v .hi) p q
+value-plain v top t h = tt
+
+-- each value of a list
+abbrev pub AllPlain : List Value → Type 0
+AllPlain [] = Unit
+AllPlain (x ∷ xs) = Plain x × AllPlain xs
+
+pub values-plain : (vars : List Var) (xs : List Value) → T (all var-ok vars) → ValsOk vars xs → AllPlain xs
+values-plain [] [] t h = tt
+values-plain [] (x ∷ xs) t h = absurd h
+values-plain (v ∷ vs) [] t h = absurd h
+values-plain (v ∷ vs) (x ∷ xs) t h = (value-plain v x (and-left (var-ok v) (all var-ok vs) t) (h .0), values-plain vs xs (and-right (var-ok v) (all var-ok vs) t) (h .1))
+
+get-plain : (xs : List Value) (k : ℕ) → AllPlain xs → Plain (getD xs k (known (pos 0)))
+get-plain [] k h = refl
+get-plain (x ∷ xs) zero h = h .0
+get-plain (x ∷ xs) (suc k) h = get-plain xs k (h .1)
+
+map-set : (xs : List Value) (k : ℕ) (x : Value) → set (map word xs) k (word x) ≡ map word (set xs k x)
+map-set [] k x = refl
+map-set (y ∷ ys) zero x = refl
+map-set (y ∷ ys) (suc k) x = ap (λ (l : List ℤ). word y ∷ l) (map-set ys k x)
+
+-- the row of location word l that an outcome says
+abbrev pub row-step : ℤ → Option (List Value) → Step (List ℤ)
+row-step l none = halt
+row-step l (some xs) = to (l ∷ map word xs)
+
+module _ (c : Chart) (ok : T (chart-ok c)) (rest : List ℤ) (l : ℤ) (xs : List Value) (plain : AllPlain xs) where
+  abbrev ws : List ℤ
+  ws = encode c ++ rest
+
+  abbrev e : List ℤ
+  e = l ∷ map word xs
+
+  get-word : (k : ℕ) → getD e (k + 1) (pos 0) ≡ word (getD xs k (known (pos 0)))
+  get-word k = rw (add-one k) (List·getD-map word xs k (known (pos 0)))
+
+  set-word : (k : ℕ) (x : Value) → set e (k + 1) (word x) ≡ l ∷ map word (set xs k x)
+  set-word k x = rw (add-one k) (ap (λ (m : List ℤ). l ∷ m) (map-set xs k x))
+
+  set-ranged-is : (k : ℕ) (z : ℤ) → k < length (c .vars) → set-ranged ws k z e ≡ row-step l (assign-value (c .vars) k (known z) xs)
+  unfolding set-ranged
+  set-ranged-is k z h = (λ i. step-of (range-is c ok rest k z h i) (set-word k (known z) i)) ∙ go (in-range (c .vars) k z)
+    where
+      go : (t : Bool) → step-of t (l ∷ map word (set xs k (known z))) ≡ row-step l (some-if t (set xs k (known z)))
+      go true = refl
+      go false = refl
+
+  top-is : (k : ℕ) → to (set e (k + 1) (pos 32768)) ≡ row-step l (some (set xs k top))
+  top-is k = ap to (set-word k top)
+
+  assign-is : (k : ℕ) (x : Value) → k < length (c .vars) → Plain x → set-value ws k (eqZ (word x) (pos 32768)) (word x) e ≡ row-step l (assign-value (c .vars) k x xs)
+  unfolding set-value
+  assign-is k (known z) h p = rw p (set-ranged-is k z h)
+  assign-is k top h p = top-is k
+
+  both-is : (f : ℤ → ℤ → ℤ) (k : ℕ) (x y : Value) → k < length (c .vars) → Plain x → Plain y
+      → set-value ws k (eqZ (word x) (pos 32768) || eqZ (word y) (pos 32768)) (f (word x) (word y)) e ≡ row-step l (assign-value (c .vars) k (both f x y) xs)
+  unfolding set-value
+  both-is f k (known a) (known b) h p q = rw (p, q) (set-ranged-is k (f a b) h)
+  both-is f k (known a) top h p q = rw p (top-is k)
+  both-is f k top (known b) h p q = top-is k
+  both-is f k top top h p q = top-is k
+
+  join-is : (k : ℕ) (p q : ℤ) → to (set e (k + 1) (word-join p q)) ≡ row-step l (some (set xs k (one-of (eqZ p q) p)))
+  join-is k p q = ap (λ (z : ℤ). to (set e (k + 1) z)) (go (eqZ p q) refl) ∙ ap to (set-word k (one-of (eqZ p q) p))
+    where
+      go : (t : Bool) → eqZ p q ≡ t → pick t q (pos 32768) ≡ word (one-of t p)
+      go true h = sym (eqZ-true p q h)
+      go false h = refl
+
+  -- ---- tests
+
+  holds-is : (r : Rel) (a b : ℤ) → holds-by (rel-code r) a b ≡ holds r a b
+  unfolding holds-by
+  holds-is eq a b = refl
+  holds-is ne a b = refl
+  holds-is lt a b = refl
+  holds-is le a b = refl
+  holds-is gt a b = refl
+  holds-is ge a b = refl
+
+  refine-is : (r : Rel) (k : ℕ) (z : ℤ) → k < length (c .vars) → Plain (known z) → refine-by ws (rel-code r) k z e ≡ row-step l (one-known (c .vars) r (var k) z xs)
+  unfolding refine-by
+  refine-is eq k z h p = rw p (set-ranged-is k z h)
+  refine-is ne k z h p = refl
+  refine-is lt k z h p = refl
+  refine-is le k z h p = refl
+  refine-is gt k z h p = refl
+  refine-is ge k z h p = refl
+
+  nothing-known : (r : Rel) (k : ℕ) → refine-by ws (rel-code r) k (pos 32768) e ≡ to e
+  unfolding refine-by
+  nothing-known eq k = refl
+  nothing-known ne k = refl
+  nothing-known lt k = refl
+  nothing-known le k = refl
+  nothing-known gt k = refl
+  nothing-known ge k = refl
+
+  -- only a variable is at top
+  abbrev Sided : Operand → Value → Type 0
+  Sided (num z) (known y) = Unit
+  Sided (num z) top = ⊥
+  Sided (var j) y = Unit
+
+  step-holds : (t : Bool) → step-of t e ≡ row-step l (some-if t xs)
+  step-holds true = refl
+  step-holds false = refl
+
+  tested-is : (r : Rel) (k : ℕ) (a : Operand) (x y : Value) → k < length (c .vars) → T (operand-ok (c .vars) a) → Plain x → Plain y → Sided a y
+      → tested-by ws (rel-code r) k (natAbs (held a)) (word x) (word y) e ≡ row-step l (tested (c .vars) r (var k) a x y xs)
+  unfolding tested-by
+  tested-is r k a (known x) (known y) h o p q s = rw (p, q, holds-is r x y) (step-holds (holds r x y))
+  tested-is r k (num z) (known x) top h o p q s = absurd s
+  tested-is r k (var j) (known x) top h o p q s = rw p (refine-is r j x (ltb→lt j (length (c .vars)) o) p)
+  tested-is r k a top (known y) h o p q s = refine-is r k y h q
+  tested-is r k a top top h o p q s = nothing-known r k
+
+  -- ---- operands
+
+  operand-plain : (a : Operand) → T (operand-ok (c .vars) a) → Plain (operand-value a xs)
+  operand-plain (num z) o = small-plain z o
+  operand-plain (var k) o = get-plain xs k plain
+
+  operand-sided : (a : Operand) → Sided a (operand-value a xs)
+  operand-sided (num z) = tt
+  operand-sided (var j) = tt
+
+  module _ (i : ℕ) where
+    operand-is : (a : Operand) → getD ws i (pos 0) ≡ tag a → getD ws (i + 1) (pos 0) ≡ held a → operand-at ws i e ≡ word (operand-value a xs)
+    operand-is (num z) t h = rw (t, h)
+    operand-is (var k) t h = rw (t, h) (get-word k)
+
+  -- ---- the operations: the edge's words, from i on, are two for its locations and six for its operation
+  module _ (i : ℕ) (from goal : ℤ) where
+    abbrev pub Reads : Op → Type 0
+    Reads o = (j : ℕ) → j < 8 → getD ws (i + j) (pos 0) ≡ getD (from ∷ goal ∷ op-words o) j (pos 0)
+
+    next : (n : ℕ) {z : ℤ} → getD ws (i + suc n) (pos 0) ≡ z → getD ws (i + n + 1) (pos 0) ≡ z
+    next n h = let e : i + n + 1 ≡ i + suc n = omega arith in rw e h
+
+    pub effect-is : (o : Op) → T (op-ok (c .vars) o) → Reads o → op-by (count ws (i + 2)) ws i e ≡ row-step l (effect (c .vars) o xs)
+    unfolding op-by assign-at add-at sub-at input-at assume-at
+    effect-is skip t r = rw (r 2 (omega arith))
+    effect-is (assign v a) t r =
+        let k : v < length (c .vars) = ltb→lt v (length (c .vars)) (search (and-left, and-right)) in
+        let u : T (operand-ok (c .vars) a) = search (and-left, and-right) in
+        let p = operand-is (i + 4) a (r 4 (omega arith)) (next 4 (r 5 (omega arith))) in
+        rw (r 2 (omega arith), r 3 (omega arith), p) (assign-is v (operand-value a xs) k (operand-plain a u))
+    effect-is (add v a b) t r =
+        let k : v < length (c .vars) = ltb→lt v (length (c .vars)) (search (and-left, and-right)) in
+        let u : T (operand-ok (c .vars) a) = search (and-left, and-right) in
+        let w : T (operand-ok (c .vars) b) = search (and-left, and-right) in
+        let p = operand-is (i + 4) a (r 4 (omega arith)) (next 4 (r 5 (omega arith))) in
+        let q = operand-is (i + 6) b (r 6 (omega arith)) (next 6 (r 7 (omega arith))) in
+        rw (r 2 (omega arith), r 3 (omega arith), p, q) (both-is _+ℤ_ v (operand-value a xs) (operand-value b xs) k (operand-plain a u) (operand-plain b w))
+    effect-is (sub v a b) t r =
+        let k : v < length (c .vars) = ltb→lt v (length (c .vars)) (search (and-left, and-right)) in
+        let u : T (operand-ok (c .vars) a) = search (and-left, and-right) in
+        let w : T (operand-ok (c .vars) b) = search (and-left, and-right) in
+        let p = operand-is (i + 4) a (r 4 (omega arith)) (next 4 (r 5 (omega arith))) in
+        let q = operand-is (i + 6) b (r 6 (omega arith)) (next 6 (r 7 (omega arith))) in
+        rw (r 2 (omega arith), r 3 (omega arith), p, q) (both-is _-ℤ_ v (operand-value a xs) (operand-value b xs) k (operand-plain a u) (operand-plain b w))
+    effect-is (input v p q) t r = rw (r 2 (omega arith), r 3 (omega arith), r 5 (omega arith), r 7 (omega arith)) (join-is v p q)
+    effect-is (assume v g a) t r =
+        let k : v < length (c .vars) = ltb→lt v (length (c .vars)) (search (and-left, and-right)) in
+        let u : T (operand-ok (c .vars) a) = search (and-left, and-right) in
+        let p = operand-is (i + 4) a (r 4 (omega arith)) (next 4 (r 5 (omega arith))) in
+        coded g (ap natAbs (r 2 (omega arith)))
+        ∙ rw (r 3 (omega arith), r 5 (omega arith), p, get-word v) (tested-is g v a (operand-value (var v) xs) (operand-value a xs) k u (get-plain xs v plain) (operand-plain a u) (operand-sided a))
+      where
+        coded : (g : Rel) → count ws (i + 2) ≡ rel-code g → op-by (count ws (i + 2)) ws i e ≡ assume-at ws (rel-code g) i e
+        coded eq h = rw h
+        coded ne h = rw h
+        coded lt h = rw h
+        coded le h = rw h
+        coded gt h = rw h
+        coded ge h = rw h

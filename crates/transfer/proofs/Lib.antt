@@ -1,0 +1,5 @@
+pub mod Turns
+pub mod Places
+pub mod Effects
+pub mod Agree
+pub mod Said

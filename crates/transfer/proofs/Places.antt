@@ -1,0 +1,168 @@
+-- Where the words of an encoded chart stand: those of a variable, of a location and of an edge, with any words after. Assumes nothing.
+use mathlib.Core.Path.{_≡_, refl, sym, ap, _∙_}
+use mathlib.Core.Bool.{Bool, true, false}
+use mathlib.Core.List.{List, [], _∷_, _++_, map, append-assoc}
+use Prim.Native.Nat.{ℕ, zero, suc, _+_, _*_, _≤_, _<_}
+use native.Mathlib.Nat.{mul-suc, mul-zero}
+use native.Mathlib.Omega.{arith}
+use lib.Dec.{T, leb→le}
+use lib.IntN.{ℤ, pos}
+use lib.ListN.{length, getD, length-append, length-map, List·getD-append}
+use lib.Seq.{getD-append-add}
+use Rattle.semantics.specs.Lists.{At, each}
+use Rattle.semantics.specs.Text.{name-ok}
+use Rattle.semantics.specs.Chart.{Var, Loc, Op, assign, add, sub, input, assume, skip, Edge, Chart, eqZ, within, in-range, error-location, inits}
+use Rattle.semantics.specs.Coverage.{Every}
+use Rattle.semantics.specs.Encoding.{word, kind-word, var-words, loc-words, op-words, edge-words, encode, count, var-ok, chart-ok}
+use Rattle.semantics.proofs.Values.{and-left, and-right}
+use Rattle.semantics.proofs.StatesOk.{Bounds, bounds}
+use Rattle.semantics.proofs.Stored.{padded-length}
+use Rattle.semantics.proofs.Encoded.{every-of}
+use Rattle.transfer.specs.Transfer.{edge-at, error-row, initial-words, initial-row}
+
+pub at-some : {A : Type 0} (xs : List A) (n : ℕ) → n < length xs → (x : A) × At xs n x
+at-some [] n h = absurd (omega arith)
+at-some (x ∷ xs) zero h = (x, refl)
+at-some (x ∷ xs) (suc n) h = at-some xs n (omega arith)
+
+-- things of k words each, one after the other
+module _ {A : Type 0} (f : A → List ℤ) (k : ℕ) (Ok : A → Type 0) (wide : (x : A) → Ok x → length (f x) ≡ k) where
+  each-at : (xs : List A) (rest : List ℤ) (n : ℕ) (x : A) → Every Ok xs → At xs n x → (i : ℕ) → i < k → getD (each f xs ++ rest) (k * n + i) (pos 0) ≡ getD (f x) i (pos 0)
+  each-at [] rest n x h a i l = absurd a
+  each-at (y ∷ ys) rest zero x h a i l =
+      let e : k * 0 + i ≡ i = omega arith in
+      let w = wide y (h .0) in
+      rw (append-assoc (f y) (each f ys) rest, e, List·getD-append (f y) (each f ys ++ rest) (pos 0) i (omega arith)) (ap (λ (z : A). getD (f z) i (pos 0)) a)
+  each-at (y ∷ ys) rest (suc n) x h a i l =
+      let w = wide y (h .0) in
+      let e : k * suc n + i ≡ length (f y) + (k * n + i) = omega (arith, mul-suc k n) in
+      rw (append-assoc (f y) (each f ys) rest, e, getD-append-add (f y) (each f ys ++ rest) (k * n + i) (pos 0)) (each-at ys rest n x (h .1) a i l)
+
+  each-length : (xs : List A) → Every Ok xs → length (each f xs) ≡ k * length xs
+  each-length [] h = sym (mul-zero k)
+  each-length (x ∷ xs) h = omega (arith, length-append (f x) (each f xs), wide x (h .0), each-length xs (h .1), mul-suc k (length xs))
+
+  each-past : (xs : List A) (rest : List ℤ) (i : ℕ) → Every Ok xs → getD (each f xs ++ rest) (k * length xs + i) (pos 0) ≡ getD rest i (pos 0)
+  each-past xs rest i h = rw (← each-length xs h, getD-append-add (each f xs) rest i (pos 0))
+
+op-wide : (o : Op) → length (op-words o) ≡ 6
+op-wide (assign v a) = refl
+op-wide (add v a b) = refl
+op-wide (sub v a b) = refl
+op-wide (input v p q) = refl
+op-wide (assume v r a) = refl
+op-wide skip = refl
+
+name-short : (bs : List ℕ) → T (name-ok bs) → length bs ≤ 16
+name-short bs t = leb→le (length bs) 16 (search (and-left, and-right))
+
+loc-wide : (l : Loc) → T (name-ok (l .name)) → length (loc-words l) ≡ 17
+loc-wide l t = ap suc (padded-length 16 (map pos (l .name)) (omega (arith, length-map (l .name) pos, name-short (l .name) t)))
+
+edge-wide : (g : Edge) → Unit {0} → length (edge-words g) ≡ 8
+edge-wide g t = ap (λ (n : ℕ). suc (suc n)) (op-wide (g .op))
+
+every-any : {A : Type 0} (xs : List A) → Every (λ x. Unit {0}) xs
+every-any [] = tt
+every-any (x ∷ xs) = (tt, every-any xs)
+
+in-range-at : (vars : List Var) (k : ℕ) (v : Var) (z : ℤ) → At vars k v → in-range vars k z ≡ within (v .lo) (v .hi) z
+in-range-at [] k v z a = absurd a
+in-range-at (u ∷ us) zero v z a = ap (λ (w : Var). within (w .lo) (w .hi) z) a
+in-range-at (u ∷ us) (suc k) v z a = in-range-at us k v z a
+
+error-at : (locs : List Loc) (n : ℕ) (l : Loc) → At locs n l → error-location locs n ≡ l .error
+error-at [] n l a = absurd a
+error-at (m ∷ ms) zero l a = ap (λ (x : Loc). x .error) a
+error-at (m ∷ ms) (suc n) l a = error-at ms n l a
+
+kind-error : (b : Bool) → eqZ (kind-word b) (pos 1) ≡ b
+kind-error true = refl
+kind-error false = refl
+
+-- the variables' initial words
+initial-from : (before : List ℤ) (vars : List Var) (rest : List ℤ) (n : ℕ) → n ≡ length before + 2
+    → initial-words (before ++ (each var-words vars ++ rest)) n (length vars) ≡ map word (inits vars)
+initial-from before [] rest n e = refl
+initial-from before (v ∷ vs) rest n e =
+    let here : getD (before ++ (each var-words (v ∷ vs) ++ rest)) n (pos 0) ≡ word (v .init) =
+    rw (e, getD-append-add before (each var-words (v ∷ vs) ++ rest) 2 (pos 0)) in
+    let again : before ++ (each var-words (v ∷ vs) ++ rest) ≡ (before ++ var-words v) ++ (each var-words vs ++ rest) =
+    ap (λ (l : List ℤ). before ++ l) (append-assoc (var-words v) (each var-words vs) rest) ∙ sym (append-assoc before (var-words v) (each var-words vs ++ rest)) in
+    let more : initial-words (before ++ (each var-words (v ∷ vs) ++ rest)) (n + 3) (length vs) ≡ map word (inits vs) =
+    rw again (initial-from (before ++ var-words v) vs rest (n + 3) (omega (arith, length-append before (var-words v)))) in
+    λ i. here i ∷ more i
+
+module _ (c : Chart) (ok : T (chart-ok c)) (rest : List ℤ) where
+  b : Bounds c
+  b = bounds c ok
+
+  abbrev ws : List ℤ
+  ws = encode c ++ rest
+
+  abbrev after-vars : List ℤ
+  after-vars = each loc-words (c .locs) ++ (each edge-words (c .edges) ++ rest)
+
+  apart : (each var-words (c .vars) ++ (each loc-words (c .locs) ++ each edge-words (c .edges))) ++ rest ≡ each var-words (c .vars) ++ after-vars
+  apart =
+      append-assoc (each var-words (c .vars)) (each loc-words (c .locs) ++ each edge-words (c .edges)) rest
+      ∙ ap (λ (l : List ℤ). each var-words (c .vars) ++ l) (append-assoc (each loc-words (c .locs)) (each edge-words (c .edges)) rest)
+
+  from-3 : (i : ℕ) → getD ws (3 + i) (pos 0) ≡ getD (each var-words (c .vars) ++ after-vars) i (pos 0)
+  unfolding encode
+  from-3 i =
+      getD-append-add (pos (length (c .vars)) ∷ pos (length (c .locs)) ∷ pos (length (c .edges)) ∷ [])
+      ((each var-words (c .vars) ++ (each loc-words (c .locs) ++ each edge-words (c .edges))) ++ rest) i (pos 0)
+      ∙ ap (λ (l : List ℤ). getD l i (pos 0)) apart
+
+  pub var-count : count ws 0 ≡ length (c .vars)
+  unfolding encode
+  var-count = refl
+
+  pub loc-count : count ws 1 ≡ length (c .locs)
+  unfolding encode
+  loc-count = refl
+
+  var-word : (k : ℕ) (v : Var) → At (c .vars) k v → (i : ℕ) → i < 3 → getD ws (3 + (3 * k + i)) (pos 0) ≡ getD (var-words v) i (pos 0)
+  var-word k v a i l = from-3 (3 * k + i) ∙ each-at var-words 3 (λ v. T (var-ok v)) (λ v t. refl) (c .vars) after-vars k v (every-of var-ok (c .vars) (b .vars)) a i l
+
+  -- the test of a range by the chart's words
+  pub range-is : (k : ℕ) (z : ℤ) → k < length (c .vars) → within (getD ws (3 + 3 * k) (pos 0)) (getD ws (3 + 3 * k + 1) (pos 0)) z ≡ in-range (c .vars) k z
+  range-is k z h =
+      let v = at-some (c .vars) k h in
+      let e : 3 + 3 * k ≡ 3 + (3 * k + 0) = omega arith in
+      let f : 3 + 3 * k + 1 ≡ 3 + (3 * k + 1) = omega arith in
+      let p : getD ws (3 + 3 * k) (pos 0) ≡ v .0 .lo = rw e (var-word k (v .0) (v .1) 0 (omega arith)) in
+      let q : getD ws (3 + 3 * k + 1) (pos 0) ≡ v .0 .hi = rw f (var-word k (v .0) (v .1) 1 (omega arith)) in
+      (λ i. within (p i) (q i) z) ∙ sym (in-range-at (c .vars) k (v .0) z (v .1))
+
+  past-vars : (i : ℕ) → getD ws (3 + (3 * length (c .vars) + i)) (pos 0) ≡ getD after-vars i (pos 0)
+  past-vars i = from-3 (3 * length (c .vars) + i) ∙ each-past var-words 3 (λ v. T (var-ok v)) (λ v t. refl) (c .vars) after-vars i (every-of var-ok (c .vars) (b .vars))
+
+  -- the test of an error location by the chart's words
+  pub error-is : (e : List ℤ) → count e 0 < length (c .locs) → error-row ws e ≡ error-location (c .locs) (count e 0)
+  unfolding error-row
+  error-is e h =
+      let n = count e 0 in
+      let l = at-some (c .locs) n h in
+      let at : 3 + 3 * count ws 0 + 17 * n ≡ 3 + (3 * length (c .vars) + (17 * n + 0)) = omega (arith, var-count) in
+      let p : getD ws (3 + 3 * count ws 0 + 17 * n) (pos 0) ≡ kind-word (l .0 .error) =
+      ap (λ (j : ℕ). getD ws j (pos 0)) at ∙ past-vars (17 * n + 0)
+      ∙ each-at loc-words 17 (λ l. T (name-ok (l .name))) loc-wide (c .locs) (each edge-words (c .edges) ++ rest) n (l .0) (every-of (λ l. name-ok (l .name)) (c .locs) (b .names)) (l .1) 0 (omega arith) in
+      ap (λ (z : ℤ). eqZ z (pos 1)) p ∙ kind-error (l .0 .error) ∙ sym (error-at (c .locs) n (l .0) (l .1))
+
+  -- the words of an edge
+  pub edge-word : (n : ℕ) (g : Edge) → At (c .edges) n g → (i : ℕ) → i < 8 → getD ws (edge-at ws n + i) (pos 0) ≡ getD (edge-words g) i (pos 0)
+  edge-word n g a i l =
+      let at : edge-at ws n + i ≡ 3 + (3 * length (c .vars) + (17 * length (c .locs) + (8 * n + i))) = omega (arith, var-count, loc-count) in
+      ap (λ (j : ℕ). getD ws j (pos 0)) at ∙ past-vars (17 * length (c .locs) + (8 * n + i))
+      ∙ each-past loc-words 17 (λ l. T (name-ok (l .name))) loc-wide (c .locs) (each edge-words (c .edges) ++ rest) (8 * n + i) (every-of (λ l. name-ok (l .name)) (c .locs) (b .names))
+      ∙ each-at edge-words 8 (λ g. Unit {0}) edge-wide (c .edges) rest n g (every-any (c .edges)) a i l
+
+  pub initial-is : initial-row ws ≡ pos 0 ∷ map word (inits (c .vars))
+  unfolding initial-row encode
+  initial-is =
+      ap (λ (l : List ℤ). pos 0 ∷ l) (
+      ap (λ (l : List ℤ). initial-words (pos (length (c .vars)) ∷ pos (length (c .locs)) ∷ pos (length (c .edges)) ∷ l) 5 (length (c .vars))) apart
+      ∙ initial-from (pos (length (c .vars)) ∷ pos (length (c .locs)) ∷ pos (length (c .edges)) ∷ []) (c .vars) after-vars 5 refl
+      )

@@ -1,0 +1,45 @@
+-- What the tests of the transfer tell, and the turn of the loop that writes the initial row. Assumes nothing.
+use mathlib.Core.Path.{_≡_, refl, sym, subst}
+use mathlib.Core.Bool.{Bool, true, false, _&&_}
+use mathlib.Core.List.{List, _++_, append-nil}
+use Prim.Native.Nat.{ℕ, suc, _+_, _-_, _≤_, _<_}
+use native.Mathlib.Numerals.{add-one}
+use native.Mathlib.Omega.{arith}
+use lib.Dec.{T}
+use lib.IntN.{ℤ, pos}
+use lib.Signed.{leZ}
+use lib.ListN.{length, take, getD, set}
+use lib.Seq.{take-all, take-suc-set, append-snoc}
+use mir.Syntax.{w32}
+use mir.Val.{SFits}
+use Rattle.semantics.specs.Chart.{within}
+use Rattle.semantics.specs.Encoding.{count}
+use Rattle.words.proofs.Words.{between-fits}
+use Rattle.transfer.specs.Transfer.{initial-words, initial-row}
+
+and-left : (a b : Bool) → a && b ≡ true → a ≡ true
+and-left true b e = refl
+and-left false b e = e
+
+and-right : (a b : Bool) → a && b ≡ true → b ≡ true
+and-right true b e = e
+and-right false b e = absurd (subst T (sym e) tt)
+
+-- what lies between two words is a word
+pub within-fits : (lo hi z : ℤ) → SFits w32 lo → SFits w32 hi → within lo hi z ≡ true → SFits w32 z
+within-fits lo hi z f g e = between-fits z f g (and-left (leZ lo z) (leZ z hi) e) (and-right (leZ lo z) (leZ z hi) e)
+
+pub initial-start : (c out : List ℤ) (n : ℕ) → 0 < length out → n ≡ count c 0 → initial-row c ≡ take 1 (set out 0 (pos 0)) ++ initial-words c 5 (n + 1 - 1)
+unfolding initial-row
+initial-start c out n h e = let f : n + 1 - 1 ≡ n = omega arith in rw (take-suc-set out 0 (pos 0) h, f, e)
+
+module _ (c out : List ℤ) (i at n : ℕ) where
+  pub initial-turn : (v : ℤ) → v ≡ getD c at (pos 0) → i < length out → i ≤ n
+      → take i out ++ initial-words c at (n + 1 - i) ≡ take (i + 1) (set out i v) ++ initial-words c (at + 3) (n + 1 - (i + 1))
+  initial-turn v q h l =
+      let e : n + 1 - i ≡ suc (n - i) = omega arith in
+      let f : n + 1 - (i + 1) ≡ n - i = omega arith in
+      rw (e, f, add-one i, take-suc-set out i v h, append-snoc, q)
+
+  pub initial-end : length out ≤ i → n < i → take i out ++ initial-words c at (n + 1 - i) ≡ out
+  initial-end h l = let e : n + 1 - i ≡ 0 = omega arith in rw (e, take-all i out h) (append-nil out)

@@ -1,0 +1,77 @@
+-- `transfer::add` meets its contract. Assumes nothing.
+use mathlib.Core.Path.{_∙_}
+use borrow.Author.Needs.{needs, sfits-of}
+use lib.IntN.{pos}
+use mir.Syntax.{w32, w64}
+use mir.Facts.{sfits-lit}
+use mir.ValLaws.{toZ-ofZ}
+use Rattle.words.proofs.Words.{bits-eqb}
+use Rattle.transfer.specs.Transfer.{add-at}
+use Rattle.transfer.proofs.add.Statement.{statement}
+use Rattle.transfer.proofs.add.Tie as tie
+
+add-number-at : tie.Need-add-number-at
+add-number-at c = search needs
+
+number-at-requires : tie.Need-number-at-requires
+number-at-requires c κs = search needs
+
+add-operand : tie.Need-add-operand
+add-operand c = search needs
+
+operand-requires : tie.Need-operand-requires
+operand-requires c κs = search needs
+
+add-operand-2 : tie.Need-add-operand-2
+add-operand-2 c = search needs
+
+operand-requires-2 : tie.Need-operand-requires-2
+operand-requires-2 c κs = search needs
+
+sum-requires : tie.Need-sum-requires
+sum-requires c κs = search needs
+
+put-value-requires : tie.Need-put-value-requires
+put-value-requires c κs = search needs
+
+same-length : tie.Need-same-length
+same-length c = search needs
+
+returns : tie.Need-returns
+unfolding add-at
+returns c =
+    let r = c .before .before .before in
+    let q = r .before in
+    let p = q .before .before in
+    let a = p .operand .result in
+    let b = q .operand2 .result in
+    let fa = sfits-of {z = a} (p .operand .ok) in
+    let fb = sfits-of {z = b} (q .operand2 .ok) in
+    let w = r .sum .result in
+    c .before .put-value .ensures
+    ∙ rw (
+      bits-eqb w32 {a = a} {b = pos 32768} fa (sfits-lit tt),
+      bits-eqb w32 {a = b} {b = pos 32768} fb (sfits-lit tt),
+      toZ-ofZ w64 w (sfits-of {z = w} (r .sum .ok)),
+      r .sum .ensures,
+      toZ-ofZ w32 a fa,
+      toZ-ofZ w32 b fb,
+      p .operand .ensures,
+      q .operand2 .ensures,
+      p .before .before .number-at .ensures .0,
+    )
+
+pub add-spec : {M : Type 1} → statement M
+add-spec =
+    tie.close
+    (tie.spec
+    add-number-at
+    number-at-requires
+    add-operand
+    operand-requires
+    add-operand-2
+    operand-requires-2
+    sum-requires
+    put-value-requires
+    same-length
+    returns)

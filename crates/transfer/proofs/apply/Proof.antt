@@ -1,0 +1,114 @@
+-- `transfer::apply` meets its contract. Assumes nothing.
+use mathlib.Core.Path.{_≡_, sym, ap, _∙_}
+use Prim.Native.Nat.{ℕ, _+_}
+use borrow.Author.Needs.{needs}
+use borrow.Author.Tests.{ne-eqb}
+use Rattle.semantics.specs.Encoding.{count}
+use Rattle.transfer.specs.Transfer.{assume-at, op-by}
+use Rattle.transfer.proofs.apply.Statement.{statement}
+use Rattle.transfer.proofs.apply.Tie as tie
+
+-- the operation's code, as the chart has it
+module _ (c : tie.After-number-at) where
+  abbrev op : ℕ
+  op = count (c .before .args .chart .now) (c .before .args .i + 2)
+
+  code : (n : ℕ) → c .number-at .result ≡ n → op ≡ n
+  code n e = sym (c .number-at .ensures .0) ∙ e
+
+  not-code : (n : ℕ) → (c .number-at .result ≡ n → ⊥) → op ≡ n → ⊥
+  not-code n h e = h (c .number-at .ensures .0 ∙ e)
+
+add-number-at : tie.Need-add-number-at
+add-number-at c = search needs
+
+number-at-requires : tie.Need-number-at-requires
+number-at-requires c κs = search needs
+
+assign-requires : tie.Need-assign-requires
+assign-requires c κs = search needs
+
+add-requires : tie.Need-add-requires
+add-requires c κs = search needs
+
+sub-requires : tie.Need-sub-requires
+sub-requires c κs = search needs
+
+input-requires : tie.Need-input-requires
+input-requires c κs = search needs
+
+assume-requires : tie.Need-assume-requires
+assume-requires c κs = search needs
+
+returns : tie.Need-returns
+unfolding op-by
+returns c = rw (code (c .before) 0 (c .match .keys1))
+
+same-length : tie.Need-same-length
+same-length c = search needs
+
+returns-2 : tie.Need-returns-2
+unfolding op-by
+returns-2 c = let m = c .before .before .before in rw (code (m .before) 1 (m .match .keys2)) (c .before .assign .ensures)
+
+same-length-2 : tie.Need-same-length-2
+same-length-2 c = search needs
+
+returns-3 : tie.Need-returns-3
+unfolding op-by
+returns-3 c = let m = c .before .before .before in rw (code (m .before) 2 (m .match .keys3)) (c .before .add .ensures)
+
+same-length-3 : tie.Need-same-length-3
+same-length-3 c = search needs
+
+returns-4 : tie.Need-returns-4
+unfolding op-by
+returns-4 c = let m = c .before .before .before in rw (code (m .before) 3 (m .match .keys4)) (c .before .sub .ensures)
+
+same-length-4 : tie.Need-same-length-4
+same-length-4 c = search needs
+
+returns-5 : tie.Need-returns-5
+unfolding op-by
+returns-5 c = let m = c .before .before .before in rw (code (m .before) 4 (m .match .keys5)) (c .before .input .ensures)
+
+same-length-5 : tie.Need-same-length-5
+same-length-5 c = search needs
+
+returns-6 : tie.Need-returns-6
+unfolding op-by
+returns-6 c =
+    let m = c .before .before .before in
+    let r = m .match .rest in
+    let p = m .before in
+    rw (
+      ne-eqb (op p) 0 (not-code p 0 (r .0 .0 .0 .0 .1)),
+      ne-eqb (op p) 1 (not-code p 1 (r .0 .0 .0 .1)),
+      ne-eqb (op p) 2 (not-code p 2 (r .0 .0 .1)),
+      ne-eqb (op p) 3 (not-code p 3 (r .0 .1)),
+      ne-eqb (op p) 4 (not-code p 4 (r .1)),
+    )
+    (c .before .assume .ensures ∙ ap (λ (n : ℕ). assume-at (p .before .args .chart .now) n (p .before .args .i) (p .before .args .row .now)) (p .number-at .ensures .0))
+
+pub apply-spec : {M : Type 1} → statement M
+apply-spec =
+    tie.close
+    (tie.spec
+    add-number-at
+    number-at-requires
+    assign-requires
+    add-requires
+    sub-requires
+    input-requires
+    assume-requires
+    returns
+    same-length
+    returns-2
+    same-length-2
+    returns-3
+    same-length-3
+    returns-4
+    same-length-4
+    returns-5
+    same-length-5
+    returns-6)

@@ -1,0 +1,62 @@
+-- `transfer::assign` meets its contract. Assumes nothing.
+use mathlib.Core.Path.{_∙_}
+use borrow.Author.Needs.{needs, sfits-of}
+use lib.IntN.{pos}
+use mir.Syntax.{w32, w64}
+use mir.Facts.{sfits-lit}
+use mir.ValLaws.{toZ-ofZ}
+use Rattle.words.proofs.Words.{bits-eqb}
+use Rattle.transfer.specs.Transfer.{assign-at}
+use Rattle.transfer.proofs.assign.Statement.{statement}
+use Rattle.transfer.proofs.assign.Tie as tie
+
+add-number-at : tie.Need-add-number-at
+add-number-at c = search needs
+
+number-at-requires : tie.Need-number-at-requires
+number-at-requires c κs = search needs
+
+add-operand : tie.Need-add-operand
+add-operand c = search needs
+
+operand-requires : tie.Need-operand-requires
+operand-requires c κs = search needs
+
+wide-requires : tie.Need-wide-requires
+wide-requires c κs = search needs
+
+put-value-requires : tie.Need-put-value-requires
+put-value-requires c κs = search needs
+
+same-length : tie.Need-same-length
+same-length c = search needs
+
+returns : tie.Need-returns
+unfolding assign-at
+returns c =
+    let o = c .before .before .before .before in
+    let a = o .operand .result in
+    let fa = sfits-of {z = a} (o .operand .ok) in
+    let w = c .before .before .before .wide .result in
+    c .before .put-value .ensures
+    ∙ rw (
+      bits-eqb w32 {a = a} {b = pos 32768} fa (sfits-lit tt),
+      toZ-ofZ w64 w (sfits-of {z = w} (c .before .before .before .wide .ok)),
+      c .before .before .before .wide .ensures,
+      toZ-ofZ w32 a fa,
+      o .operand .ensures,
+      o .before .before .number-at .ensures .0,
+    )
+
+pub assign-spec : {M : Type 1} → statement M
+assign-spec =
+    tie.close
+    (tie.spec
+    add-number-at
+    number-at-requires
+    add-operand
+    operand-requires
+    wide-requires
+    put-value-requires
+    same-length
+    returns)

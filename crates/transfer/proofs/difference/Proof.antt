@@ -1,0 +1,21 @@
+-- `transfer::difference` meets its contract. Assumes nothing.
+use mir.Syntax.{w64}
+use mir.ValLaws.{toZ-ofZ}
+use Rattle.words.proofs.Words.{widens, widened, diff-fits}
+use Rattle.transfer.proofs.difference.Statement.{statement}
+use Rattle.transfer.proofs.difference.Tie as tie
+
+cast-result : tie.Need-cast-result
+cast-result c = widens (c .fits .a)
+
+cast-result-2 : tie.Need-cast-result-2
+cast-result-2 c = widens (c .fits .b)
+
+sub-result : tie.Need-sub-result
+sub-result c = rw (widened (c .fits .a), widened (c .fits .b)) (diff-fits (c .fits .a) (c .fits .b))
+
+returns : tie.Need-returns
+returns c = rw (widened (c .fits .a), widened (c .fits .b)) (toZ-ofZ w64 _ (diff-fits (c .fits .a) (c .fits .b)))
+
+pub difference-spec : {M : Type 1} → statement M
+difference-spec = tie.close (tie.spec cast-result cast-result-2 sub-result returns)

@@ -1,0 +1,30 @@
+-- `transfer::lies_within` meets its contract. Assumes nothing.
+use borrow.Author.Needs.{needs, sfits-of}
+use mir.Syntax.{w32, w64}
+use mir.ValLaws.{toZ-ofZ}
+use Rattle.transfer.proofs.lies_within.Statement.{statement}
+use Rattle.transfer.proofs.lies_within.Tie as tie
+
+wide-requires : tie.Need-wide-requires
+wide-requires c κs = search needs
+
+wide-requires-2 : tie.Need-wide-requires-2
+wide-requires-2 c κs = search needs
+
+returns : tie.Need-returns
+returns c =
+    let s = c .before .before in
+    let lo = c .before .wide .result in
+    let hi = c .wide2 .result in
+    rw (
+      toZ-ofZ w64 lo (sfits-of {z = lo} (c .before .wide .ok)),
+      toZ-ofZ w64 hi (sfits-of {z = hi} (c .wide2 .ok)),
+      toZ-ofZ w64 (s .args .z) (s .fits .z),
+      c .before .wide .ensures,
+      c .wide2 .ensures,
+      toZ-ofZ w32 (s .args .lo) (s .fits .lo),
+      toZ-ofZ w32 (s .args .hi) (s .fits .hi),
+    )
+
+pub lies-within-spec : {M : Type 1} → statement M
+lies-within-spec = tie.close (tie.spec wide-requires wide-requires-2 returns)

@@ -1,0 +1,101 @@
+-- `transfer::put_ranged` meets its contract. Assumes nothing.
+use mathlib.Core.Path.{_≡_, sym, _∙_}
+use Prim.Native.Nat.{_+_, _*_}
+use borrow.Author.Needs.{needs, sfits-of}
+use lib.IntN.{ℤ, pos}
+use lib.ListN.{getD}
+use mir.Syntax.{w32, w64}
+use mir.Val.{SFits}
+use mir.ValLaws.{toZ-ofZ}
+use Rattle.semantics.specs.Chart.{within}
+use Rattle.transfer.specs.Transfer.{set-ranged}
+use Rattle.transfer.proofs.Turns.{within-fits}
+use Rattle.transfer.proofs.put_ranged.Statement.{statement}
+use Rattle.transfer.proofs.put_ranged.Tie as tie
+
+module _ (c : tie.After-lies-within) where
+  abbrev lo : ℤ
+  lo = c .before .before .word-at .result
+
+  abbrev hi : ℤ
+  hi = c .before .word-at2 .result
+
+  abbrev start : tie.Start
+  start = c .before .before .before
+
+  told : c .lies-within .result ≡ within lo hi (start .args .z)
+  told =
+      c .lies-within .ensures
+      ∙ rw (
+        toZ-ofZ w32 lo (sfits-of {z = lo} (c .before .before .word-at .ok)),
+        toZ-ofZ w32 hi (sfits-of {z = hi} (c .before .word-at2 .ok)),
+        toZ-ofZ w64 (start .args .z) (start .fits .z),
+      )
+
+  is-within : c .lies-within .result ≡ within (getD (start .args .chart .now) (3 + 3 * start .args .k) (pos 0)) (getD (start .args .chart .now) (3 + 3 * start .args .k + 1) (pos 0)) (start .args .z)
+  is-within =
+      let p = c .before .before .word-at .ensures in
+      let q = c .before .word-at2 .ensures in
+      told ∙ λ i. within (p i) (q i) (start .args .z)
+
+fits : (c : tie.Then1) → SFits w32 (c .before .before .before .before .args .z)
+fits c =
+    let b = c .before in
+    within-fits (lo b) (hi b) (start b .args .z) (sfits-of {z = lo b} (b .before .before .word-at .ok)) (sfits-of {z = hi b} (b .before .word-at2 .ok)) (sym (told b) ∙ c .if1 .taken)
+
+mul-at : tie.Need-mul-at
+mul-at c = search needs
+
+add-at : tie.Need-add-at
+add-at c = search needs
+
+word-at-requires : tie.Need-word-at-requires
+word-at-requires c κs = search needs
+
+add-word-at : tie.Need-add-word-at
+add-word-at c = search needs
+
+word-at-requires-2 : tie.Need-word-at-requires-2
+word-at-requires-2 c κs = search needs
+
+lies-within-requires : tie.Need-lies-within-requires
+lies-within-requires c κs = search needs
+
+cast-x : tie.Need-cast-x
+cast-x c =
+    let s = c .before .before .before .before in
+    rw (toZ-ofZ w64 (s .args .z) (s .fits .z)) (fits c)
+
+put-requires : tie.Need-put-requires
+put-requires c κs = search needs
+
+same-length : tie.Need-same-length
+same-length c = search needs
+
+returns : tie.Need-returns
+unfolding set-ranged
+returns c =
+    let h = c .before .before .before in
+    let s = h .before .before .before .before in
+    let z = s .args .z in
+    rw (sym (is-within (h .before)) ∙ h .if1 .taken, c .before .put .ensures, toZ-ofZ w64 z (s .fits .z), toZ-ofZ w32 z (fits h))
+
+returns-2 : tie.Need-returns-2
+unfolding set-ranged
+returns-2 c = rw (sym (is-within (c .before)) ∙ c .if1 .left)
+
+pub put-ranged-spec : {M : Type 1} → statement M
+put-ranged-spec =
+    tie.close
+    (tie.spec
+    mul-at
+    add-at
+    word-at-requires
+    add-word-at
+    word-at-requires-2
+    lies-within-requires
+    cast-x
+    put-requires
+    same-length
+    returns
+    returns-2)

@@ -1,0 +1,35 @@
+-- `transfer::put_value` meets its contract. Assumes nothing.
+use mathlib.Core.Path.{_∙_}
+use borrow.Author.Needs.{needs}
+use mir.Syntax.{w64}
+use mir.ValLaws.{toZ-ofZ}
+use Rattle.transfer.specs.Transfer.{set-value}
+use Rattle.transfer.proofs.put_value.Statement.{statement}
+use Rattle.transfer.proofs.put_value.Tie as tie
+
+put-requires : tie.Need-put-requires
+put-requires c κs = search needs
+
+same-length : tie.Need-same-length
+same-length c = search needs
+
+returns : tie.Need-returns
+unfolding set-value
+returns c = rw (c .before .before .before .if1 .taken, c .before .put .ensures)
+
+put-ranged-requires : tie.Need-put-ranged-requires
+put-ranged-requires c κs = search needs
+
+same-length-2 : tie.Need-same-length-2
+same-length-2 c = search needs
+
+returns-2 : tie.Need-returns-2
+unfolding set-value
+returns-2 c =
+    let s = c .before .before .before .before in
+    rw (c .before .before .before .if1 .left) (c .before .put-ranged .ensures ∙ rw (toZ-ofZ w64 (s .args .z) (s .fits .z)))
+
+pub put-value-spec : {M : Type 1} → statement M
+put-value-spec =
+    tie.close
+    (tie.spec put-requires same-length returns put-ranged-requires same-length-2 returns-2)

@@ -1,0 +1,112 @@
+-- The transfer of an edge of the encoded chart on a row of words, the test of an error location, and the initial row, with no word on
+-- the form of either: a word past the end is 0, a number's sign does not count. Assumes nothing.
+use mathlib.Core.Bool.{Bool, true, false, _||_, not}
+use mathlib.Core.List.{List, [], _∷_}
+use Prim.Native.Nat.{ℕ, zero, suc, _+_, _*_}
+use lib.Dec.{eqb}
+use lib.IntN.{ℤ, pos, _+ℤ_, _-ℤ_}
+use lib.ListN.{getD, set}
+use lib.Signed.{leZ, ltZ}
+use Rattle.semantics.specs.Lists.{pick}
+use Rattle.semantics.specs.Chart.{eqZ, within}
+use Rattle.semantics.specs.Algorithm.{Step, halt, to}
+use Rattle.semantics.specs.Encoding.{count}
+use Rattle.rows.specs.Rows.{word-join}
+
+-- what a function says that answers whether there is a successor
+abbrev pub step-of : Bool → List ℤ → Step (List ℤ)
+step-of true e = to e
+step-of false e = halt
+
+-- ---- the chart's words: three counts, 3 words a variable, 17 a location, 8 an edge
+
+-- where the words of edge g stand, edges from 0
+abbrev pub edge-at : List ℤ → ℕ → ℕ
+edge-at c g = 3 + 3 * count c 0 + 17 * count c 1 + 8 * g
+
+-- n edges, from edge g on
+abbrev pub edges-from : ℕ → ℕ → List ℕ
+edges-from g zero = []
+edges-from g (suc n) = g ∷ edges-from (suc g) n
+
+-- ---- values
+
+-- an operand at i, a tag and what it holds: a number, or the word of a variable
+abbrev pub operand-at : List ℤ → ℕ → List ℤ → ℤ
+operand-at c i e = pick (eqZ (getD c i (pos 0)) (pos 0)) (getD c (i + 1) (pos 0)) (getD e (count c (i + 1) + 1) (pos 0))
+
+-- variable k becomes z if that lies in its range
+unfoldable pub set-ranged : List ℤ → ℕ → ℤ → List ℤ → Step (List ℤ)
+set-ranged c k z e = step-of (within (getD c (3 + 3 * k) (pos 0)) (getD c (3 + 3 * k + 1) (pos 0)) z) (set e (k + 1) z)
+
+-- variable k becomes top, or z if that lies in its range
+unfoldable pub set-value : List ℤ → ℕ → Bool → ℤ → List ℤ → Step (List ℤ)
+set-value c k top z e = pick top (to (set e (k + 1) (pos 32768))) (set-ranged c k z e)
+
+-- ---- the operations of the edge at i: its target, and its operands
+
+abbrev pub target-at : List ℤ → ℕ → ℕ
+target-at c i = count c (i + 3)
+
+unfoldable pub assign-at : List ℤ → ℕ → List ℤ → Step (List ℤ)
+assign-at c i e = let a = operand-at c (i + 4) e in set-value c (target-at c i) (eqZ a (pos 32768)) a e
+
+unfoldable pub add-at : List ℤ → ℕ → List ℤ → Step (List ℤ)
+add-at c i e =
+    let a = operand-at c (i + 4) e in
+    let b = operand-at c (i + 6) e in
+    set-value c (target-at c i) (eqZ a (pos 32768) || eqZ b (pos 32768)) (a +ℤ b) e
+
+unfoldable pub sub-at : List ℤ → ℕ → List ℤ → Step (List ℤ)
+sub-at c i e =
+    let a = operand-at c (i + 4) e in
+    let b = operand-at c (i + 6) e in
+    set-value c (target-at c i) (eqZ a (pos 32768) || eqZ b (pos 32768)) (a -ℤ b) e
+
+unfoldable pub input-at : List ℤ → ℕ → List ℤ → Step (List ℤ)
+input-at c i e = to (set e (target-at c i + 1) (word-join (getD c (i + 5) (pos 0)) (getD c (i + 7) (pos 0))))
+
+-- the relation of code n holds
+unfoldable pub holds-by : ℕ → ℤ → ℤ → Bool
+holds-by n a b =
+    pick (eqb n 5) (eqZ a b) (pick (eqb n 6) (not (eqZ a b)) (pick (eqb n 7) (ltZ a b) (pick (eqb n 8) (leZ a b) (pick (eqb n 9) (ltZ b a) (leZ b a)))))
+
+-- a side of the relation of code n is variable k, at top; the other side is x
+unfoldable pub refine-by : List ℤ → ℕ → ℕ → ℤ → List ℤ → Step (List ℤ)
+refine-by c n k x e = pick (eqb n 5) (pick (eqZ x (pos 32768)) (to e) (set-ranged c k x e)) (to e)
+
+-- its sides are x, variable k, and y, variable j where it is at top
+unfoldable pub tested-by : List ℤ → ℕ → ℕ → ℕ → ℤ → ℤ → List ℤ → Step (List ℤ)
+tested-by c n k j x y e =
+    pick (eqZ x (pos 32768)) (refine-by c n k y e) (pick (eqZ y (pos 32768)) (refine-by c n j x e) (step-of (holds-by n x y) e))
+
+unfoldable pub assume-at : List ℤ → ℕ → ℕ → List ℤ → Step (List ℤ)
+assume-at c n i e = tested-by c n (target-at c i) (count c (i + 5)) (getD e (target-at c i + 1) (pos 0)) (operand-at c (i + 4) e) e
+
+-- the operation of code n
+unfoldable pub op-by : ℕ → List ℤ → ℕ → List ℤ → Step (List ℤ)
+op-by n c i e =
+    pick (eqb n 0) (to e) (pick (eqb n 1) (assign-at c i e) (pick (eqb n 2) (add-at c i e) (pick (eqb n 3) (sub-at c i e) (pick (eqb n 4) (input-at c i e) (assume-at c n i e)))))
+
+-- ---- the transfer
+
+-- by the edge whose words stand at i
+unfoldable pub post-at : List ℤ → ℕ → List ℤ → Step (List ℤ)
+post-at c i e = pick (eqZ (getD c i (pos 0)) (getD e 0 (pos 0))) (op-by (count c (i + 2)) c i (set e 0 (getD c (i + 1) (pos 0)))) halt
+
+unfoldable pub post-words : List ℤ → ℕ → List ℤ → Step (List ℤ)
+post-words c g e = post-at c (edge-at c g) e
+
+-- ---- an error location; the initial row
+
+-- the word of the location's kind is 1
+unfoldable pub error-row : List ℤ → List ℤ → Bool
+error-row c e = eqZ (getD c (3 + 3 * count c 0 + 17 * count e 0) (pos 0)) (pos 1)
+
+-- the first of n variables' initial words stands at i
+abbrev pub initial-words : List ℤ → ℕ → ℕ → List ℤ
+initial-words c i zero = []
+initial-words c i (suc n) = getD c i (pos 0) ∷ initial-words c (i + 3) n
+
+unfoldable pub initial-row : List ℤ → List ℤ
+initial-row c = pos 0 ∷ initial-words c 5 (count c 0)

@@ -1,0 +1,248 @@
+// The transfer of an edge of the encoded chart on a row of words, the test of an error location, and the initial row.
+ghost use mathlib.Core.Path.{_≡_};
+ghost use Prim.Native.Nat.{_+_, _<_};
+ghost use lib.IntN.{_+ℤ_, _-ℤ_};
+ghost use lib.ListN.{length, set};
+ghost use Rattle.semantics.specs.Chart.{within};
+ghost use Rattle.semantics.specs.Encoding.{count};
+ghost use Rattle.semantics.specs.Algorithm.{to};
+ghost use Rattle.transfer.specs.Transfer.{step-of, operand-at, set-ranged, set-value, assign-at, add-at, sub-at, input-at, holds-by, refine-by, assume-at, op-by, post-at, error-row, initial-row};
+
+// ---- values
+
+fn sum(a: i32, b: i32) -> i64
+    ensures { λ r. ⌜ r ≡ a +ℤ b ⌝ }
+{
+    (a as i64) + (b as i64)
+}
+
+fn difference(a: i32, b: i32) -> i64
+    ensures { λ r. ⌜ r ≡ a -ℤ b ⌝ }
+{
+    (a as i64) - (b as i64)
+}
+
+fn lies_within(lo: i32, hi: i32, z: i64) -> bool
+    ensures { λ r. ⌜ r ≡ within lo hi z ⌝ }
+{
+    (words::wide(lo) <= z) & (z <= words::wide(hi))
+}
+
+// The number at a place of the chart.
+fn number_at(chart: &[i32], i: usize) -> usize
+    ensures { λ r. ⌜ (r ≡ count (now (chart .entry)) i) × (r < 2147483649) ⌝ }
+{
+    words::magnitude(words::word_at(chart, i))
+}
+
+// The word of an operand: its own number, or a variable's word.
+fn operand(chart: &[i32], i: usize, row: &[i32]) -> i32
+    requires { ⌜ i < 4294967303 ⌝ }
+    ensures { λ r. ⌜ r ≡ operand-at (now (chart .entry)) i (now (row .entry)) ⌝ }
+{
+    let tag = words::word_at(chart, i);
+    if tag == 0 {
+        return words::word_at(chart, i + 1);
+    }
+    let k = number_at(chart, i + 1);
+    words::word_at(row, k + 1)
+}
+
+// Variable k becomes x.
+fn put(row: &mut [i32], k: usize, x: i32)
+    requires { ⌜ k < 2147483649 ⌝ }
+    ensures { λ _. ⌜ now (row .exit) ≡ set (now (row .entry)) (k + 1) x ⌝ }
+{
+    let i = k + 1;
+    if i < row.len() {
+        row[i] = x;
+    }
+}
+
+// Variable k becomes z where that lies in its range.
+fn put_ranged(chart: &[i32], k: usize, z: i64, row: &mut [i32]) -> bool
+    requires { ⌜ k < 2147483649 ⌝ }
+    ensures { λ r. ⌜ step-of r (now (row .exit)) ≡ set-ranged (now (chart .entry)) k z (now (row .entry)) ⌝ }
+{
+    let at = 3 + 3 * k;
+    let lo = words::word_at(chart, at);
+    let hi = words::word_at(chart, at + 1);
+    if lies_within(lo, hi, z) {
+        let x = z as i32;
+        put(row, k, x);
+        return true;
+    }
+    false
+}
+
+// Variable k becomes top, or z where that lies in its range.
+fn put_value(chart: &[i32], k: usize, top: bool, z: i64, row: &mut [i32]) -> bool
+    requires { ⌜ k < 2147483649 ⌝ }
+    ensures { λ r. ⌜ step-of r (now (row .exit)) ≡ set-value (now (chart .entry)) k top z (now (row .entry)) ⌝ }
+{
+    if top {
+        put(row, k, words::TOP);
+        return true;
+    }
+    put_ranged(chart, k, z, row)
+}
+
+// ---- the operations of the edge at i, on the row: whether there is a successor
+
+fn assign(chart: &[i32], i: usize, row: &mut [i32]) -> bool
+    requires { ⌜ i < 4294967296 ⌝ }
+    ensures { λ r. ⌜ step-of r (now (row .exit)) ≡ assign-at (now (chart .entry)) i (now (row .entry)) ⌝ }
+{
+    let k = number_at(chart, i + 3);
+    let a = operand(chart, i + 4, row);
+    put_value(chart, k, a == words::TOP, words::wide(a), row)
+}
+
+fn add(chart: &[i32], i: usize, row: &mut [i32]) -> bool
+    requires { ⌜ i < 4294967296 ⌝ }
+    ensures { λ r. ⌜ step-of r (now (row .exit)) ≡ add-at (now (chart .entry)) i (now (row .entry)) ⌝ }
+{
+    let k = number_at(chart, i + 3);
+    let a = operand(chart, i + 4, row);
+    let b = operand(chart, i + 6, row);
+    put_value(
+        chart,
+        k,
+        (a == words::TOP) | (b == words::TOP),
+        sum(a, b),
+        row,
+    )
+}
+
+fn sub(chart: &[i32], i: usize, row: &mut [i32]) -> bool
+    requires { ⌜ i < 4294967296 ⌝ }
+    ensures { λ r. ⌜ step-of r (now (row .exit)) ≡ sub-at (now (chart .entry)) i (now (row .entry)) ⌝ }
+{
+    let k = number_at(chart, i + 3);
+    let a = operand(chart, i + 4, row);
+    let b = operand(chart, i + 6, row);
+    put_value(
+        chart,
+        k,
+        (a == words::TOP) | (b == words::TOP),
+        difference(a, b),
+        row,
+    )
+}
+
+fn input(chart: &[i32], i: usize, row: &mut [i32]) -> bool
+    requires { ⌜ i < 4294967296 ⌝ }
+    ensures { λ r. ⌜ step-of r (now (row .exit)) ≡ input-at (now (chart .entry)) i (now (row .entry)) ⌝ }
+{
+    let k = number_at(chart, i + 3);
+    let p = words::word_at(chart, i + 5);
+    let q = words::word_at(chart, i + 7);
+    let x = rows::join_word(p, q);
+    put(row, k, x);
+    true
+}
+
+// Whether the relation of a code holds.
+fn holds(n: usize, a: i32, b: i32) -> bool
+    ensures { λ r. ⌜ r ≡ holds-by n a b ⌝ }
+{
+    match n {
+        5 => a == b,
+        6 => a != b,
+        7 => a < b,
+        8 => a <= b,
+        9 => a > b,
+        _ => a >= b,
+    }
+}
+
+// A side of the relation is variable k, at top, and the other side is x: only `eq` says something of k.
+fn refine(chart: &[i32], n: usize, k: usize, x: i32, row: &mut [i32]) -> bool
+    requires { ⌜ k < 2147483649 ⌝ }
+    ensures { λ r. ⌜ step-of r (now (row .exit)) ≡ refine-by (now (chart .entry)) n k x (now (row .entry)) ⌝ }
+{
+    if n == 5 {
+        if x == words::TOP {
+            return true;
+        }
+        return put_ranged(chart, k, words::wide(x), row);
+    }
+    true
+}
+
+fn assume(chart: &[i32], n: usize, i: usize, row: &mut [i32]) -> bool
+    requires { ⌜ i < 4294967296 ⌝ }
+    ensures { λ r. ⌜ step-of r (now (row .exit)) ≡ assume-at (now (chart .entry)) n i (now (row .entry)) ⌝ }
+{
+    let k = number_at(chart, i + 3);
+    let x = words::word_at(row, k + 1);
+    let y = operand(chart, i + 4, row);
+    if x == words::TOP {
+        return refine(chart, n, k, y, row);
+    }
+    if y == words::TOP {
+        let j = number_at(chart, i + 5);
+        return refine(chart, n, j, x, row);
+    }
+    holds(n, x, y)
+}
+
+fn apply(chart: &[i32], i: usize, row: &mut [i32]) -> bool
+    requires { ⌜ i < 4294967296 ⌝ }
+    ensures { λ r. ⌜ step-of r (now (row .exit)) ≡ op-by (count (now (chart .entry)) (i + 2)) (now (chart .entry)) i (now (row .entry)) ⌝ }
+{
+    let n = number_at(chart, i + 2);
+    match n {
+        0 => true,
+        1 => assign(chart, i, row),
+        2 => add(chart, i, row),
+        3 => sub(chart, i, row),
+        4 => input(chart, i, row),
+        _ => assume(chart, n, i, row),
+    }
+}
+
+// ---- the transfer
+
+// The successor of the row by the edge whose words stand at `at`, into `out`; whether there is one.
+pub fn successor(chart: &[i32], at: usize, row: &[i32], out: &mut [i32]) -> bool
+    requires { ⌜ (0 < length (now row)) × (length (now out) ≡ length (now row)) × (at < 4294967296) ⌝ }
+    ensures { λ r. ⌜ step-of r (now (out .exit)) ≡ post-at (now (chart .entry)) at (now (row .entry)) ⌝ }
+{
+    let from = words::word_at(chart, at);
+    let place = row[0];
+    if from == place {
+        words::copy_words(out, row);
+        let to = words::word_at(chart, at + 1);
+        out[0] = to;
+        return apply(chart, at, out);
+    }
+    false
+}
+
+// Whether the row stands at an error location.
+pub fn is_error(chart: &[i32], row: &[i32]) -> bool
+    ensures { λ r. ⌜ r ≡ error-row (now (chart .entry)) (now (row .entry)) ⌝ }
+{
+    let n = number_at(chart, 0);
+    let l = number_at(row, 0);
+    let kind = words::word_at(chart, 3 + 3 * n + 17 * l);
+    kind == 1
+}
+
+// The row of the initial abstract state.
+pub fn initial(chart: &[i32], out: &mut [i32])
+    requires { ⌜ length (now out) ≡ 1 + count (now chart) 0 ⌝ }
+    ensures { λ _. ⌜ now (out .exit) ≡ initial-row (now (chart .entry)) ⌝ }
+{
+    let n = number_at(chart, 0);
+    out[0] = 0;
+    let mut i = 1;
+    let mut at = 5;
+    while i <= n {
+        let x = words::word_at(chart, at);
+        out[i] = x;
+        i += 1;
+        at += 3;
+    }
+}
