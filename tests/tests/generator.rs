@@ -5,16 +5,11 @@ use std::collections::BTreeMap;
 
 use reference::chart::{Chart, Operand, Operation};
 use reference::program::respond;
-use reference::random::{count, inputs, seed, Random};
+use reference::random::{count_at_least, inputs, seed, Random};
 
 const INPUTS: usize = 20_000;
 /// Of each, so that another seed finds it too.
 const FEWEST: usize = 20;
-
-/// A smaller count cannot be expected to reach everything.
-fn at_least(default: usize) -> usize {
-    count(default).max(default)
-}
 
 /// Counts by label; a label not in `wanted` or too rare fails.
 fn assert_all_met(met: &BTreeMap<String, usize>, wanted: &[String]) {
@@ -34,7 +29,7 @@ fn assert_all_met(met: &BTreeMap<String, usize>, wanted: &[String]) {
 fn inputs_meet_every_refusal_and_every_verdict() {
     let mut random = Random::new(seed());
     let mut met = BTreeMap::new();
-    for _ in 0..at_least(INPUTS) {
+    for _ in 0..count_at_least(INPUTS) {
         let output = respond(&inputs::program_input(&mut random));
         let header = String::from_utf8_lossy(output.split(|&byte| byte == b'\n').next().unwrap());
         let fields: Vec<&str> = header.split('\t').collect();
@@ -64,7 +59,7 @@ fn inputs_meet_every_refusal_and_every_verdict() {
 fn charts_have_every_operation() {
     let mut random = Random::new(seed() ^ 1);
     let mut met = BTreeMap::new();
-    for _ in 0..at_least(2_000) {
+    for _ in 0..count_at_least(2_000) {
         let chart = inputs::chart(&mut random);
         for label in labels(&chart) {
             *met.entry(label).or_insert(0) += 1;

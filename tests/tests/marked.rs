@@ -5,7 +5,7 @@ mod common;
 use common::{chart, settings, CASE_A};
 use reference::analysis::{Analysis, Verdict};
 use reference::chart::Chart;
-use reference::domain::{covers, initial, join_into, leq, transfer, TOP};
+use reference::domain::{covers, join_into, leq, transfer, TOP};
 use reference::listing::listing;
 
 const MEET: i32 = 3;
@@ -140,73 +140,4 @@ fn an_unknown_operand_makes_the_target_unspecific() {
     let apart = "V x 0 3 0\nV y 10 20 *\nL a o\nE 0 0 set $0 $1";
     assert_eq!(step(apart, &[0, TOP]), Some(vec![TOP, TOP]));
     assert_eq!(step(apart, &[0, 10]), None);
-}
-
-#[test]
-fn initial_entries() {
-    let chart = chart(
-        "V x 5 5 *
-         V y 0 9 *
-         V z -3 3 -3
-         V w 5 5 5
-         L a o
-         L b o
-         E 0 1 in $0 5 5
-         E 0 1 in $3 5 5
-         E 0 1 in $1 0 9",
-    );
-    assert_eq!(initial(&chart), [0, TOP, TOP, -3, 5]);
-    let analysis = walk(&chart, "sep sep old", 9);
-    let rows: Vec<&[i32]> = analysis.reached.rows().collect();
-    assert_eq!(
-        rows,
-        [
-            &[0, TOP, TOP, -3, 5][..],
-            &[1, 5, TOP, -3, 5],
-            // Not under the row before: 5 is known there, and is not here.
-            &[1, TOP, TOP, -3, 5],
-        ]
-    );
-}
-
-#[test]
-fn if_moves() {
-    const RELATIONS: [&str; 6] = ["eq", "ne", "lt", "le", "gt", "ge"];
-    let with = |relation: &str, right: &str, values: [i32; 2]| {
-        let lines = format!("V a 0 9 *\nV b 5 20 *\nL l o\nE 0 0 if $0 {relation} {right}");
-        step(&lines, &values).map(|values| [values[0], values[1]])
-    };
-    // Both sides known decides; below, equal and above.
-    for (values, passing) in
-        [([6, 7], ["ne", "lt", "le"]), ([7, 7], ["eq", "le", "ge"]), ([8, 7], ["ne", "gt", "ge"])]
-    {
-        for relation in RELATIONS {
-            let expected = passing.contains(&relation).then_some(values);
-            assert_eq!(with(relation, "$1", values), expected, "{relation} {values:?}");
-            let literal = values[1].to_string();
-            assert_eq!(with(relation, &literal, values), expected, "{relation} {values:?}");
-        }
-    }
-    // With eq the unspecific side takes the known one's value if it can, on either side.
-    assert_eq!(with("eq", "$1", [TOP, 9]), Some([9, 9]));
-    assert_eq!(with("eq", "$1", [TOP, 10]), None);
-    assert_eq!(with("eq", "$1", [5, TOP]), Some([5, 5]));
-    assert_eq!(with("eq", "$1", [4, TOP]), None);
-    assert_eq!(with("eq", "0", [TOP, TOP]), Some([0, TOP]));
-    assert_eq!(with("eq", "-1", [TOP, TOP]), None);
-    // Every other case passes unchanged, even where no value could hold.
-    for relation in &RELATIONS[1..] {
-        for right in ["$1", "12", "-1", "4"] {
-            assert_eq!(with(relation, right, [TOP, 9]), Some([TOP, 9]));
-            assert_eq!(with(relation, right, [TOP, TOP]), Some([TOP, TOP]));
-        }
-        assert_eq!(with(relation, "$1", [4, TOP]), Some([4, TOP]));
-    }
-    assert_eq!(with("eq", "$1", [TOP, TOP]), Some([TOP, TOP]));
-    // A variable against itself: known it decides, unspecific it passes.
-    for relation in RELATIONS {
-        let holds = ["eq", "le", "ge"].contains(&relation);
-        assert_eq!(with(relation, "$0", [3, TOP]), holds.then_some([3, TOP]));
-        assert_eq!(with(relation, "$0", [TOP, 9]), Some([TOP, 9]));
-    }
 }

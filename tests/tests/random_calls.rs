@@ -9,7 +9,7 @@ use reference::chart::Chart;
 use reference::listing::listing;
 use reference::memory::Memory;
 use reference::random::calls::{call, disturb, relend, start, Call};
-use reference::random::{count, inputs, seed, Random};
+use reference::random::{count_at_least, inputs, seed, Random};
 
 const CALLS_PER_CHART: usize = 12;
 
@@ -81,7 +81,7 @@ fn assert_holds(memory: &Memory, analysis: &Analysis) {
 fn whole_walks() {
     let mut random = Random::new(seed());
     let mut met = BTreeMap::new();
-    for _ in 0..count(3_000) {
+    for _ in 0..count_at_least(3_000) {
         let chart = inputs::chart(&mut random);
         let mut memory = Memory::new(&chart, 256 * chart.width(), 256);
         let mut analysis = None;
@@ -116,10 +116,9 @@ fn whole_walks() {
 #[test]
 fn disturbed_words_meet_every_refusal() {
     const NUMBERS: [u32; 10] = [0, 11, 12, 13, 14, 15, 20, 21, 22, 23];
-    const CHARTS: usize = 3_000;
     let mut random = Random::new(seed() ^ 1);
     let mut met: BTreeMap<u32, usize> = BTreeMap::new();
-    for _ in 0..count(CHARTS).max(CHARTS) {
+    for _ in 0..count_at_least(3_000) {
         let chart = inputs::chart(&mut random);
         let mut memory = Memory::new(&chart, 256 * chart.width() + 4, 260);
         memory.start(random.settings(), inputs::capacity(&mut random));

@@ -8,7 +8,7 @@ use reference::domain::TOP;
 use reference::encoding::encode;
 use reference::memory::Memory;
 use reference::random::calls::disturb_word;
-use reference::random::{count, damage, inputs, seed, Random};
+use reference::random::{count, count_at_least, damage, inputs, seed, Random};
 use reference::reader::read;
 use reference::renderer::render;
 
@@ -26,7 +26,7 @@ fn a_rendered_chart_reads_back() {
 fn an_accepted_file_has_one_spelling() {
     let mut random = Random::new(seed() ^ 1);
     let (mut accepted, mut refused) = (0, 0);
-    for _ in 0..count(10_000) {
+    for _ in 0..count_at_least(10_000) {
         let mut file = render(&inputs::chart(&mut random));
         damage::chart_file(&mut random, &mut file);
         match read(&file) {
@@ -46,7 +46,7 @@ fn an_accepted_file_has_one_spelling() {
 fn the_chart_held_is_judged_exactly() {
     let mut random = Random::new(seed() ^ 2);
     let (mut accepted, mut refused) = (0, 0);
-    for _ in 0..count(10_000) {
+    for _ in 0..count_at_least(10_000) {
         let chart = inputs::chart(&mut random);
         let mut memory = Memory::new(&chart, 256 * 9, 256);
         assert!(is_encoded_chart(&memory.chart));

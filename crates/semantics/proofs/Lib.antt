@@ -24,4 +24,3 @@ pub mod MarkedCases
 pub mod Simulate
 pub mod Verdicts
 pub mod Executions
-pub mod Formed

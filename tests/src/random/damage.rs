@@ -157,15 +157,14 @@ fn several_faults(random: &mut Random, file: &mut Vec<u8>) {
         "-0", "x_y", "07", "$-1", "$", "*", "99999", "-32769", "32768", "$9", "$4294967296", "64",
         "-1", "4294967296", "", "mul",
     ];
-    let repeats_name = random.percent(30);
-    if repeats_name {
+    if random.percent(20) {
         repeat_name(random, file);
     }
     edit_fields(random, file, |random, fields| {
-        // With a name that is there already a fault after it counts first.
-        for place in 1 + usize::from(repeats_name)..fields.len() {
-            if random.percent(40) {
-                fields[place] = random.pick(&FAULTS).as_bytes().to_vec();
+        let first = random.below(fields.len());
+        for (place, field) in fields.iter_mut().enumerate().skip(first.max(1)) {
+            if place == first || random.percent(50) {
+                *field = random.pick(&FAULTS).as_bytes().to_vec();
             }
         }
         if random.percent(10) {

@@ -78,6 +78,11 @@ pub fn count(default: usize) -> usize {
     environment_number("TARKNOTTER_COUNT").map_or(default, |count| count as usize)
 }
 
+/// As `count`, but never below `default`: for tests that have to meet everything.
+pub fn count_at_least(default: usize) -> usize {
+    count(default).max(default)
+}
+
 /// A value that is no number must not pass for the default.
 fn environment_number(variable: &str) -> Option<u64> {
     let value = std::env::var(variable).ok()?;

@@ -3,6 +3,7 @@
 #[path = "../common/mod.rs"]
 mod common;
 mod form;
+mod moves;
 mod order;
 mod reading;
 mod support;

@@ -1,0 +1,238 @@
+-- At the entry of a run call: an analysis that passes form rule 21 is held in form by the capacity's words, and they say what `load`
+-- reads. Assumes nothing.
+use mathlib.Core.Path.{_≡_, refl, sym, ap, subst, _∙_}
+use mathlib.Core.Logic.{inl, inr}
+use mathlib.Core.Bool.{Bool, true, false, _||_, not}
+use mathlib.Core.List.{List, [], _∷_, _++_, map}
+use Prim.Native.Nat.{ℕ, _-_, _*_, _≤_, _<_}
+use native.Mathlib.Nat.{mul-le-mul-right}
+use native.Mathlib.Omega.{arith}
+use lib.Dec.{T, leb, ltb, eqb, leb→le, ltb→lt, eqb→eq}
+use lib.IntN.{ℤ, pos, natAbs}
+use lib.Signed.{nonNeg}
+use lib.ListN.{length, take, drop, replicate, take-append-drop, length-map, length-drop}
+use lib.Seq.{length-take-le, take-take}
+use Rattle.semantics.specs.declared.Verdict.{Verdict}
+use Rattle.semantics.specs.declared.Verdict.the-variants.{Open, Safe, Alarm, Full}
+use Rattle.semantics.specs.Lists.{In, some-of, all, all-of}
+use Rattle.semantics.specs.Chart.{Chart, eqZ}
+use Rattle.semantics.specs.Coverage.{Distinct, Queue, Every, Tidy, allowed}
+use Rattle.semantics.specs.Memory.{Memory, width, load, below, rows-ok, each-once, zeros, is-alarm, empty-if-safe, capacity-ok, form-tests, analysis-ok}
+use Rattle.semantics.proofs.Values.{and-left, and-right, eqZ-same}
+use Rattle.semantics.proofs.Tidy.{some-not}
+use Rattle.semantics.proofs.Simulate.{ExplorationR}
+use Rattle.words.proofs.Words.{nonNeg-pos}
+use Rattle.rows.specs.Rows.{rows-of}
+use Rattle.waitlist.specs.Waits.{waits, Put}
+use Rattle.waitlist.proofs.Laws.{any-some}
+use Rattle.reached.specs.Reached.{Kept}
+use Rattle.reached.proofs.Table.{rows-length, rows-prefix}
+use Rattle.transfer.proofs.Agree.{Says}
+use Rattle.transfer.proofs.Said.{rows-say}
+use Rattle.analysis.specs.Loaded.{Any, load-of, Held}
+
+-- ---- the tests of rule 21, by name
+
+record Form (c : Chart) (m : Memory) : Type 0 where
+  used : T (leb (m .analysis .used) (m .analysis .capacity))
+  waiting : T (leb (m .analysis .waiting) (m .analysis .used))
+  rows : T (rows-ok c (m .analysis .used) (m .table))
+  slots : T (all (below (m .analysis .used)) (take (m .analysis .waiting) (m .waitlist)))
+  once : T (each-once (take (m .analysis .waiting) (m .waitlist)))
+  rest : T (zeros (drop (m .analysis .used * width c) (take (m .analysis .capacity * width c) (m .table))))
+  free : T (zeros (drop (m .analysis .waiting) (take (m .analysis .capacity) (m .waitlist))))
+  iterations : T (leb (m .analysis .iterations) 60000)
+  edge : T (leb (m .analysis .edge .0) (length (c .edges)))
+  alarm : T (eqb (m .analysis .edge .0) 0 || is-alarm (m .analysis .verdict))
+  capacity : T (capacity-ok (pos (m .analysis .capacity)))
+  settings : T (allowed (m .analysis .settings .merge) (m .analysis .settings .stop))
+  verdict : T (empty-if-safe (m .analysis .verdict) (m .analysis .waiting))
+
+all-each : (bs : List Bool) → T (all-of bs) → Every (λ b. T b) bs
+all-each [] t = tt
+all-each (b ∷ bs) t = (and-left b (all-of bs) t, all-each bs (and-right b (all-of bs) t))
+
+form : (c : Chart) (m : Memory) → T (analysis-ok c m) → Form c m
+unfolding analysis-ok
+form c m t =
+    let h = all-each (form-tests c m) t in
+    let i = h .1 .1 .1 .1 .1 .1 in
+    record {
+      used = h .0;
+      waiting = h .1 .0;
+      rows = h .1 .1 .0;
+      slots = h .1 .1 .1 .0;
+      once = h .1 .1 .1 .1 .0;
+      rest = h .1 .1 .1 .1 .1 .0;
+      free = i .0;
+      iterations = i .1 .0;
+      edge = i .1 .1 .0;
+      alarm = i .1 .1 .1 .0;
+      capacity = i .1 .1 .1 .1 .0;
+      settings = i .1 .1 .1 .1 .1 .0;
+      verdict = i .1 .1 .1 .1 .1 .1 .0;
+    }
+
+pub iterations-few : (c : Chart) (m : Memory) → T (analysis-ok c m) → m .analysis .iterations ≤ 60000
+iterations-few c m t = leb→le (m .analysis .iterations) 60000 (form c m t .iterations)
+
+-- ---- words
+
+zeros-are : (ws : List ℤ) → T (zeros ws) → ws ≡ replicate (length ws) (pos 0)
+zeros-are [] t = refl
+zeros-are (x ∷ xs) t =
+    let p = sym (eqZ-same (pos 0) x (and-left (eqZ (pos 0) x) (zeros xs) t)) in
+    let q = zeros-are xs (and-right (eqZ (pos 0) x) (zeros xs) t) in
+    λ i. p i ∷ q i
+
+slots-are : (n : ℕ) (xs : List ℤ) → T (all (below n) xs) → xs ≡ map pos (map natAbs xs)
+slots-are n [] t = refl
+slots-are n (x ∷ xs) t =
+    let p = nonNeg-pos x (and-left (nonNeg x) (ltb (natAbs x) n) (and-left (below n x) (all (below n) xs) t)) in
+    let q = slots-are n xs (and-right (below n x) (all (below n) xs) t) in
+    λ i. p i ∷ q i
+
+-- slot numbers below n, each once
+distinct : (ks : List ℕ) → T (each-once (map pos ks)) → Distinct ks
+distinct [] t = tt
+distinct (k ∷ ks) t =
+    let b = some-of (eqZ (pos k)) (map pos ks) in
+    let o = each-once (map pos ks) in
+    (some-not k ks (sym (any-some k ks) ∙ negated b (and-left (not b) o t)), distinct ks (and-right (not b) o t))
+  where
+    negated : (b : Bool) → T (not b) → b ≡ false
+    negated true t = absurd t
+    negated false t = refl
+
+in-use : (n : ℕ) (ks : List ℕ) → T (all (below n) (map pos ks)) → (j : ℕ) → In j ks → j < n
+in-use n [] t j h = absurd h
+in-use n (k ∷ ks) t j (inl p) = subst (λ (i : ℕ). i < n) (sym p) (ltb→lt k n (and-left (ltb k n) (all (below n) (map pos ks)) t))
+in-use n (k ∷ ks) t j (inr q) = in-use n ks (and-right (ltb k n) (all (below n) (map pos ks)) t) j q
+
+every-any : (en : List (List ℤ)) → Every Any en
+every-any [] = tt
+every-any (e ∷ en) = (tt, every-any en)
+
+-- ---- the verdict and the edge
+
+safe-none : (v : Verdict) (n : ℕ) → T (empty-if-safe v n) → v ≡ Safe → n ≡ 0
+safe-none Open n t e = absurd (let z : _≡_ {A = ℕ} 0 1 = cc in omega arith)
+safe-none Safe n t e = eqb→eq n 0 t
+safe-none Alarm n t e = absurd (let z : _≡_ {A = ℕ} 0 1 = cc in omega arith)
+safe-none Full n t e = absurd (let z : _≡_ {A = ℕ} 0 1 = cc in omega arith)
+
+none-safe : (v : Verdict) → T (empty-if-safe v 0) → v ≡ Safe
+none-safe Open t = absurd t
+none-safe Safe t = refl
+none-safe Alarm t = absurd t
+none-safe Full t = absurd t
+
+alarm-only : (v : Verdict) (b : Bool) → T (b || is-alarm v) → (v ≡ Alarm → ⊥) → T b
+alarm-only v true t h = tt
+alarm-only Open false t h = t
+alarm-only Safe false t h = t
+alarm-only Alarm false t h = absurd (h refl)
+alarm-only Full false t h = t
+
+-- ---- the capacity's words
+
+module _ (c : Chart) (m : Memory) (lt : m .analysis .capacity * width c ≤ length (m .table)) (ll : m .analysis .capacity ≤ length (m .waitlist)) (ok : T (analysis-ok c m)) where
+  abbrev pub table-in : List ℤ
+  table-in = take (m .analysis .capacity * width c) (m .table)
+
+  abbrev pub list-in : List ℤ
+  list-in = take (m .analysis .capacity) (m .waitlist)
+
+  f : Form c m
+  f = form c m ok
+
+  few : m .analysis .used ≤ m .analysis .capacity
+  few = leb→le (m .analysis .used) (m .analysis .capacity) (f .used)
+
+  fewer : m .analysis .waiting ≤ m .analysis .used
+  fewer = leb→le (m .analysis .waiting) (m .analysis .used) (f .waiting)
+
+  front : take (m .analysis .waiting) list-in ≡ take (m .analysis .waiting) (m .waitlist)
+  front = take-take (m .analysis .waiting) (m .analysis .capacity) (m .waitlist) (omega (arith, few, fewer))
+
+  rows-in : rows-of (width c) (m .analysis .used) table-in ≡ rows-of (width c) (m .analysis .used) (m .table)
+  rows-in =
+      let k = width c in
+      let n = m .analysis .used * k in
+      let le : n ≤ m .analysis .capacity * k = mul-le-mul-right k few in
+      ap (rows-of k (m .analysis .used)) (sym (take-append-drop n table-in) ∙ ap (λ (x : List ℤ). x ++ drop n table-in) (take-take n (m .analysis .capacity * k) (m .table) le))
+      ∙ rows-prefix k (m .analysis .used) (m .table) (drop n table-in) (omega (arith, le, lt))
+
+  size : length list-in ≡ m .analysis .capacity
+  size = length-take-le (m .analysis .capacity) (m .waitlist) ll
+
+  put : Put list-in (m .analysis .waiting) (waits (m .analysis .waiting) list-in)
+  put =
+      let n = m .analysis .waiting in
+      let le : n ≤ length list-in = omega (arith, few, fewer, size) in
+      let ld : length (drop n list-in) ≡ length list-in - n = length-drop n list-in in
+      record {
+        count = sym (length-map (take n list-in) natAbs ∙ length-take-le n list-in le);
+        fits = le;
+        words = sym (take-append-drop n list-in)
+            ∙ ap (λ (x : List ℤ). x ++ drop n list-in) (slots-are (m .analysis .used) (take n list-in) (rw front (f .slots)))
+            ∙ ap (λ (x : List ℤ). map pos (waits n list-in) ++ x) (zeros-are (drop n list-in) (f .free) ∙ ap (λ (q : ℕ). replicate q (pos 0)) ld);
+      }
+
+  queue : Queue (m .analysis .used) (waits (m .analysis .waiting) list-in)
+  queue =
+      let xs = take (m .analysis .waiting) (m .waitlist) in
+      let ks = map natAbs xs in
+      let e : xs ≡ map pos ks = slots-are (m .analysis .used) xs (f .slots) in
+      rw front (record {
+        once = distinct ks (subst (λ (x : List ℤ). T (each-once x)) e (f .once));
+        used = in-use (m .analysis .used) ks (subst (λ (x : List ℤ). T (all (below (m .analysis .used)) x)) e (f .slots));
+      })
+
+  kept : Kept (width c) (m .analysis .capacity) table-in list-in (m .analysis .used) (m .analysis .waiting)
+  kept =
+      let lt′ : length table-in ≡ m .analysis .capacity * width c = length-take-le (m .analysis .capacity * width c) (m .table) lt in
+      let n = m .analysis .used * width c in
+      record {
+        wide = omega arith;
+        capacity = few;
+        small = omega (arith, leb→le (m .analysis .capacity) 256 (and-right (leb 1 (m .analysis .capacity)) (leb (m .analysis .capacity) 256) (f .capacity)));
+        table = lt′;
+        list = size;
+        rest = zeros-are (drop n table-in) (f .rest) ∙ ap (λ (q : ℕ). replicate q (pos 0)) (length-drop n table-in);
+        slots = put;
+        queue = queue;
+      }
+
+  tidy : Tidy Any (length (c .edges)) (load-of (width c) (m .analysis) table-in list-in)
+  tidy =
+      let r = m .analysis in
+      let n = rows-length (width c) (r .used) table-in in
+      record {
+        within = omega (arith, n, few);
+        queue = rw n queue;
+        safe-empty = λ e. empty (waits (r .waiting) list-in) (sym (put .count) ∙ safe-none (r .verdict) (r .waiting) (f .verdict) e);
+        empty-safe = λ e. none-safe (r .verdict) (subst (λ (q : ℕ). T (empty-if-safe (r .verdict) q)) (put .count ∙ ap length e) (f .verdict));
+        no-edge = λ h. eqb→eq (r .edge .0) 0 (alarm-only (r .verdict) (eqb (r .edge .0) 0) (f .alarm) h);
+        edge-in = leb→le (r .edge .0) (length (c .edges)) (f .edge);
+        every = every-any (rows-of (width c) (r .used) table-in);
+      }
+    where
+      empty : (wa : List ℕ) → length wa ≡ 0 → wa ≡ []
+      empty [] e = refl
+      empty (x ∷ wa) e = absurd (omega arith)
+
+  pub entered : Held (width c) (length (c .edges)) (m .analysis) table-in list-in
+  entered = record { kept = kept; allowed = f .settings; tidy = tidy }
+
+  pub entry-says : ExplorationR (Says c) (load-of (width c) (m .analysis) table-in list-in) (load c m)
+  unfolding load
+  entry-says = record {
+    settings = refl;
+    capacity = refl;
+    iterations = refl;
+    reached = rw rows-in (rows-say c (m .analysis .used) (m .table) (f .rows));
+    waitlist = ap (map natAbs) front;
+    verdict = refl;
+    edge = refl;
+  }

@@ -1,0 +1,121 @@
+-- Laws of an iteration and of a run, over what record and words say. Assumes nothing.
+use mathlib.Core.Path.{_≡_, refl, sym, ap, subst, _∙_}
+use mathlib.Core.Bool.{true, false}
+use mathlib.Core.List.{List, [], _∷_}
+use mathlib.Core.Option.{Option}
+use Prim.Native.Nat.{ℕ, zero, suc, _+_, _-_, _*_, _≤_, _<_}
+use native.Mathlib.Omega.{arith}
+use lib.Dec.{T}
+use lib.IntN.{ℤ}
+use lib.ListN.{length, take, drop}
+use Rattle.semantics.specs.declared.Settings.{Settings}
+use Rattle.semantics.specs.declared.Verdict.{Verdict}
+use Rattle.semantics.specs.declared.Verdict.the-variants.{Open, Safe, Alarm, Full}
+use Rattle.semantics.specs.declared.Analysis.{Analysis}
+use Rattle.semantics.specs.Algorithm.{Domain, Exploration, Taken, verdict-of, leave, finish, iteration, iterate-if, run}
+use Rattle.semantics.specs.Coverage.{Every, Queue, Tidy}
+use Rattle.semantics.specs.Outcomes.{has-verdict}
+use Rattle.semantics.proofs.Tidy.{Left, take-left, Keeps, iteration-tidy}
+use Rattle.rows.specs.Rows.{rows-of}
+use Rattle.waitlist.specs.Waits.{waits, TakenFrom}
+use Rattle.reached.specs.Reached.{Kept}
+use Rattle.reached.proofs.Table.{rows-length, rows-get}
+use Rattle.reached.proofs.Forms.{kept-after}
+use Rattle.analysis.specs.declared.Progress.{Progress}
+use Rattle.transfer.specs.Transfer.{edges-from}
+use Rattle.analysis.specs.Loaded.{domain-of, Any, load-of, Held, Loaded, Finished, Played}
+
+-- each edge has a number up to the last
+pub keeps : (c : List ℤ) (last i n : ℕ) → i + n ≤ last → Every (Keeps (domain-of c) Any last) (edges-from i n)
+keeps c last i zero h = tt
+keeps c last i (suc n) h = (record { number = omega arith; post = λ e f p q. tt }, keeps c last (suc i) n (omega arith))
+
+module _ (w last : ℕ) (a : Analysis) (t l : List ℤ) (h : Held w last a t l) (k : ℕ) (l₁ : List ℤ)
+    (s : TakenFrom (a .settings .order) (waits (a .waiting) l) k l₁ (a .waiting - 1)) where
+  -- the slot taken is in use, and the rest is a queue
+  pub taken-left : Queue (a .used) (waits (a .waiting - 1) l₁) × (k < a .used)
+  taken-left = subst (λ (o : Option Taken). Left (a .used) o) (s .taken) (take-left (a .used) (a .settings .order) (waits (a .waiting) l) (h .kept .queue))
+
+  pub kept-taken : length l₁ ≡ length l → Kept w (a .capacity) t l₁ (a .used) (a .waiting - 1)
+  kept-taken ll = kept-after (h .kept) t refl refl (s .kept) ll (taken-left .0)
+
+  -- the iteration is the play of the edges, with the copy of the slot taken
+  iteration-is : (c : List ℤ) (gs : List ℕ) → iteration (domain-of c) gs (load-of w a t l)
+      ≡ finish (domain-of c) (load-of w a t l) k (leave (domain-of c) (a .settings) (a .capacity) (take w (drop (k * w) t)) gs (rows-of w (a .used) t) (waits (a .waiting - 1) l₁))
+  unfolding iteration
+  iteration-is c gs = rw (s .taken, rows-get w (a .used) k t (taken-left .1))
+
+  -- the end of an iteration holds the rules' iteration
+  pub iteration-held : (c : List ℤ) (p : Progress) (t₂ l₂ : List ℤ)
+      → Played w (a .capacity) t₂ l₂ p (leave (domain-of c) (a .settings) (a .capacity) (take w (drop (k * w) t)) (edges-from 0 last) (rows-of w (a .used) t) (waits (a .waiting - 1) l₁))
+      → (r : Analysis) (l₃ : List ℤ) → length l₃ ≡ length l₂ → Finished a k p l₂ r l₃
+      → Loaded w last r t₂ l₃ (iteration (domain-of c) (edges-from 0 last) (load-of w a t l))
+  iteration-held c p t₂ l₂ y r l₃ ll f = record { load = load; held = record { kept = form; allowed = rw (f .settings) (h .allowed); tidy = tidy } }
+    where
+      load : load-of w r t₂ l₃ ≡ iteration (domain-of c) (edges-from 0 last) (load-of w a t l)
+      load = f .load w t₂ t l ∙ ap (finish (domain-of c) (load-of w a t l) k) (y .out) ∙ sym (iteration-is c (edges-from 0 last))
+
+      tidy : Tidy Any last (load-of w r t₂ l₃)
+      tidy = subst (λ (x : Exploration (List ℤ)). Tidy Any last x) (sym load)
+          (iteration-tidy (domain-of c) Any last (λ e x p q s. tt) (edges-from 0 last) (keeps c last 0 last (omega arith)) (load-of w a t l) (h .tidy))
+
+      queue : Queue (p .used) (waits (r .waiting) l₃)
+      queue = subst (λ (n : ℕ). Queue n (waits (r .waiting) l₃)) (rows-length w (r .used) t₂ ∙ f .used) (tidy .queue)
+
+      form : Kept w (r .capacity) t₂ l₃ (r .used) (r .waiting)
+      form = rw (f .capacity, f .used) (kept-after (y .kept) t₂ refl refl (f .put) ll queue)
+
+-- the edges played with a row that is e
+pub played-at : (c row e : List ℤ) (w r : ℕ) (s : Settings) (gs : List ℕ) (u : ℕ) (t t₂ l₂ : List ℤ) (wa : List ℕ) (p : Progress) → length row ≡ w → row ≡ e
+    → Played (length row) r t₂ l₂ p (leave (domain-of c) s r row gs (rows-of (length row) u t) wa) → Played w r t₂ l₂ p (leave (domain-of c) s r e gs (rows-of w u t) wa)
+played-at c row e w r s gs u t t₂ l₂ wa p lw re y = rw (← lw, ← re) y
+
+-- ---- the run
+
+module _ (D : Domain (List ℤ) ℕ) (gs : List ℕ) where
+  closed : (v : Verdict) (x : Exploration (List ℤ)) → has-verdict v ≡ true → iterate-if D gs v x ≡ x
+  closed Open x h = absurd (subst T (sym h) tt)
+  closed Safe x h = refl
+  closed Alarm x h = refl
+  closed Full x h = refl
+
+  opened : (v : Verdict) (x : Exploration (List ℤ)) → has-verdict v ≡ false → iterate-if D gs v x ≡ iteration D gs x
+  opened Open x h = refl
+  opened Safe x h = absurd (subst T h tt)
+  opened Alarm x h = absurd (subst T h tt)
+  opened Full x h = absurd (subst T h tt)
+
+  pub run-closed : (n : ℕ) (x : Exploration (List ℤ)) → has-verdict (x .verdict) ≡ true → run D gs n x ≡ x
+  unfolding run
+  run-closed zero x h = refl
+  run-closed (suc n) x h = ap (run D gs n) (closed (x .verdict) x h) ∙ run-closed n x h
+
+  pub run-open : (n m : ℕ) (x : Exploration (List ℤ)) → has-verdict (x .verdict) ≡ false → n ≡ suc m → run D gs n x ≡ run D gs m (iteration D gs x)
+  unfolding run
+  run-open n m x h e = ap (λ (q : ℕ). run D gs q x) e ∙ ap (run D gs m) (opened (x .verdict) x h)
+
+  pub run-none : (n : ℕ) (x : Exploration (List ℤ)) → n ≡ 0 → run D gs n x ≡ x
+  unfolding run
+  run-none n x e = ap (λ (q : ℕ). run D gs q x) e
+
+pub none-safe : (wa : List ℕ) → length wa ≡ 0 → Safe ≡ verdict-of wa
+none-safe [] e = refl
+none-safe (x ∷ wa) e = absurd (omega arith)
+
+pub some-open : (wa : List ℕ) → 0 < length wa → Open ≡ verdict-of wa
+some-open [] e = absurd (omega arith)
+some-open (x ∷ wa) e = refl
+
+-- an open analysis has a slot waiting
+pub open-waits : (w last : ℕ) (a : Analysis) (t l : List ℤ) → Held w last a t l → has-verdict (a .verdict) ≡ false → 0 < a .waiting
+open-waits w last a t l h o = go (waits (a .waiting) l) (h .kept .slots .count) (h .tidy .empty-safe)
+  where
+    not-safe : (v : Verdict) → has-verdict v ≡ false → v ≡ Safe → ⊥
+    not-safe Open o e = let z : _≡_ {A = ℕ} 0 1 = cc in omega arith
+    not-safe Safe o e = absurd (subst T o tt)
+    not-safe Alarm o e = absurd (subst T o tt)
+    not-safe Full o e = absurd (subst T o tt)
+
+    go : (wa : List ℕ) → a .waiting ≡ length wa → (wa ≡ [] → a .verdict ≡ Safe) → 0 < a .waiting
+    go [] e f = absurd (not-safe (a .verdict) o (f refl))
+    go (x ∷ wa) e f = omega arith

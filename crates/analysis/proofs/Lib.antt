@@ -1,0 +1,7 @@
+pub mod Merges
+pub mod Arrival
+pub mod Iterations
+pub mod Begin
+pub mod Stores
+pub mod Entered
+pub mod Sizes

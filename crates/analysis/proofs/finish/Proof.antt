@@ -1,0 +1,75 @@
+-- `analysis::finish` meets its contract. Assumes nothing.
+use mathlib.Core.Path.{refl}
+use Prim.Native.Nat.{_-_}
+use native.Mathlib.Numerals.{add-one}
+use borrow.Author.Needs.{needs}
+use Rattle.waitlist.specs.Waits.{waits}
+use Rattle.waitlist.proofs.Laws.{held, kept}
+use Rattle.analysis.proofs.finish.Statement.{statement}
+use Rattle.analysis.proofs.finish.Tie as tie
+
+add-iterations : tie.Need-add-iterations
+add-iterations c = search needs
+
+enum-told : tie.Need-enum-told
+enum-told c = search needs
+
+verdict-of-requires : tie.Need-verdict-of-requires
+verdict-of-requires c κs = search needs
+
+enum-told-2 : tie.Need-enum-told-2
+enum-told-2 c = search needs
+
+put-back-requires : tie.Need-put-back-requires
+put-back-requires c κs = search needs
+
+enum-told-3 : tie.Need-enum-told-3
+enum-told-3 c = search needs
+
+put-back-requires-2 : tie.Need-put-back-requires-2
+put-back-requires-2 c κs = search needs
+
+returns : tie.Need-returns
+returns c =
+    let s = c .before .before .before .before .before .before in
+    let e = c .before .enum-told .given .1 in
+    let n = waits (s .args .p .waiting) (s .args .list .now) in
+    let v = c .verdict-of .ensures .verdict n (s .pre .0 .count) in
+    record { load = λ w t t₀ l₀. rw (e, v, add-one); put = s .pre .0; used = refl; capacity = refl; settings = refl; iterations = refl }
+
+same-length : tie.Need-same-length
+same-length c = search needs
+
+returns-2 : tie.Need-returns-2
+returns-2 c =
+    let s = c .before .before .before .before .before .before .before .before in
+    let e = c .before .before .before .enum-told2 .given .1 in
+    let b = held (c .before .put-back .ensures) in
+    record { load = λ w t t₀ l₀. rw (e, b, add-one); put = kept (c .before .put-back .ensures); used = refl; capacity = refl; settings = refl; iterations = refl }
+
+same-length-2 : tie.Need-same-length-2
+same-length-2 c = search needs
+
+returns-3 : tie.Need-returns-3
+returns-3 c =
+    let s = c .before .before .before .before .before .before .before .before in
+    let e = c .before .before .before .enum-told3 .given .1 in
+    let b = held (c .before .put-back2 .ensures) in
+    record { load = λ w t t₀ l₀. rw (e, b, add-one); put = kept (c .before .put-back2 .ensures); used = refl; capacity = refl; settings = refl; iterations = refl }
+
+pub finish-spec : {M : Type 1} → statement M
+finish-spec =
+    tie.close
+    (tie.spec
+    add-iterations
+    enum-told
+    verdict-of-requires
+    enum-told-2
+    put-back-requires
+    enum-told-3
+    put-back-requires-2
+    returns
+    same-length
+    returns-2
+    same-length-2
+    returns-3)

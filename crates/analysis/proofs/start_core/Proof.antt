@@ -1,0 +1,80 @@
+-- `analysis::start_core` meets its contract. Assumes nothing.
+use mathlib.Core.Path.{refl, sym, ap, _∙_}
+use mathlib.Core.List.{List}
+use Prim.Native.Nat.{ℕ, _-_}
+use native.Mathlib.Omega.{arith}
+use borrow.Author.Needs.{needs}
+use lib.IntN.{ℤ, pos}
+use lib.ListN.{length, replicate}
+use Rattle.waitlist.proofs.Laws.{kept}
+use Rattle.reached.specs.Reached.{Kept}
+use Rattle.reached.proofs.Forms.{empty-kept, next-row}
+use Rattle.analysis.proofs.Begin.{begun}
+use Rattle.analysis.proofs.start_core.Statement.{statement}
+use Rattle.analysis.proofs.start_core.Tie as tie
+
+-- what is known once both are zeros
+module _ (c : tie.After-list) where
+  abbrev at-start : tie.Start
+  at-start = c .before .before .before .before .before .before
+
+  abbrev table : List ℤ
+  table = c .before .before .before .before .fill-zero .last .0
+
+  abbrev list : List ℤ
+  list = c .before .fill-zero2 .last .0
+
+  form : Kept (length (at-start .args .row .now)) (at-start .args .capacity) table list 0 0
+  form =
+      let s = at-start in
+      let lt = c .before .before .before .before .fill-zero .kept .0 in
+      let ll = c .before .fill-zero2 .kept .0 in
+      empty-kept (length (s .args .row .now)) (s .args .capacity) table list (s .pre .0) (s .pre .2) (lt ∙ s .pre .3) (ll ∙ s .pre .4)
+      (c .before .before .before .before .fill-zero .ensures ∙ ap (λ (n : ℕ). replicate n (pos 0)) (sym lt)) (c .before .fill-zero2 .ensures ∙ ap (λ (n : ℕ). replicate n (pos 0)) (sym ll))
+
+fill-zero-requires : tie.Need-fill-zero-requires
+fill-zero-requires c κs = search needs
+
+fill-zero-requires-2 : tie.Need-fill-zero-requires-2
+fill-zero-requires-2 c κs = search needs
+
+put-row-requires : tie.Need-put-row-requires
+put-row-requires c κs = let d = c .before in next-row (form d) (at-start d .pre .1)
+
+append-requires : tie.Need-append-requires
+append-requires c κs = let d = c .before .before .before .before in (form d .slots, omega (arith, form d .list, at-start d .pre .1), omega arith)
+
+is-error-requires : tie.Need-is-error-requires
+is-error-requires c κs = search needs
+
+first-verdict-requires : tie.Need-first-verdict-requires
+first-verdict-requires c κs = search needs
+
+same-length : tie.Need-same-length
+same-length c = search needs
+
+same-length-2 : tie.Need-same-length-2
+same-length-2 c = search needs
+
+returns : tie.Need-returns
+returns c =
+    let d = c .before .before .before .before .before .before .before .before in
+    let s = at-start d in
+    let put = c .before .before .before .before .before .before .put-row in
+    let app = c .before .before .before .append in
+    let v = rw (c .before .is-error .ensures) at (c .first-verdict .ensures) in
+    λ last. rw (put .ensures) (begun (length (s .args .row .now)) (s .args .capacity) (table d) (list d) (form d) (s .pre .1) (s .args .row .now) refl last (s .args .chart .now) _ (app .last .0) (app .ensures) (app .kept .0) (s .pre .5) refl refl refl refl v)
+
+pub start-core-spec : {M : Type 1} → statement M
+start-core-spec =
+    tie.close
+    (tie.spec
+    fill-zero-requires
+    fill-zero-requires-2
+    put-row-requires
+    append-requires
+    is-error-requires
+    first-verdict-requires
+    same-length
+    same-length-2
+    returns)

@@ -1,0 +1,92 @@
+-- What record, table words and list words say, as an exploration of rows; the form that they keep; and how parts of an iteration end.
+-- Assumes nothing.
+use mathlib.Core.Path.{_≡_}
+use mathlib.Core.Bool.{Bool, true, false}
+use mathlib.Core.List.{List}
+use Prim.Native.Nat.{ℕ, _+_}
+use lib.IntN.{ℤ}
+use lib.ListN.{length}
+use Rattle.semantics.specs.declared.Verdict.{Verdict}
+use Rattle.semantics.specs.declared.Analysis.{Analysis}
+use Rattle.semantics.specs.Algorithm.{Domain, Out, on, alarmed, full, halt, Exploration, finish, verdict-of}
+use Rattle.semantics.specs.Coverage.{Allowed, Tidy}
+use Rattle.rows.specs.Rows.{rows-of, row-domain}
+use Rattle.waitlist.specs.Waits.{waits, Put}
+use Rattle.reached.specs.Reached.{Kept}
+use Rattle.transfer.specs.Transfer.{post-words, error-row}
+use Rattle.analysis.specs.declared.Exit.{Exit}
+use Rattle.analysis.specs.declared.Exit.the-variants.{On, Alarm, Full}
+use Rattle.analysis.specs.declared.Progress.{Progress}
+
+-- the rows as a domain, over an encoded chart
+abbrev pub domain-of : List ℤ → Domain (List ℤ) ℕ
+domain-of c = row-domain (post-words c) (error-row c)
+
+-- the same with no chart, for what looks at rows only
+abbrev pub rows-only : Domain (List ℤ) ℕ
+rows-only = row-domain (λ g e. halt) (λ e. false)
+
+-- ---- between the edges of an iteration
+
+abbrev pub out-by : Exit → ℕ → List (List ℤ) → List ℕ → Out (List ℤ)
+out-by On n en wa = on en wa
+out-by Alarm n en wa = alarmed n en wa
+out-by Full n en wa = full en wa
+
+-- what words and counts say of the edges played so far
+abbrev pub out-of : ℕ → List ℤ → List ℤ → Progress → Out (List ℤ)
+out-of w t l p = out-by (p .exit) (p .edge .0) (rows-of w (p .used) t) (waits (p .waiting) l)
+
+abbrev pub has-ended : Exit → Bool
+has-ended On = false
+has-ended Alarm = true
+has-ended Full = true
+
+-- the words t, l and the counts p are in form and hold the outcome o
+pub record Played (w r : ℕ) (t l : List ℤ) (p : Progress) (o : Out (List ℤ)) : Type 0 where
+  pub out : out-of w t l p ≡ o
+  pub kept : Kept w r t l (p .used) (p .waiting)
+
+-- ---- between iterations
+
+-- what record and words say
+abbrev pub load-of : ℕ → Analysis → List ℤ → List ℤ → Exploration (List ℤ)
+load-of w a t l = record {
+  settings = a .settings;
+  capacity = a .capacity;
+  iterations = a .iterations;
+  reached = rows-of w (a .used) t;
+  waitlist = waits (a .waiting) l;
+  verdict = a .verdict;
+  edge = a .edge .0;
+}
+
+-- nothing is asked of a row
+abbrev pub Any : List ℤ → Type 0
+Any e = Unit
+
+-- record and words in form: rows of w words, edges up to `last`
+pub record Held (w last : ℕ) (a : Analysis) (t l : List ℤ) : Type 0 where
+  pub kept : Kept w (a .capacity) t l (a .used) (a .waiting)
+  pub allowed : Allowed (a .settings)
+  pub tidy : Tidy Any last (load-of w a t l)
+
+-- record and words in form, and they say x
+pub record Loaded (w last : ℕ) (a : Analysis) (t l : List ℤ) (x : Exploration (List ℤ)) : Type 0 where
+  pub load : load-of w a t l ≡ x
+  pub held : Held w last a t l
+
+-- ---- the end of an iteration
+
+-- the verdict v where so many wait
+pub record Ended (waiting : ℕ) (v : Verdict) : Type 0 where
+  pub verdict : (wa : List ℕ) → waiting ≡ length wa → v ≡ verdict-of wa
+
+-- the record r and the list l′ hold the end of an iteration that took slot k and ended with p over the list l
+pub record Finished (a : Analysis) (k : ℕ) (p : Progress) (l : List ℤ) (r : Analysis) (l′ : List ℤ) : Type 0 where
+  pub load : (w : ℕ) (t t₀ l₀ : List ℤ) → load-of w r t l′ ≡ finish rows-only (load-of w a t₀ l₀) k (out-of w t l p)
+  pub put : Put l′ (r .waiting) (waits (r .waiting) l′)
+  pub used : r .used ≡ p .used
+  pub capacity : r .capacity ≡ a .capacity
+  pub settings : r .settings ≡ a .settings
+  pub iterations : r .iterations ≡ a .iterations + 1

@@ -1,0 +1,421 @@
+// The algorithm over lent words: a successor's arrival, the edges of an iteration in file order, the iteration, the run of
+// iterations and the start. Record and counts go by value.
+use semantics::Analysis;
+use semantics::EdgeId;
+use semantics::Mode;
+use semantics::Settings;
+use semantics::SlotId;
+use semantics::Verdict;
+ghost use mathlib.Core.Path.{_≡_};
+ghost use Prim.Native.Nat.{ℕ, _+_, _-_, _*_, _<_, _≤_, min};
+ghost use lib.ListN.{length};
+ghost use Rattle.semantics.specs.Algorithm.{merged, rewait, arrive, visit, leave, first-verdict, iteration, run, start};
+ghost use Rattle.semantics.specs.Coverage.{Queue, Allowed};
+ghost use Rattle.semantics.specs.Outcomes.{has-verdict};
+ghost use Rattle.rows.specs.Rows.{rows-of};
+ghost use Rattle.waitlist.specs.Waits.{waits, Put};
+ghost use Rattle.reached.specs.Reached.{Kept};
+ghost use Rattle.transfer.specs.Transfer.{edge-at, edges-from, post-at};
+ghost use Rattle.analysis.specs.Loaded.{rows-only, domain-of, has-ended, Played, load-of, Held, Loaded, Ended, Finished};
+
+// The most iterations that an analysis plays.
+pub const MOST_ITERATIONS: u32 = 60000;
+
+// How the edges of an iteration, or some of them, end.
+pub enum Exit {
+    On,
+    Alarm,
+    Full,
+}
+
+// The state between two edges: how the last one ended, and the counts of slots in use and waiting.
+pub struct Progress {
+    pub exit: Exit,
+    pub edge: EdgeId,
+    pub used: usize,
+    pub waiting: usize,
+}
+
+// The merge of a successor with each slot, by the setting. How many slots are waiting then.
+fn merge_by(
+    merge: Mode,
+    capacity: usize,
+    table: &mut [i32],
+    used: usize,
+    e: &[i32],
+    list: &mut [i32],
+    waiting: usize,
+) -> usize
+    requires { ⌜ Kept (length (now e)) capacity (now table) (now list) used waiting ⌝ }
+    ensures { λ r. ⌜ rows-of (length (now (e .entry))) used (now (table .exit)) ≡ merged rows-only merge (now (e .entry)) (rows-of (length (now (e .entry))) used (now (table .entry))) ⌝ }
+    ensures { λ r. ⌜ waits r (now (list .exit)) ≡ rewait rows-only merge (now (e .entry)) (rows-of (length (now (e .entry))) used (now (table .entry))) (waits waiting (now (list .entry))) ⌝ }
+    ensures { λ r. ⌜ Kept (length (now (e .entry))) capacity (now (table .exit)) (now (list .exit)) used r ⌝ }
+{
+    match merge {
+        Mode::Sep => waiting,
+        Mode::Join => reached::merge_slots(table, used, e, list, waiting),
+    }
+}
+
+// A successor that is at no error location: merge, then stop, then store. After a join the test against the join of its
+// slots is the test against one slot, so one test serves both ways to stop.
+fn arrive(
+    settings: Settings,
+    capacity: usize,
+    table: &mut [i32],
+    used: usize,
+    e: &[i32],
+    list: &mut [i32],
+    waiting: usize,
+) -> Progress
+    requires { ⌜ Kept (length (now e)) capacity (now table) (now list) used waiting × Allowed settings ⌝ }
+    ensures { λ p. ⌜ Played (length (now (e .entry))) capacity (now (table .exit)) (now (list .exit)) p (arrive rows-only settings capacity (now (e .entry)) (rows-of (length (now (e .entry))) used (now (table .entry))) (waits waiting (now (list .entry)))) ⌝ }
+{
+    let merge = settings.merge;
+    let count = merge_by(merge, capacity, table, used, e, list, waiting);
+    if reached::covered(table, used, e) {
+        return Progress {
+            exit: Exit::On,
+            edge: EdgeId(0),
+            used,
+            waiting: count,
+        };
+    }
+    if used < capacity {
+        reached::put_row(table, SlotId(used), e);
+        let more = waitlist::append(list, count, SlotId(used));
+        return Progress {
+            exit: Exit::On,
+            edge: EdgeId(0),
+            used: used + 1,
+            waiting: more,
+        };
+    }
+    Progress {
+        exit: Exit::Full,
+        edge: EdgeId(0),
+        used,
+        waiting: count,
+    }
+}
+
+// One edge, whose words stand at `at`, with the copy of the taken state. `next` is room for the successor.
+fn visit(
+    chart: &[i32],
+    edge: EdgeId,
+    at: usize,
+    settings: Settings,
+    capacity: usize,
+    table: &mut [i32],
+    used: usize,
+    copy: &[i32],
+    next: &mut [i32],
+    list: &mut [i32],
+    waiting: usize,
+) -> Progress
+    requires { ⌜ Kept (length (now copy)) capacity (now table) (now list) used waiting × Allowed settings × (length (now next) ≡ length (now copy)) × (at < 4294967296) ⌝ }
+    ensures { λ p. ⌜ Played (length (now (copy .entry))) capacity (now (table .exit)) (now (list .exit)) p (visit (domain-of (now (chart .entry))) settings capacity (edge .0) (post-at (now (chart .entry)) at (now (copy .entry))) (rows-of (length (now (copy .entry))) used (now (table .entry))) (waits waiting (now (list .entry)))) ⌝ }
+{
+    let moved = transfer::successor(chart, at, copy, next);
+    if !moved {
+        return Progress {
+            exit: Exit::On,
+            edge: EdgeId(0),
+            used,
+            waiting,
+        };
+    }
+    if transfer::is_error(chart, next) {
+        return Progress {
+            exit: Exit::Alarm,
+            edge,
+            used,
+            waiting,
+        };
+    }
+    arrive(settings, capacity, table, used, next, list, waiting)
+}
+
+fn has_ended(exit: Exit) -> bool
+    ensures { λ r. ⌜ r ≡ has-ended exit ⌝ }
+{
+    match exit {
+        Exit::On => false,
+        Exit::Alarm => true,
+        Exit::Full => true,
+    }
+}
+
+// The edges in file order, each with the copy. The words of the first stand at `first`.
+fn leave(
+    chart: &[i32],
+    first: usize,
+    edges: usize,
+    settings: Settings,
+    capacity: usize,
+    table: &mut [i32],
+    used: usize,
+    copy: &[i32],
+    next: &mut [i32],
+    list: &mut [i32],
+    waiting: usize,
+) -> Progress
+    requires { ⌜ Kept (length (now copy)) capacity (now table) (now list) used waiting × Allowed settings × (length (now next) ≡ length (now copy)) × (first ≡ edge-at (now chart) 0) × (edge-at (now chart) edges < 4294967296) ⌝ }
+    ensures { λ p. ⌜ Played (length (now (copy .entry))) capacity (now (table .exit)) (now (list .exit)) p (leave (domain-of (now (chart .entry))) settings capacity (now (copy .entry)) (edges-from 0 edges) (rows-of (length (now (copy .entry))) used (now (table .entry))) (waits waiting (now (list .entry)))) ⌝ }
+{
+    let mut slots = used;
+    let mut count = waiting;
+    let mut at = first;
+    let mut g = 0;
+    while g < edges {
+        let number = g + 1;
+        let p = visit(
+            chart,
+            EdgeId(number),
+            at,
+            settings,
+            capacity,
+            table,
+            slots,
+            copy,
+            next,
+            list,
+            count,
+        );
+        let exit = p.exit;
+        if has_ended(exit) {
+            return p;
+        }
+        slots = p.used;
+        count = p.waiting;
+        at += 8;
+        g = number;
+    }
+    Progress {
+        exit: Exit::On,
+        edge: EdgeId(0),
+        used: slots,
+        waiting: count,
+    }
+}
+
+// The verdict after an iteration that met no error and had room.
+fn verdict_of(waiting: usize) -> Verdict
+    ensures { λ r. ⌜ Ended waiting r ⌝ }
+{
+    if waiting == 0 {
+        return Verdict::Safe;
+    }
+    Verdict::Open
+}
+
+// The end of an iteration that took the slot.
+fn finish(a: Analysis, slot: SlotId, p: Progress, list: &mut [i32]) -> Analysis
+    requires { ⌜ Put (now list) (p .waiting) (waits (p .waiting) (now list)) × (slot .0 < length (now list)) × (length (now list) < 65536) × Queue (length (now list)) (waits (p .waiting) (now list)) × (a .iterations < 60000) ⌝ }
+    ensures { λ r. ⌜ Finished a (slot .0) p (now (list .entry)) r (now (list .exit)) ⌝ }
+{
+    let settings = a.settings;
+    let capacity = a.capacity;
+    let iterations = a.iterations + 1;
+    let order = settings.order;
+    let used = p.used;
+    let count = p.waiting;
+    let edge = p.edge;
+    let exit = p.exit;
+    match exit {
+        Exit::On => Analysis {
+            settings,
+            capacity,
+            iterations,
+            used,
+            waiting: count,
+            verdict: verdict_of(count),
+            edge: EdgeId(0),
+        },
+        Exit::Alarm => {
+            let back = waitlist::put_back(order, list, count, slot);
+            Analysis {
+                settings,
+                capacity,
+                iterations,
+                used,
+                waiting: back,
+                verdict: Verdict::Alarm,
+                edge,
+            }
+        }
+        Exit::Full => {
+            let back = waitlist::put_back(order, list, count, slot);
+            Analysis {
+                settings,
+                capacity,
+                iterations,
+                used,
+                waiting: back,
+                verdict: Verdict::Full,
+                edge: EdgeId(0),
+            }
+        }
+    }
+}
+
+// One iteration, with room lent for the copy of the taken state and for its successors.
+fn iterate(
+    chart: &[i32],
+    first: usize,
+    edges: usize,
+    a: Analysis,
+    table: &mut [i32],
+    list: &mut [i32],
+    copy: &mut [i32],
+    next: &mut [i32],
+) -> Analysis
+    requires { ⌜ Held (length (now copy)) edges a (now table) (now list) × (a .iterations < 60000) × (0 < a .waiting) × (length (now next) ≡ length (now copy)) × (first ≡ edge-at (now chart) 0) × (edge-at (now chart) edges < 4294967296) ⌝ }
+    ensures { λ r. ⌜ Loaded (length (now (copy .entry))) edges r (now (table .exit)) (now (list .exit)) (iteration (domain-of (now (chart .entry))) (edges-from 0 edges) (load-of (length (now (copy .entry))) a (now (table .entry)) (now (list .entry)))) × (r .iterations ≡ a .iterations + 1) ⌝ }
+{
+    let settings = a.settings;
+    let capacity = a.capacity as usize;
+    let used = a.used;
+    let waiting = a.waiting;
+    let order = settings.order;
+    let slot = waitlist::take_slot(order, list, waiting);
+    reached::get_row(table, slot, copy);
+    let p = leave(
+        chart,
+        first,
+        edges,
+        settings,
+        capacity,
+        table,
+        used,
+        copy,
+        next,
+        list,
+        waiting - 1,
+    );
+    finish(a, slot, p, list)
+}
+
+// One iteration, over rows of `width` words.
+fn iteration(
+    chart: &[i32],
+    first: usize,
+    edges: usize,
+    width: usize,
+    a: Analysis,
+    table: &mut [i32],
+    list: &mut [i32],
+) -> Analysis
+    requires { ⌜ Held width edges a (now table) (now list) × (a .iterations < 60000) × (0 < a .waiting) × (width ≤ 9) × (first ≡ edge-at (now chart) 0) × (edge-at (now chart) edges < 4294967296) ⌝ }
+    ensures { λ r. ⌜ Loaded width edges r (now (table .exit)) (now (list .exit)) (iteration (domain-of (now (chart .entry))) (edges-from 0 edges) (load-of width a (now (table .entry)) (now (list .entry)))) × (r .iterations ≡ a .iterations + 1) ⌝ }
+{
+    let mut copy = [0i32; 9];
+    let mut next = [0i32; 9];
+    iterate(
+        chart,
+        first,
+        edges,
+        a,
+        table,
+        list,
+        &mut copy[..width],
+        &mut next[..width],
+    )
+}
+
+fn has_verdict(verdict: Verdict) -> bool
+    ensures { λ r. ⌜ r ≡ has-verdict verdict ⌝ }
+{
+    match verdict {
+        Verdict::Open => false,
+        Verdict::Safe => true,
+        Verdict::Alarm => true,
+        Verdict::Full => true,
+    }
+}
+
+// Where the words of the first edge stand.
+fn first_edge(chart: &[i32]) -> usize
+    ensures { λ r. ⌜ r ≡ edge-at (now (chart .entry)) 0 ⌝ }
+{
+    let variables = words::magnitude(words::word_at(chart, 0));
+    let locations = words::magnitude(words::word_at(chart, 1));
+    3 + 3 * variables + 17 * locations
+}
+
+// How many iterations the budget still allows.
+fn allowance(budget: u32, iterations: u32) -> u32
+    requires { ⌜ iterations ≤ 60000 ⌝ }
+    ensures { λ r. ⌜ r ≡ min budget (60000 - iterations) ⌝ }
+{
+    let left = MOST_ITERATIONS - iterations;
+    if budget < left {
+        return budget;
+    }
+    left
+}
+
+// Iterations until a verdict, until the budget is spent, or until the most were played.
+pub fn run_core(
+    chart: &[i32],
+    edges: usize,
+    width: usize,
+    a: Analysis,
+    budget: u32,
+    table: &mut [i32],
+    list: &mut [i32],
+) -> Analysis
+    requires { ⌜ Held width edges a (now table) (now list) × (a .iterations ≤ 60000) × (width ≤ 9) × (edge-at (now chart) edges < 4294967296) ⌝ }
+    ensures { λ r. ⌜ Loaded width edges r (now (table .exit)) (now (list .exit)) (run (domain-of (now (chart .entry))) (edges-from 0 edges) (min budget (60000 - a .iterations)) (load-of width a (now (table .entry)) (now (list .entry)))) ⌝ }
+{
+    let first = first_edge(chart);
+    let mut left = allowance(budget, a.iterations);
+    let mut at = a;
+    while 0 < left {
+        let verdict = at.verdict;
+        if has_verdict(verdict) {
+            return at;
+        }
+        at = iteration(chart, first, edges, width, at, table, list);
+        left -= 1;
+    }
+    at
+}
+
+fn first_verdict(error: bool) -> Verdict
+    ensures { λ r. ⌜ r ≡ first-verdict error ⌝ }
+{
+    if error {
+        return Verdict::Alarm;
+    }
+    Verdict::Open
+}
+
+// An analysis begins with the initial state, in the row lent, in slot 0, waiting.
+pub fn start_core(
+    chart: &[i32],
+    settings: Settings,
+    capacity: u32,
+    table: &mut [i32],
+    list: &mut [i32],
+    row: &[i32],
+) -> Analysis
+    requires { ⌜ (0 < length (now row)) × (0 < capacity) × (capacity < 65536) × (length (now table) ≡ capacity * length (now row)) × (length (now list) ≡ capacity) × Allowed settings ⌝ }
+    ensures { λ r. ⌜ ((last : ℕ) → Loaded (length (now (row .entry))) last r (now (table .exit)) (now (list .exit)) (start (domain-of (now (chart .entry))) settings capacity (now (row .entry)))) ⌝ }
+{
+    words::fill_zero(table);
+    words::fill_zero(list);
+    reached::put_row(table, SlotId(0), row);
+    let count = waitlist::append(list, 0, SlotId(0));
+    let error = transfer::is_error(chart, row);
+    let verdict = first_verdict(error);
+    Analysis {
+        settings,
+        capacity,
+        iterations: 0,
+        used: 1,
+        waiting: count,
+        verdict,
+        edge: EdgeId(0),
+    }
+}

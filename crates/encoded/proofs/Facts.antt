@@ -1,0 +1,58 @@
+-- What a read word and a test of it tell, and the turn and the end of a loop over rows. Assumes nothing.
+use mathlib.Core.Path.{_≡_, refl, ap, _∙_}
+use mathlib.Core.Bool.{Bool, true, false, _&&_}
+use mathlib.Core.List.{List}
+use Prim.Native.Nat.{ℕ, suc, _+_, _-_, _≤_, _<_}
+use native.Mathlib.Nat.{sub-zero}
+use native.Mathlib.Omega.{arith}
+use borrow.Author.Tests.{le-leb}
+use lib.Dec.{eqb}
+use lib.IntN.{ℤ, pos, negsuc}
+use lib.Signed.{nonNeg, leZ}
+use lib.ListN.{length, take, drop, length-drop}
+use lib.Seq.{take-all, drop-drop}
+use mir.Syntax.{w32}
+use mir.Val.{SFits, ofZ, toZ}
+use mir.ValLaws.{toZ-ofZ}
+use Rattle.semantics.specs.Lists.{all}
+use Rattle.semantics.specs.Chart.{eqZ}
+use Rattle.semantics.specs.Encoding.{several}
+use Rattle.words.proofs.Words.{bits-eqb}
+
+module _ {z x : ℤ} (fits : SFits w32 z) (same : z ≡ x) where
+  -- a word that a call answered, and its test
+  pub told : toZ w32 (ofZ w32 z) ≡ x
+  told = toZ-ofZ w32 z fits ∙ same
+
+  pub tested : {n : ℤ} → SFits w32 n → eqb (ofZ w32 z) (ofZ w32 n) ≡ eqZ x n
+  tested {n} f = bits-eqb w32 {a = z} {b = n} fits f ∙ ap (λ (y : ℤ). eqZ y n) same
+
+-- the test for a sign
+pub from-zero : (z : ℤ) → leZ (pos 0) z ≡ nonNeg z
+from-zero (pos n) = le-leb 0 n (omega arith)
+from-zero (negsuc n) = refl
+
+-- the part of a slice from a place on
+pub from-on : (ws : List ℤ) (a : ℕ) → take (length ws - a) (drop a ws) ≡ drop a ws
+from-on ws a = take-all (length ws - a) (drop a ws) (simp length-drop (omega arith))
+
+pub and-true : (a : Bool) → a && true ≡ a
+and-true true = refl
+and-true false = refl
+
+pub and-assoc : (a b c : Bool) → a && (b && c) ≡ a && b && c
+and-assoc true b c = refl
+and-assoc false b c = refl
+
+-- a test of n rows of k words: the rows passed, the row at hand, the rows left
+module _ {A : Type 0} (p : A → Bool) (g : List ℤ → A) (k n : ℕ) (ws : List ℤ) (ok : Bool) (i at : ℕ) where
+  pub rows-start : all p (several g k n ws) ≡ all p (several g k (n - 0) ws)
+  rows-start = rw (sub-zero n)
+
+  pub rows-turn : (b : Bool) → b ≡ p (g (drop at ws)) → i < n → ok && all p (several g k (n - i) (drop at ws)) ≡ ok && b && all p (several g k (n - (i + 1)) (drop (at + k) ws))
+  rows-turn b e h =
+      let m : n - i ≡ suc (n - (i + 1)) = omega arith in
+      rw (m, drop-drop k at ws, e) (and-assoc ok (p (g (drop at ws))) (all p (several g k (n - (i + 1)) (drop (at + k) ws))))
+
+  pub rows-end : n ≤ i → ok && all p (several g k (n - i) (drop at ws)) ≡ ok
+  rows-end h = let m : n - i ≡ 0 = omega arith in rw m (and-true ok)

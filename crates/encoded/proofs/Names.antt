@@ -1,0 +1,91 @@
+-- The name in a location's words, byte by byte: the turns of the loops over it. Assumes nothing.
+use mathlib.Core.Path.{_≡_, refl, sym, ap, _∙_}
+use mathlib.Core.Bool.{Bool, true, false, _&&_, not}
+use mathlib.Core.List.{List, [], _∷_}
+use Prim.Native.Nat.{ℕ, zero, suc, _+_, _-_, _<_}
+use native.Mathlib.Omega.{arith}
+use native.Mathlib.Numerals.{add-one}
+use borrow.Author.Tests.{eq-eqb, ne-eqb, eqb-true}
+use lib.Dec.{eqb, eqb·suc-zero}
+use lib.IntN.{ℤ, pos, negsuc, natAbs}
+use lib.ListN.{length, getD, drop}
+use lib.Seq.{drop-nil, drop-cons, drop-drop}
+use Rattle.semantics.specs.Lists.{all}
+use Rattle.semantics.specs.Text.{same-bytes}
+use Rattle.semantics.specs.Chart.{Loc, eqZ}
+use Rattle.semantics.specs.Encoding.{byte-unless, name-in, loc-in, several, distinct-names, count}
+use Rattle.encoded.proofs.Facts.{and-assoc}
+
+-- the first word left, and the words after it; past the end there is no byte more
+pub name-step : (n : ℕ) (ws : List ℤ) (i : ℕ) → name-in (suc n) (drop i ws) ≡ byte-unless (eqZ (getD ws i (pos 0)) (pos 0)) (getD ws i (pos 0)) (name-in n (drop (suc i) ws))
+name-step n [] i = rw (drop-nil {A = ℤ} i)
+name-step n (x ∷ xs) zero = refl
+name-step n (x ∷ xs) (suc i) = name-step n xs i
+
+abs-zero : (z : ℤ) → eqZ z (pos 0) ≡ eqb (natAbs z) 0
+abs-zero (pos n) = refl
+abs-zero (negsuc n) = sym (eqb·suc-zero n)
+
+-- i bytes are passed, and one word is looked at
+module _ (ws : List ℤ) (i : ℕ) (more : i < 16) where
+  left : 16 - i ≡ suc (16 - (i + 1))
+  left = omega arith
+
+  pub name-left : name-in (16 - i) (drop (i + 1) ws) ≡ byte-unless (eqb (count ws (i + 1)) 0) (getD ws (i + 1) (pos 0)) (name-in (16 - (i + 1)) (drop (i + 1 + 1) ws))
+  name-left = rw (left, add-one (i + 1), ← abs-zero (getD ws (i + 1) (pos 0))) (name-step (16 - (i + 1)) ws (i + 1))
+
+  -- the name ends here; it has one byte more
+  pub name-ends : (n : ℕ) → n ≡ i + length (name-in (16 - i) (drop (i + 1) ws)) → eqZ (getD ws (i + 1) (pos 0)) (pos 0) ≡ true → i ≡ n
+  name-ends n e t = let z : eqb (count ws (i + 1)) 0 ≡ true = sym (abs-zero (getD ws (i + 1) (pos 0))) ∙ t in omega (arith, rw (name-left, z) at e)
+
+  pub name-goes : (n : ℕ) → n ≡ i + length (name-in (16 - i) (drop (i + 1) ws)) → eqZ (getD ws (i + 1) (pos 0)) (pos 0) ≡ false → n ≡ i + 1 + length (name-in (16 - (i + 1)) (drop (i + 1 + 1) ws))
+  name-goes n e t = let z : eqb (count ws (i + 1)) 0 ≡ false = sym (abs-zero (getD ws (i + 1) (pos 0))) ∙ t in omega (arith, rw (name-left, z) at e)
+
+-- words of different numbers begin different names
+apart : (a b : ℤ) (s t : List ℕ) → (natAbs a ≡ natAbs b → ⊥) → same-bytes (byte-unless (eqb (natAbs a) 0) a s) (byte-unless (eqb (natAbs b) 0) b t) ≡ false
+apart a b s t h = go (eqb (natAbs a) 0) (eqb (natAbs b) 0) refl refl where
+  go : (u v : Bool) → eqb (natAbs a) 0 ≡ u → eqb (natAbs b) 0 ≡ v → same-bytes (byte-unless u a s) (byte-unless v b t) ≡ false
+  go true true p q = absurd (h (eqb-true _ _ p ∙ sym (eqb-true _ _ q)))
+  go true false p q = refl
+  go false true p q = refl
+  go false false p q = rw (ne-eqb (natAbs a) (natAbs b) h)
+
+-- two names, by the numbers x and y of the words looked at
+module _ (us vs : List ℤ) (i : ℕ) (more : i < 16) (x y : ℕ) (ex : x ≡ count us (i + 1)) (ey : y ≡ count vs (i + 1)) where
+  abbrev now-left : Bool
+  now-left = same-bytes (name-in (16 - i) (drop (i + 1) us)) (name-in (16 - i) (drop (i + 1) vs))
+
+  pub names-part : (x ≡ y → ⊥) → now-left ≡ false
+  names-part h =
+      rw (name-left us i more, name-left vs i more)
+      (apart (getD us (i + 1) (pos 0)) (getD vs (i + 1) (pos 0)) _ _ (λ e. h (ex ∙ e ∙ sym ey)))
+
+  pub names-end : x ≡ y → x ≡ 0 → now-left ≡ true
+  names-end h z =
+      let p : eqb (count us (i + 1)) 0 ≡ true = eq-eqb _ _ (sym ex ∙ z) in
+      let q : eqb (count vs (i + 1)) 0 ≡ true = eq-eqb _ _ (sym ey ∙ sym h ∙ z) in
+      rw (name-left us i more, name-left vs i more, p, q)
+
+  pub names-go : x ≡ y → (x ≡ 0 → ⊥) → now-left ≡ same-bytes (name-in (16 - (i + 1)) (drop (i + 1 + 1) us)) (name-in (16 - (i + 1)) (drop (i + 1 + 1) vs))
+  names-go h z =
+      let p : eqb (count us (i + 1)) 0 ≡ false = ne-eqb _ _ (λ e. z (ex ∙ e)) in
+      let q : eqb (count vs (i + 1)) 0 ≡ false = ne-eqb _ _ (λ e. z (h ∙ ey ∙ e)) in
+      let s : eqb (count us (i + 1)) (count vs (i + 1)) ≡ true = eq-eqb _ _ (sym ex ∙ h ∙ ey) in
+      rw (name-left us i more, name-left vs i more, p, q, s)
+
+-- the words of a name, each tested
+module _ (p : ℤ → Bool) (ws : List ℤ) (ok : Bool) (i : ℕ) where
+  pub bytes-turn : (b : Bool) → i < length ws → b ≡ p (getD ws i (pos 0)) → ok && all p (drop i ws) ≡ ok && b && all p (drop (i + 1) ws)
+  bytes-turn b h e = rw (add-one i, drop-cons ws i (pos 0) h, e) (and-assoc ok (p (getD ws i (pos 0))) (all p (drop (suc i) ws)))
+
+-- the name is not that of the location given
+abbrev pub other-name : List ℤ → Loc → Bool
+other-name row m = not (same-bytes (loc-in row .name) (m .name))
+
+module _ (ws : List ℤ) (ok : Bool) (left at : ℕ) where
+  pub differ-turn : (b : Bool) → 0 < left → b ≡ all (other-name (drop at ws)) (several loc-in 17 (left - 1) (drop (at + 17) ws))
+      → ok && distinct-names (several loc-in 17 left (drop at ws)) ≡ ok && b && distinct-names (several loc-in 17 (left - 1) (drop (at + 17) ws))
+  differ-turn b h e =
+      let m : left ≡ suc (left - 1) = omega arith in
+      ap (λ (n : ℕ). ok && distinct-names (several loc-in 17 n (drop at ws))) m
+      ∙ rw (drop-drop 17 at ws, e) (and-assoc ok (all (other-name (drop at ws)) (several loc-in 17 (left - 1) (drop (at + 17) ws))) (distinct-names (several loc-in 17 (left - 1) (drop (at + 17) ws))))

@@ -1,0 +1,28 @@
+-- `encoded::edge_row_ok` meets its contract. Assumes nothing.
+use borrow.Author.Needs.{needs, sfits-of}
+use Rattle.encoded.specs.Encoded.{edge-fine}
+use Rattle.encoded.proofs.Facts.{told}
+use Rattle.encoded.proofs.edge_row_ok.Statement.{statement}
+use Rattle.encoded.proofs.edge_row_ok.Tie as tie
+
+returns : tie.Need-returns
+unfolding edge-fine
+returns c =
+    let m = c .before in
+    let i = m .before .before in
+    let h = i .before .before in
+    let from = h .before .word-at in
+    let to = i .before .word-at2 in
+    let op = m .before .word-at3 in
+    rw (
+      c .operation-ok .ensures,
+      m .is-at-most .ensures,
+      i .is-index2 .ensures,
+      h .is-index .ensures,
+      told (sfits-of {z = from .result} (from .ok)) (from .ensures),
+      told (sfits-of {z = to .result} (to .ok)) (to .ensures),
+      told (sfits-of {z = op .result} (op .ok)) (op .ensures),
+    )
+
+pub edge-row-ok-spec : {M : Type 1} → statement M
+edge-row-ok-spec = tie.close (tie.spec (λ c κs. search needs) (λ c κs. search needs) (λ c κs. search needs) (λ c κs. search needs) (λ c κs. search needs) (λ c κs. search needs) (λ c κs. search needs) returns)

@@ -1,0 +1,57 @@
+-- `encoded::rows_ok` meets its contract. Assumes nothing.
+use borrow.Author.Needs.{needs}
+use Rattle.encoded.specs.Encoded.{rows-fine}
+use Rattle.encoded.proofs.Facts.{from-on}
+use Rattle.encoded.proofs.rows_ok.Statement.{statement}
+use Rattle.encoded.proofs.rows_ok.Tie as tie
+
+returns : tie.Need-returns
+unfolding rows-fine
+returns c =
+    let d = c .before .before in
+    let v = d .before .before in
+    let f = v .before .before .before in
+    let a = f .before in
+    let e = a .before in
+    let l = e .before in
+    let ws = l .before .before .args .words .now in
+    rw (
+      c .edges-ok .ensures,
+      d .names-differ .ensures,
+      d .before .locations-ok .ensures,
+      v .vars-ok .ensures,
+      from-on ws 3,
+      from-on ws (a .locations-at .result),
+      from-on ws (f .edges-at .result),
+      a .locations-at .ensures .0,
+      f .edges-at .ensures .0,
+      e .edge-count .ensures .0,
+      l .location-count .ensures .0,
+      l .before .var-count .ensures .0,
+    )
+
+pub rows-ok-spec : {M : Type 1} → statement M
+rows-ok-spec =
+    tie.close
+    (tie.spec
+    (λ c κs. search needs)
+    (λ c κs. search needs)
+    (λ c κs. search needs)
+    (λ c κs. search needs)
+    (λ c κs. search needs)
+    (λ c. search needs)
+    (λ c. search needs)
+    (λ c. search needs)
+    (λ c. search needs)
+    (λ c. search needs)
+    (λ c. search needs)
+    (λ c. search needs)
+    (λ c κs. search needs)
+    (λ c κs. search needs)
+    (λ c κs. search needs)
+    (λ c. search needs)
+    (λ c. search needs)
+    (λ c. search needs)
+    (λ c. search needs)
+    (λ c κs. search needs)
+    returns)

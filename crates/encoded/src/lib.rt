@@ -1,0 +1,427 @@
+// The encoded chart: its check, and where its counts, names and edges stand.
+use semantics::LocationId;
+ghost use mathlib.Core.Path.{_≡_};
+ghost use mathlib.Core.Bool.{not};
+ghost use Prim.Native.Nat.{suc, _+_, _*_, _<_, _≤_};
+ghost use lib.ListN.{length, getD};
+ghost use Rattle.semantics.specs.Lists.{all};
+ghost use Rattle.semantics.specs.Text.{same-bytes};
+ghost use Rattle.semantics.specs.Chart.{within, small};
+ghost use Rattle.semantics.specs.Encoding.{val, init-ok, var-in, var-ok, loc-in, several, distinct-names, count, decode, well-formed};
+ghost use Rattle.semantics.specs.Memory.{below};
+ghost use Rattle.semantics.specs.Listing.{loc-text};
+ghost use Rattle.encoded.specs.Encoded.{rows, at-most, name-word, counts-fine, locations-at, edges-at, location-fine, operand-fine, ranged, two-fine, one-fine, input-fine, operands-fine, operation-fine, edge-fine, rows-fine, byte-of};
+
+// ---- one word
+
+fn lies_within(lo: i32, hi: i32, w: i32) -> bool
+    ensures { λ r. ⌜ r ≡ within lo hi w ⌝ }
+{
+    (lo <= w) & (w <= hi)
+}
+
+fn is_small(w: i32) -> bool
+    ensures { λ r. ⌜ r ≡ small w ⌝ }
+{
+    (-32768 <= w) & (w <= 32767)
+}
+
+fn is_at_most(n: usize, w: i32) -> bool
+    ensures { λ r. ⌜ r ≡ at-most n w ⌝ }
+{
+    (0 <= w) & (words::magnitude(w) <= n)
+}
+
+fn is_index(n: usize, w: i32) -> bool
+    ensures { λ r. ⌜ r ≡ below n w ⌝ }
+{
+    (0 <= w) & (words::magnitude(w) < n)
+}
+
+fn is_name_byte(w: i32) -> bool
+    ensures { λ r. ⌜ r ≡ name-word w ⌝ }
+{
+    lies_within(65, 90, w) | lies_within(97, 122, w) | lies_within(48, 57, w) | (w == 45)
+}
+
+// The number at a place.
+fn number_at(words: &[i32], i: usize) -> usize
+    ensures { λ r. ⌜ (r ≡ count (now (words .entry)) i) × (r < 2147483649) ⌝ }
+{
+    words::magnitude(words::word_at(words, i))
+}
+
+// ---- the counts, and where the rows stand
+
+pub fn var_count(words: &[i32]) -> usize
+    ensures { λ r. ⌜ (r ≡ count (now (words .entry)) 0) × (r < 2147483649) ⌝ }
+{
+    number_at(words, 0)
+}
+
+pub fn location_count(words: &[i32]) -> usize
+    ensures { λ r. ⌜ (r ≡ count (now (words .entry)) 1) × (r < 2147483649) ⌝ }
+{
+    number_at(words, 1)
+}
+
+pub fn edge_count(words: &[i32]) -> usize
+    ensures { λ r. ⌜ (r ≡ count (now (words .entry)) 2) × (r < 2147483649) ⌝ }
+{
+    number_at(words, 2)
+}
+
+// The words of a slot of the reached table.
+pub fn width(words: &[i32]) -> usize
+    ensures { λ r. ⌜ (r ≡ suc (count (now (words .entry)) 0)) × (r < 2147483650) ⌝ }
+{
+    number_at(words, 0) + 1
+}
+
+// Where the words of the locations begin, and those of the edges.
+fn locations_at(words: &[i32]) -> usize
+    ensures { λ r. ⌜ (r ≡ locations-at (now (words .entry))) × (r < 8589934592) ⌝ }
+{
+    3 + 3 * number_at(words, 0)
+}
+
+fn edges_at(words: &[i32]) -> usize
+    ensures { λ r. ⌜ (r ≡ edges-at (now (words .entry))) × (r < 51539607552) ⌝ }
+{
+    locations_at(words) + 17 * number_at(words, 1)
+}
+
+// Where the words of an edge stand; edges are counted from 0 here.
+pub fn edge_at(words: &[i32], g: usize) -> usize
+    requires { ⌜ g < 2147483649 ⌝ }
+    ensures { λ r. ⌜ (r ≡ edges-at (now (words .entry)) + 8 * g) × (r < 68719476736) ⌝ }
+{
+    edges_at(words) + 8 * g
+}
+
+fn counts_ok(words: &[i32]) -> bool
+    ensures { λ r. ⌜ r ≡ counts-fine (now (words .entry)) ⌝ }
+{
+    let v = words::word_at(words, 0);
+    let l = words::word_at(words, 1);
+    let e = words::word_at(words, 2);
+    is_at_most(8, v) & is_at_most(64, l) & (1 <= words::magnitude(l)) & is_at_most(256, e)
+}
+
+// ---- variables
+
+// An initial value: top, or a number in the range.
+fn init_word_ok(lo: i32, hi: i32, init: i32) -> bool
+    ensures { λ r. ⌜ r ≡ init-ok lo hi (val init) ⌝ }
+{
+    if init == words::TOP {
+        return true;
+    }
+    is_small(init) & lies_within(lo, hi, init)
+}
+
+fn var_row_ok(row: &[i32]) -> bool
+    ensures { λ r. ⌜ r ≡ var-ok (var-in (now (row .entry))) ⌝ }
+{
+    let lo = words::word_at(row, 0);
+    let hi = words::word_at(row, 1);
+    let init = words::word_at(row, 2);
+    is_small(lo) & is_small(hi) & (lo <= hi) & init_word_ok(lo, hi, init)
+}
+
+fn vars_ok(vars: &[i32], n: usize) -> bool
+    requires { ⌜ 3 * n ≤ length (now vars) ⌝ }
+    ensures { λ r. ⌜ r ≡ all var-ok (several var-in 3 n (now (vars .entry))) ⌝ }
+{
+    let mut ok = true;
+    let mut i = 0;
+    let mut at = 0;
+    while i < n {
+        ok = ok & var_row_ok(&vars[at..]);
+        at += 3;
+        i += 1;
+    }
+    ok
+}
+
+// ---- locations
+
+// The length of the name in a location's words.
+fn row_name_length(row: &[i32]) -> usize
+    ensures { λ r. ⌜ (r ≡ length (loc-in (now (row .entry)) .name)) × (r ≤ 16) ⌝ }
+{
+    let mut i = 0;
+    while i < 16 {
+        let w = words::word_at(row, i + 1);
+        if w == 0 {
+            return i;
+        }
+        i += 1;
+    }
+    i
+}
+
+fn name_bytes_ok(name: &[i32]) -> bool
+    ensures { λ r. ⌜ r ≡ all name-word (now (name .entry)) ⌝ }
+{
+    let mut ok = true;
+    let mut i = 0;
+    while i < name.len() {
+        let w = name[i];
+        ok = ok & is_name_byte(w);
+        i += 1;
+    }
+    ok
+}
+
+fn location_row_ok(row: &[i32]) -> bool
+    requires { ⌜ 17 ≤ length (now row) ⌝ }
+    ensures { λ r. ⌜ r ≡ location-fine (now (row .entry)) ⌝ }
+{
+    let kind = words::word_at(row, 0);
+    let n = row_name_length(row);
+    let end = n + 1;
+    ((kind == 0) | (kind == 1))
+        & (1 <= n)
+        & name_bytes_ok(&row[1..end])
+        & words::all_zero(&row[end..17])
+}
+
+fn locations_ok(locations: &[i32], n: usize) -> bool
+    requires { ⌜ 17 * n ≤ length (now locations) ⌝ }
+    ensures { λ r. ⌜ r ≡ all location-fine (rows 17 n (now (locations .entry))) ⌝ }
+{
+    let mut ok = true;
+    let mut i = 0;
+    let mut at = 0;
+    while i < n {
+        ok = ok & location_row_ok(&locations[at..]);
+        at += 17;
+        i += 1;
+    }
+    ok
+}
+
+// Whether two locations have one name.
+fn same_name(a: &[i32], b: &[i32]) -> bool
+    ensures { λ r. ⌜ r ≡ same-bytes (loc-in (now (a .entry)) .name) (loc-in (now (b .entry)) .name) ⌝ }
+{
+    let mut i = 0;
+    while i < 16 {
+        let x = number_at(a, i + 1);
+        let y = number_at(b, i + 1);
+        if x != y {
+            return false;
+        }
+        if x == 0 {
+            return true;
+        }
+        i += 1;
+    }
+    true
+}
+
+// Whether none of n locations has the name of the one given.
+fn name_is_new(row: &[i32], locations: &[i32], n: usize) -> bool
+    requires { ⌜ 17 * n ≤ length (now locations) ⌝ }
+    ensures { λ r. ⌜ r ≡ all (λ m. not (same-bytes (loc-in (now (row .entry)) .name) (m .name))) (several loc-in 17 n (now (locations .entry))) ⌝ }
+{
+    let mut ok = true;
+    let mut i = 0;
+    let mut at = 0;
+    while i < n {
+        ok = ok & !same_name(row, &locations[at..]);
+        at += 17;
+        i += 1;
+    }
+    ok
+}
+
+fn names_differ(locations: &[i32], n: usize) -> bool
+    requires { ⌜ 17 * n ≤ length (now locations) ⌝ }
+    ensures { λ r. ⌜ r ≡ distinct-names (several loc-in 17 n (now (locations .entry))) ⌝ }
+{
+    let mut ok = true;
+    let mut left = n;
+    let mut at = 0;
+    while left > 0 {
+        let next = at + 17;
+        left -= 1;
+        ok = ok & name_is_new(&locations[at..], &locations[next..], left);
+        at = next;
+    }
+    ok
+}
+
+// ---- edges
+
+// An operand: a number, or one of v variables.
+fn operand_ok(v: usize, tag: i32, w: i32) -> bool
+    ensures { λ r. ⌜ r ≡ operand-fine v tag w ⌝ }
+{
+    if tag == 0 {
+        return is_small(w);
+    }
+    (tag == 1) & is_index(v, w)
+}
+
+// Whether a number lies in the range of a variable.
+fn in_var_range(vars: &[i32], k: usize, w: i32) -> bool
+    requires { ⌜ k < 2147483649 ⌝ }
+    ensures { λ r. ⌜ r ≡ ranged (now (vars .entry)) k w ⌝ }
+{
+    let at = 3 * k;
+    lies_within(words::word_at(vars, at), words::word_at(vars, at + 1), w)
+}
+
+fn two_operands_ok(v: usize, row: &[i32]) -> bool
+    ensures { λ r. ⌜ r ≡ two-fine v (now (row .entry)) ⌝ }
+{
+    operand_ok(v, words::word_at(row, 4), words::word_at(row, 5))
+        & operand_ok(v, words::word_at(row, 6), words::word_at(row, 7))
+}
+
+fn one_operand_ok(v: usize, row: &[i32]) -> bool
+    ensures { λ r. ⌜ r ≡ one-fine v (now (row .entry)) ⌝ }
+{
+    operand_ok(v, words::word_at(row, 4), words::word_at(row, 5))
+        & (words::word_at(row, 6) == 0)
+        & (words::word_at(row, 7) == 0)
+}
+
+// The two numbers of `in`.
+fn input_ok(vars: &[i32], row: &[i32]) -> bool
+    ensures { λ r. ⌜ r ≡ input-fine (now (vars .entry)) (now (row .entry)) ⌝ }
+{
+    let k = number_at(row, 3);
+    let p = words::word_at(row, 5);
+    let q = words::word_at(row, 7);
+    (words::word_at(row, 4) == 0)
+        & (words::word_at(row, 6) == 0)
+        & is_small(p)
+        & in_var_range(vars, k, p)
+        & is_small(q)
+        & in_var_range(vars, k, q)
+        & (p <= q)
+}
+
+fn operands_ok(n: usize, vars: &[i32], v: usize, row: &[i32]) -> bool
+    ensures { λ r. ⌜ r ≡ operands-fine n (now (vars .entry)) v (now (row .entry)) ⌝ }
+{
+    match n {
+        2 => two_operands_ok(v, row),
+        3 => two_operands_ok(v, row),
+        4 => input_ok(vars, row),
+        _ => one_operand_ok(v, row),
+    }
+}
+
+fn operation_ok(vars: &[i32], v: usize, row: &[i32]) -> bool
+    requires { ⌜ 8 ≤ length (now row) ⌝ }
+    ensures { λ r. ⌜ r ≡ operation-fine (now (vars .entry)) v (now (row .entry)) ⌝ }
+{
+    let n = number_at(row, 2);
+    if n == 0 {
+        return words::all_zero(&row[3..8]);
+    }
+    is_index(v, words::word_at(row, 3)) & operands_ok(n, vars, v, row)
+}
+
+fn edge_row_ok(vars: &[i32], v: usize, l: usize, row: &[i32]) -> bool
+    requires { ⌜ 8 ≤ length (now row) ⌝ }
+    ensures { λ r. ⌜ r ≡ edge-fine (now (vars .entry)) v l (now (row .entry)) ⌝ }
+{
+    is_index(l, words::word_at(row, 0))
+        & is_index(l, words::word_at(row, 1))
+        & is_at_most(10, words::word_at(row, 2))
+        & operation_ok(vars, v, row)
+}
+
+fn edges_ok(vars: &[i32], v: usize, l: usize, edges: &[i32], n: usize) -> bool
+    requires { ⌜ 8 * n ≤ length (now edges) ⌝ }
+    ensures { λ r. ⌜ r ≡ all (edge-fine (now (vars .entry)) v l) (rows 8 n (now (edges .entry))) ⌝ }
+{
+    let mut ok = true;
+    let mut i = 0;
+    let mut at = 0;
+    while i < n {
+        ok = ok & edge_row_ok(vars, v, l, &edges[at..]);
+        at += 8;
+        i += 1;
+    }
+    ok
+}
+
+// ---- the check
+
+fn rows_ok(words: &[i32]) -> bool
+    requires { ⌜ edges-at (now words) + 8 * count (now words) 2 ≤ length (now words) ⌝ }
+    ensures { λ r. ⌜ r ≡ rows-fine (now (words .entry)) ⌝ }
+{
+    let v = var_count(words);
+    let l = location_count(words);
+    let e = edge_count(words);
+    let at = locations_at(words);
+    let from = edges_at(words);
+    let vars = &words[3..];
+    let locations = &words[at..];
+    vars_ok(vars, v)
+        & locations_ok(locations, l)
+        & names_differ(locations, l)
+        & edges_ok(vars, v, l, &words[from..], e)
+}
+
+// Whether the words begin with the encoding of a chart that reading can produce: else the refusal is 20.
+pub fn well_formed(words: &[i32]) -> bool
+    ensures { λ r. ⌜ r ≡ well-formed (now (words .entry)) ⌝ }
+{
+    if counts_ok(words) {
+        let end = edge_at(words, edge_count(words));
+        if end <= words.len() {
+            return rows_ok(words);
+        }
+    }
+    false
+}
+
+// ---- names
+
+// The words from a location's row on; none where there is no such location.
+fn location_row(words: &[i32], l: LocationId) -> &[i32]
+    ensures { λ r. ⌜ loc-in (now r) .name ≡ loc-text (decode (now (words .entry)) .locs) (l .0) ⌝ }
+{
+    let k = l.0;
+    if k < location_count(words) {
+        let at = locations_at(words) + 17 * k;
+        if at <= words.len() {
+            return &words[at..];
+        }
+    }
+    &words[0..0]
+}
+
+pub fn name_length(words: &[i32], l: LocationId) -> usize
+    ensures { λ r. ⌜ (r ≡ length (loc-text (decode (now (words .entry)) .locs) (l .0))) × (r ≤ 16) ⌝ }
+{
+    row_name_length(location_row(words, l))
+}
+
+fn low_byte(n: usize) -> u8
+    ensures { λ r. ⌜ r ≡ byte-of n ⌝ }
+{
+    if n < 256 {
+        return n as u8;
+    }
+    0
+}
+
+// A byte of a location's name; 0 past its end.
+pub fn name_byte(words: &[i32], l: LocationId, i: usize) -> u8
+    ensures { λ r. ⌜ r ≡ byte-of (getD (loc-text (decode (now (words .entry)) .locs) (l .0)) i 0) ⌝ }
+{
+    let row = location_row(words, l);
+    if i < row_name_length(row) {
+        return low_byte(number_at(row, i + 1));
+    }
+    0
+}

@@ -1,0 +1,48 @@
+-- `form::analysis_ok` meets its contract. Assumes nothing.
+use mathlib.Core.Path.{ap, _∙_}
+use Prim.Native.Nat.{ℕ}
+use borrow.Author.Needs.{needs}
+use Rattle.semantics.specs.Lists.{all-of}
+use Rattle.semantics.specs.Encoding.{count}
+use Rattle.form.specs.Form.{record-tests}
+use Rattle.form.proofs.Facts.{passed, failed, both-parts}
+use Rattle.form.proofs.analysis_ok.Statement.{statement}
+use Rattle.form.proofs.analysis_ok.Tie as tie
+
+cast-capacity : tie.Need-cast-capacity
+cast-capacity c = search needs
+
+lent-ok-requires : tie.Need-lent-ok-requires
+lent-ok-requires c κs = search needs
+
+count-at-requires : tie.Need-count-at-requires
+count-at-requires c κs = search needs
+
+record-ok-requires : tie.Need-record-ok-requires
+record-ok-requires c κs = search needs
+
+returns : tie.Need-returns
+returns c =
+    let p = c .before .before .before in
+    let s = p .before .before .args in
+    c .record-ok .ensures ∙ ap (λ (n : ℕ). all-of (record-tests n (s .a))) (c .before .count-at .ensures .0)
+    ∙ passed (p .lent-ok .ensures) (c .before .before .if1 .taken) (all-of (record-tests (count (s .chart .now) 2) (s .a)))
+    ∙ both-parts (s .chart .now) (s .table .now) (s .list .now) (s .a)
+
+returns-2 : tie.Need-returns-2
+returns-2 c =
+    let p = c .before in
+    let s = p .before .before .args in
+    failed (p .lent-ok .ensures) (c .if1 .left) (all-of (record-tests (count (s .chart .now) 2) (s .a)))
+    ∙ both-parts (s .chart .now) (s .table .now) (s .list .now) (s .a)
+
+pub analysis-ok-spec : {M : Type 1} → statement M
+analysis-ok-spec =
+    tie.close
+    (tie.spec
+    cast-capacity
+    lent-ok-requires
+    count-at-requires
+    record-ok-requires
+    returns
+    returns-2)

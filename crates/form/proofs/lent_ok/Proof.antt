@@ -1,0 +1,226 @@
+-- `form::lent_ok` meets its contract: after each test that passed, what is left of them says the whole. Assumes nothing.
+use mathlib.Core.Path.{_≡_, refl, sym, ap, subst, _∙_}
+use mathlib.Core.Bool.{Bool, _&&_}
+use mathlib.Core.List.{List}
+use Prim.Native.Nat.{ℕ, _*_, _≤_}
+use native.Mathlib.Nat.{mul-le-mul-right}
+use native.Mathlib.Omega.{arith}
+use borrow.Author.Needs.{needs}
+use borrow.Author.Tests.{not-true, not-false, le-leb, lt-leb}
+use lib.Dec.{leb}
+use lib.IntN.{ℤ}
+use lib.ListN.{length, take, drop}
+use lib.Seq.{length-take-le}
+use Rattle.semantics.specs.Lists.{all, all-of}
+use Rattle.semantics.specs.Chart.{Chart}
+use Rattle.semantics.specs.Encoding.{decode}
+use Rattle.semantics.specs.Memory.{width, below, rows-ok, each-once, zeros}
+use Rattle.form.specs.Form.{lent-tests}
+use Rattle.form.proofs.Facts.{passed, failed, drop-take, lent-grouped}
+use Rattle.form.proofs.lent_ok.Statement.{statement}
+use Rattle.form.proofs.lent_ok.Tie as tie
+
+-- the tests, from the third on
+module _ (s : tie.Start) where
+  abbrev chart : Chart
+  chart = decode (s .args .chart .now)
+
+  abbrev table : List ℤ
+  table = s .args .table .now
+
+  abbrev list : List ℤ
+  list = s .args .list .now
+
+  abbrev capacity : ℕ
+  capacity = s .args .capacity
+
+  abbrev used : ℕ
+  used = s .args .used
+
+  abbrev waiting : ℕ
+  waiting = s .args .waiting
+
+  abbrev rows : Bool
+  rows = rows-ok chart used table
+
+  abbrev waits : Bool
+  waits = all (below used) (take waiting list) && each-once (take waiting list)
+
+  abbrev slots : Bool
+  slots = zeros (drop (used * width chart) (take (capacity * width chart) table))
+
+  abbrev rest : Bool
+  rest = zeros (drop waiting (take capacity list))
+
+  abbrev whole : Bool
+  whole = all-of (lent-tests chart capacity used waiting table list)
+
+  after-none : leb used capacity && (leb waiting used && (rows && (waits && (slots && rest)))) ≡ whole
+  after-none =
+      lent-grouped
+      (leb used capacity)
+      (leb waiting used)
+      rows
+      (all (below used) (take waiting list))
+      (each-once (take waiting list))
+      slots
+      rest
+
+returns : tie.Need-returns
+returns c =
+    let s = c .before in
+    failed refl (lt-leb (used s) (capacity s) (c .if1 .taken)) (leb (waiting s) (used s) && (rows s && (waits s && (slots s && rest s)))) ∙ after-none s
+
+after-one : (c : tie.Else1) → let s = c .before in leb (waiting s) (used s) && (rows s && (waits s && (slots s && rest s))) ≡ whole s
+after-one c =
+    let s = c .before in
+    passed refl (le-leb (used s) (capacity s) (c .if1 .left)) (leb (waiting s) (used s) && (rows s && (waits s && (slots s && rest s)))) ∙ after-none s
+
+returns-2 : tie.Need-returns-2
+returns-2 c =
+    let s = c .before .before in
+    failed refl (lt-leb (waiting s) (used s) (c .if2 .taken)) (rows s && (waits s && (slots s && rest s))) ∙ after-one (c .before)
+
+after-two : (c : tie.Else2) → let s = c .before .before in rows s && (waits s && (slots s && rest s)) ≡ whole s
+after-two c =
+    let s = c .before .before in
+    passed refl (le-leb (waiting s) (used s) (c .if2 .left)) (rows s && (waits s && (slots s && rest s))) ∙ after-one (c .before)
+
+rows-ok-requires : tie.Need-rows-ok-requires
+rows-ok-requires c κs =
+    let s = c .before .before in
+    omega (arith, s .pre .0, mul-le-mul-right (width (chart s)) (c .before .if1 .left))
+
+returns-3 : tie.Need-returns-3
+returns-3 c =
+    let p = c .before in
+    let s = p .before .before .before in
+    failed (p .rows-ok .ensures) (not-true (p .rows-ok .result) (c .if3 .taken)) (waits s && (slots s && rest s)) ∙ after-two (p .before)
+
+after-three : (c : tie.Else3) → let s = c .before .before .before .before in waits s && (slots s && rest s) ≡ whole s
+after-three c =
+    let p = c .before in
+    let s = p .before .before .before in
+    passed (p .rows-ok .ensures) (not-false (p .rows-ok .result) (c .if3 .left)) (waits s && (slots s && rest s)) ∙ after-two (p .before)
+
+slice-aggregate-waits-ok : tie.Need-slice-aggregate-waits-ok
+slice-aggregate-waits-ok c =
+    let s = c .before .before .before .before .before in
+    sym (length-take-le (waiting s) (list s) (omega arith))
+
+waits-ok-requires : tie.Need-waits-ok-requires
+waits-ok-requires c κs = search needs
+
+returns-4 : tie.Need-returns-4
+returns-4 c =
+    let p = c .before in
+    let s = p .before .before .before .before .before .before in
+    failed (p .waits-ok .ensures) (not-true (p .waits-ok .result) (c .if4 .taken)) (slots s && rest s) ∙ after-three (p .before .before)
+
+after-four : (c : tie.Else4) → let s = c .before .before .before .before .before .before .before in slots s && rest s ≡ whole s
+after-four c =
+    let p = c .before in
+    let s = p .before .before .before .before .before .before in
+    passed (p .waits-ok .ensures) (not-false (p .waits-ok .result) (c .if4 .left)) (slots s && rest s) ∙ after-three (p .before .before)
+
+slot-width-requires : tie.Need-slot-width-requires
+slot-width-requires c κs = search needs
+
+-- the words of the slots in use, and of the capacity, are in the table
+module _ (c : tie.After-slot-width) where
+  abbrev start : tie.Start
+  start = c .before .before .before .before .before .before .before .before
+
+  abbrev w : ℕ
+  w = c .slot-width .result
+
+  below-room : used start * w ≤ capacity start * w
+  below-room = mul-le-mul-right w (c .before .before .before .before .before .before .before .if1 .left)
+
+  room : capacity start * w ≤ length (table start)
+  room = subst (λ (n : ℕ). capacity start * n ≤ length (table start)) (sym (c .slot-width .ensures)) (start .pre .0)
+
+mul-from : tie.Need-mul-from
+mul-from c = omega (arith, below-room c, room c, start c .good)
+
+mul-to : tie.Need-mul-to
+mul-to c = omega (arith, room c, start c .good)
+
+mul-all-zero : tie.Need-mul-all-zero
+mul-all-zero c = omega (arith, below-room c, room c, start c .good)
+
+sub-all-zero : tie.Need-sub-all-zero
+sub-all-zero c = omega (arith, below-room c)
+
+part-all-zero-start : tie.Need-part-all-zero-start
+part-all-zero-start c = omega (arith, below-room c)
+
+part-all-zero-end : tie.Need-part-all-zero-end
+part-all-zero-end c = omega (arith, below-room c, room c)
+
+all-zero-requires : tie.Need-all-zero-requires
+all-zero-requires c κs = search needs
+
+slots-tested : (c : tie.After-all-zero) → c .all-zero .result ≡ slots (start (c .before .before))
+slots-tested c =
+    let p = c .before .before in
+    let s = start p in
+    let e = p .slot-width .ensures in
+    c .all-zero .ensures ∙ ap zeros (sym (drop-take (used s * w p) (capacity s * w p) (table s)))
+    ∙ (λ j. zeros (drop (used s * e j) (take (capacity s * e j) (table s))))
+
+returns-5 : tie.Need-returns-5
+returns-5 c =
+    let p = c .before in
+    failed (slots-tested p) (not-true (p .all-zero .result) (c .if5 .taken)) (rest (start (p .before .before))) ∙ after-four (p .before .before .before)
+
+mul-all-zero-2 : tie.Need-mul-all-zero-2
+mul-all-zero-2 c = search needs
+
+sub-all-zero-2 : tie.Need-sub-all-zero-2
+sub-all-zero-2 c = search needs
+
+part-all-zero-start-2 : tie.Need-part-all-zero-start-2
+part-all-zero-start-2 c = search needs
+
+part-all-zero-end-2 : tie.Need-part-all-zero-end-2
+part-all-zero-end-2 c = search needs
+
+all-zero-requires-2 : tie.Need-all-zero-requires-2
+all-zero-requires-2 c κs = search needs
+
+returns-6 : tie.Need-returns-6
+returns-6 c =
+    let b = c .before .before in
+    let p = b .before in
+    let s = start (p .before .before) in
+    c .all-zero2 .ensures ∙ ap zeros (sym (drop-take (waiting s) (capacity s) (list s)))
+    ∙ passed (slots-tested p) (not-false (p .all-zero .result) (b .if5 .left)) (rest s)
+    ∙ after-four (p .before .before .before)
+
+pub lent-ok-spec : {M : Type 1} → statement M
+lent-ok-spec =
+    tie.close
+    (tie.spec
+    returns
+    returns-2
+    rows-ok-requires
+    returns-3
+    slice-aggregate-waits-ok
+    waits-ok-requires
+    returns-4
+    slot-width-requires
+    mul-from
+    mul-to
+    mul-all-zero
+    sub-all-zero
+    part-all-zero-start
+    part-all-zero-end
+    all-zero-requires
+    returns-5
+    mul-all-zero-2
+    sub-all-zero-2
+    part-all-zero-start-2
+    part-all-zero-end-2
+    all-zero-requires-2
+    returns-6)

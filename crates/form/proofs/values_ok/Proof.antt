@@ -1,0 +1,126 @@
+-- `form::values_ok` meets its contract. The invariant: `at` is the place of variable i, and the values pass exactly when what is left passes.
+-- Assumes nothing.
+use mathlib.Core.Path.{_≡_, sym, ap, _∙_}
+use mathlib.Core.Bool.{Bool, true, false, _&&_, _||_}
+use mathlib.Core.List.{List}
+use Prim.Native.Nat.{ℕ, suc, _+_, _-_, _*_, _≤_}
+use native.Mathlib.Nat.{sub-zero}
+use native.Mathlib.Omega.{arith}
+use borrow.Author.Needs.{needs, sfits-of}
+use borrow.Author.Tests.{not-true, not-false}
+use lib.IntN.{ℤ, pos}
+use lib.ListN.{length, drop, getD, drop-of-length-le}
+use mir.Syntax.{w32}
+use mir.ValLaws.{toZ-ofZ}
+use Rattle.semantics.specs.Lists.{all-pairs}
+use Rattle.semantics.specs.Chart.{eqZ, within}
+use Rattle.semantics.specs.Encoding.{several, var-in}
+use Rattle.semantics.specs.Memory.{value-ok}
+use Rattle.form.proofs.Facts.{values-turn}
+use Rattle.form.proofs.values_ok.Statement.{statement}
+use Rattle.form.proofs.values_ok.Tie as tie
+
+abbrev Inv-loop : tie.InvT-loop
+Inv-loop chart values at₀ i₀ at i =
+    (i ≤ length values) × (at ≡ 3 + 3 * i)
+    × (all-pairs value-ok (several var-in 3 (length values) (drop 3 chart)) values ≡ all-pairs value-ok (several var-in 3 (length values - i) (drop at chart)) (drop i values))
+
+abbrev μ-loop : tie.MeasureT-loop
+μ-loop chart values at₀ i₀ at i = length values - i
+
+loop-holds : tie.Need-loop-holds Inv-loop μ-loop
+loop-holds c = (omega arith, omega arith, rw (sub-zero (length (c .args .values .now))))
+
+word-at-requires : tie.Need-word-at-requires Inv-loop μ-loop
+word-at-requires c κs = search needs
+
+add-word-at : tie.Need-add-word-at Inv-loop μ-loop
+add-word-at c = omega arith
+
+word-at-requires-2 : tie.Need-word-at-requires-2 Inv-loop μ-loop
+word-at-requires-2 c κs = search needs
+
+mul-x : tie.Need-mul-x Inv-loop μ-loop
+mul-x c = omega arith
+
+shared-slice-copy-out-x : tie.Need-shared-slice-copy-out-x Inv-loop μ-loop
+shared-slice-copy-out-x c = omega arith
+
+value-ok-requires : tie.Need-value-ok-requires Inv-loop μ-loop
+value-ok-requires c κs = search needs
+
+module _ (c : tie.After-value-ok Inv-loop μ-loop) where
+  abbrev chart : List ℤ
+  chart = c .before .before .before .before .before .before .args .chart .now
+
+  abbrev values : List ℤ
+  values = c .before .before .before .before .before .before .args .values .now
+
+  abbrev i : ℕ
+  i = c .before .before .before .before .before .loop .i
+
+  abbrev at : ℕ
+  at = c .before .before .before .before .before .loop .at
+
+  abbrev x : ℤ
+  x = getD values i (pos 0)
+
+  tested : c .value-ok .result ≡ (eqZ x (pos 32768) || within (getD chart at (pos 0)) (getD chart (at + 1) (pos 0)) x)
+  tested =
+      let p = c .before .before .before .word-at in
+      let q = c .before .before .word-at2 in
+      let lo = toZ-ofZ w32 (p .result) (sfits-of {z = p .result} (p .ok)) ∙ p .ensures in
+      let hi = toZ-ofZ w32 (q .result) (sfits-of {z = q .result} (q .ok)) ∙ q .ensures in
+      let y = toZ-ofZ w32 x (sfits-of {z = x} (c .before .x .given)) in
+      c .value-ok .ensures ∙ (λ j. eqZ (y j) (pos 32768) || within (lo j) (hi j) (y j))
+
+  turn : (b : Bool) → c .value-ok .result ≡ b →
+      all-pairs value-ok (several var-in 3 (length values) (drop 3 chart)) values
+      ≡ b && all-pairs value-ok (several var-in 3 (length values - (i + 1)) (drop (at + 3) chart)) (drop (i + 1) values)
+  turn b e =
+      let h = c .before .before .before .before .loop-test .taken in
+      let n : length values - i ≡ suc (length values - (i + 1)) = omega (arith, h) in
+      c .before .before .before .before .before .loop .inv .2
+      ∙ ap (λ (n : ℕ). all-pairs value-ok (several var-in 3 n (drop at chart)) (drop i values)) n
+      ∙ values-turn values i h b chart at (length values - (i + 1)) (sym tested ∙ e)
+
+returns : tie.Need-returns Inv-loop μ-loop
+returns c = sym (turn (c .before) false (not-true (c .before .value-ok .result) (c .if1 .taken)))
+
+add-at : tie.Need-add-at Inv-loop μ-loop
+add-at c = omega arith
+
+add-i : tie.Need-add-i Inv-loop μ-loop
+add-i c = omega arith
+
+loop-less : tie.Need-loop-less Inv-loop μ-loop
+loop-less c = omega arith
+
+loop-again : tie.Need-loop-again Inv-loop μ-loop
+loop-again c = (omega arith, omega arith, turn (c .before) true (not-false (c .before .value-ok .result) (c .if1 .left)))
+
+returns-2 : tie.Need-returns-2 Inv-loop μ-loop
+returns-2 c =
+    let b = c .before in
+    let z : length (b .before .args .values .now) - b .loop .i ≡ 0 = omega arith in
+    sym (b .loop .inv .2 ∙ rw (z, drop-of-length-le (b .before .args .values .now) (c .loop-test .left)))
+
+pub values-ok-spec : {M : Type 1} → statement M
+values-ok-spec =
+    tie.close
+    (tie.spec
+    Inv-loop
+    μ-loop
+    loop-holds
+    word-at-requires
+    add-word-at
+    word-at-requires-2
+    mul-x
+    shared-slice-copy-out-x
+    value-ok-requires
+    returns
+    add-at
+    add-i
+    loop-less
+    loop-again
+    returns-2)

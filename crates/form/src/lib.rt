@@ -1,0 +1,272 @@
+// Form rule 21: whether lent words and a record are an analysis of a chart. Leaves look at one row or one part of the words and are total;
+// the counts are tested first, since they bound what is read after.
+use semantics::Analysis;
+use semantics::Mode;
+use semantics::Verdict;
+ghost use mathlib.Core.Path.{_≡_};
+ghost use mathlib.Core.Bool.{_&&_, _||_};
+ghost use Prim.Native.Nat.{_*_, _<_, _≤_};
+ghost use lib.Dec.{eqb};
+ghost use lib.IntN.{pos};
+ghost use lib.ListN.{length, drop};
+ghost use Rattle.semantics.specs.Lists.{some-of, all, all-pairs, all-of};
+ghost use Rattle.semantics.specs.Chart.{eqZ, within};
+ghost use Rattle.semantics.specs.Coverage.{allowed};
+ghost use Rattle.semantics.specs.Encoding.{count, several, var-in, decode};
+ghost use Rattle.semantics.specs.Memory.{width, value-ok, below, row-ok, rows-ok, each-once, is-alarm, empty-if-safe, analysis-ok};
+ghost use Rattle.form.specs.Form.{lent, lent-tests, record-tests};
+
+// ---- the chart's counts
+
+// The number at a place of the chart.
+fn count_at(chart: &[i32], i: usize) -> usize
+    ensures { λ r. ⌜ (r ≡ count (now (chart .entry)) i) × (r < 2147483649) ⌝ }
+{
+    words::magnitude(words::word_at(chart, i))
+}
+
+// The words of a slot.
+fn slot_width(chart: &[i32]) -> usize
+    ensures { λ r. ⌜ r ≡ width (decode (now (chart .entry))) ⌝ }
+{
+    count_at(chart, 0) + 1
+}
+
+// ---- the reached table
+
+// A number from 0 up to, not including, n.
+fn is_below(n: usize, x: i32) -> bool
+    ensures { λ r. ⌜ r ≡ below n x ⌝ }
+{
+    if x < 0 {
+        return false;
+    }
+    words::magnitude(x) < n
+}
+
+// Top, or a value of the range.
+fn value_ok(lo: i32, hi: i32, x: i32) -> bool
+    ensures { λ r. ⌜ r ≡ (eqZ x (pos 32768) || within lo hi x) ⌝ }
+{
+    (x == words::TOP) | ((lo <= x) & (x <= hi))
+}
+
+// Whether each value is one of its variable, the variables' words beginning at word 3 of the chart.
+fn values_ok(chart: &[i32], values: &[i32]) -> bool
+    ensures { λ r. ⌜ r ≡ all-pairs value-ok (several var-in 3 (length (now (values .entry))) (drop 3 (now (chart .entry)))) (now (values .entry)) ⌝ }
+{
+    let mut at = 3;
+    let mut i = 0;
+    while i < values.len() {
+        let lo = words::word_at(chart, at);
+        let hi = words::word_at(chart, at + 1);
+        let x = values[i];
+        if !value_ok(lo, hi, x) {
+            return false;
+        }
+        at += 3;
+        i += 1;
+    }
+    true
+}
+
+// A row: its location and its values.
+fn row_ok(chart: &[i32], row: &[i32]) -> bool
+    requires { ⌜ length (now row) ≡ width (decode (now chart)) ⌝ }
+    ensures { λ r. ⌜ r ≡ row-ok (decode (now (chart .entry))) (now (row .entry)) ⌝ }
+{
+    let location = row[0];
+    if is_below(count_at(chart, 1), location) {
+        return values_ok(chart, &row[1..]);
+    }
+    false
+}
+
+// The slots in use. Slot and word offset go together.
+fn rows_ok(chart: &[i32], table: &[i32], used: usize) -> bool
+    requires { ⌜ used * width (decode (now chart)) ≤ length (now table) ⌝ }
+    ensures { λ r. ⌜ r ≡ rows-ok (decode (now (chart .entry))) used (now (table .entry)) ⌝ }
+{
+    let w = slot_width(chart);
+    let mut from = 0;
+    let mut s = 0;
+    while s < used {
+        let to = from + w;
+        if !row_ok(chart, &table[from..to]) {
+            return false;
+        }
+        from = to;
+        s += 1;
+    }
+    true
+}
+
+// ---- the waitlist
+
+// Each word is a number below n.
+fn all_below(list: &[i32], n: usize) -> bool
+    ensures { λ r. ⌜ r ≡ all (below n) (now (list .entry)) ⌝ }
+{
+    let mut i = 0;
+    while i < list.len() {
+        let x = list[i];
+        if !is_below(n, x) {
+            return false;
+        }
+        i += 1;
+    }
+    true
+}
+
+// Whether the word is one of the list.
+fn contains(list: &[i32], x: i32) -> bool
+    ensures { λ r. ⌜ r ≡ some-of (eqZ x) (now (list .entry)) ⌝ }
+{
+    let mut i = 0;
+    while i < list.len() {
+        let y = list[i];
+        if x == y {
+            return true;
+        }
+        i += 1;
+    }
+    false
+}
+
+// No word stands twice.
+fn each_once(list: &[i32]) -> bool
+    ensures { λ r. ⌜ r ≡ each-once (now (list .entry)) ⌝ }
+{
+    let mut i = 0;
+    while i < list.len() {
+        let x = list[i];
+        i += 1;
+        if contains(&list[i..], x) {
+            return false;
+        }
+    }
+    true
+}
+
+// Slots in use, each named once.
+fn waits_ok(list: &[i32], used: usize) -> bool
+    ensures { λ r. ⌜ r ≡ (all (below used) (now (list .entry)) && each-once (now (list .entry))) ⌝ }
+{
+    if all_below(list, used) {
+        return each_once(list);
+    }
+    false
+}
+
+// ---- the words lent
+
+// The tests of a table and a waitlist, by the record's three counts.
+fn lent_ok(
+    chart: &[i32],
+    table: &[i32],
+    list: &[i32],
+    capacity: usize,
+    used: usize,
+    waiting: usize,
+) -> bool
+    requires { ⌜ (capacity * width (decode (now chart)) ≤ length (now table)) × (capacity ≤ length (now list)) ⌝ }
+    ensures { λ r. ⌜ r ≡ all-of (lent-tests (decode (now (chart .entry))) capacity used waiting (now (table .entry)) (now (list .entry))) ⌝ }
+{
+    if used > capacity {
+        return false;
+    }
+    if waiting > used {
+        return false;
+    }
+    if !rows_ok(chart, table, used) {
+        return false;
+    }
+    if !waits_ok(&list[..waiting], used) {
+        return false;
+    }
+    let w = slot_width(chart);
+    let from = used * w;
+    let to = capacity * w;
+    if !words::all_zero(&table[from..to]) {
+        return false;
+    }
+    words::all_zero(&list[waiting..capacity])
+}
+
+// ---- the record
+
+fn is_alarm(v: Verdict) -> bool
+    ensures { λ r. ⌜ r ≡ is-alarm v ⌝ }
+{
+    match v {
+        Verdict::Open => false,
+        Verdict::Safe => false,
+        Verdict::Alarm => true,
+        Verdict::Full => false,
+    }
+}
+
+// Safe with nothing waiting, or another verdict with something.
+fn empty_if_safe(v: Verdict, waiting: usize) -> bool
+    ensures { λ r. ⌜ r ≡ empty-if-safe v waiting ⌝ }
+{
+    match v {
+        Verdict::Open => waiting != 0,
+        Verdict::Safe => waiting == 0,
+        Verdict::Alarm => waiting != 0,
+        Verdict::Full => waiting != 0,
+    }
+}
+
+// The settings that 12 lets pass.
+fn is_allowed(merge: Mode, stop: Mode) -> bool
+    ensures { λ r. ⌜ r ≡ allowed merge stop ⌝ }
+{
+    match merge {
+        Mode::Sep => match stop {
+            Mode::Sep => true,
+            Mode::Join => false,
+        },
+        Mode::Join => match stop {
+            Mode::Sep => true,
+            Mode::Join => true,
+        },
+    }
+}
+
+// No edge, or an alarm's.
+fn edge_ok(edge: usize, v: Verdict) -> bool
+    ensures { λ r. ⌜ r ≡ (eqb edge 0 || is-alarm v) ⌝ }
+{
+    (edge == 0) | is_alarm(v)
+}
+
+// The tests of a record alone, for a chart of so many edges.
+fn record_ok(a: Analysis, edges: usize) -> bool
+    ensures { λ r. ⌜ r ≡ all-of (record-tests edges a) ⌝ }
+{
+    let settings = a.settings;
+    let merge = settings.merge;
+    let stop = settings.stop;
+    let verdict = a.verdict;
+    let edge = a.edge.0;
+    let capacity = a.capacity;
+    let counts = (a.iterations <= 60000) & (edge <= edges);
+    let rest = ((1 <= capacity) & (capacity <= 256)) & is_allowed(merge, stop);
+    counts & edge_ok(edge, verdict) & rest & empty_if_safe(verdict, a.waiting)
+}
+
+// Form rule 21. That the words lent are enough (14) is judged before.
+pub fn analysis_ok(chart: &[i32], table: &[i32], list: &[i32], a: Analysis) -> bool
+    requires { ⌜ (a .capacity * width (decode (now chart)) ≤ length (now table)) × (a .capacity ≤ length (now list)) ⌝ }
+    ensures { λ r. ⌜ r ≡ analysis-ok (decode (now (chart .entry))) (lent (now (table .entry)) (now (list .entry)) a) ⌝ }
+{
+    let capacity = a.capacity as usize;
+    let used = a.used;
+    let waiting = a.waiting;
+    if lent_ok(chart, table, list, capacity, used, waiting) {
+        let edges = count_at(chart, 2);
+        return record_ok(a, edges);
+    }
+    false
+}

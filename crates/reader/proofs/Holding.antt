@@ -1,0 +1,45 @@
+-- From the rows to the words lent. Assumes nothing.
+use mathlib.Core.Path.{_≡_, refl, sym, ap, _∙_}
+use mathlib.Core.Bool.{Bool, true, false}
+use mathlib.Core.List.{List, [], _∷_, _++_}
+use Prim.Native.Nat.{ℕ, suc, _+_, _*_, _≤_, _<_}
+use native.Mathlib.Omega.{arith}
+use lib.Dec.{ltb}
+use lib.ListN.{length, take, drop}
+use lib.IntN.{ℤ, pos}
+use lib.Seq.{length-take-le}
+use borrow.Author.Tests.{lt-ltb, le-ltb}
+use Rattle.semantics.specs.Lists.{is-empty}
+use Rattle.semantics.specs.Chart.{Loc, Chart}
+use Rattle.semantics.specs.Encoding.{encode}
+use Rattle.semantics.specs.Outcomes.{refused-by, fine, held-unless}
+use Rattle.reader.specs.Rows.{stored}
+use Rattle.reader.specs.Held.{rows-of, used, Rows}
+use Rattle.reader.specs.declared.tally.Tally.{Tally}
+use Rattle.reader.proofs.Storing.{stored-then}
+
+pub none-empty-list : {A : Type 0} (l : List A) → 0 ≡ length l → is-empty l ≡ true
+none-empty-list [] e = refl
+none-empty-list (x ∷ xs) e = absurd (omega arith)
+
+pub some-list : {A : Type 0} (l : List A) → 0 < length l → is-empty l ≡ false
+some-list [] e = absurd (omega arith)
+some-list (x ∷ xs) e = refl
+
+module _ {t : Tally} {table : List ℤ} {c : Chart} (h : Rows t table c) (room : used t ≤ length table) where
+  pub encode-length : length (encode c) ≡ used t + 3
+  unfolding encode
+  encode-length = omega (arith, ap length (h .rows), length-take-le (used t) table room)
+
+  pub held-words : (ws : List ℤ) → used t + 3 ≤ length ws
+      → stored 3 (take (used t) table) (stored 0 (pos (t .vars) ∷ pos (t .locs) ∷ pos (t .edges) ∷ []) ws) ≡ encode c ++ drop (length (encode c)) ws
+  unfolding stored encode
+  held-words ws f =
+      rw (h .rows) (stored-then 0 (pos (t .vars) ∷ pos (t .locs) ∷ pos (t .edges) ∷ []) ws (omega arith) (rows-of c) ∙ rw (h .vars, h .locs, h .edges))
+
+module _ (c : Chart) (ws : List ℤ) where
+  pub too-few : length ws < length (encode c) → ltb (length ws) (length (encode c)) ≡ true
+  too-few l = lt-ltb (length ws) (length (encode c)) l
+
+  pub enough : length (encode c) ≤ length ws → ltb (length ws) (length (encode c)) ≡ false
+  enough l = le-ltb (length ws) (length (encode c)) l

@@ -1,0 +1,9 @@
+pub mod Scans
+pub mod Storing
+pub mod Naming
+pub mod Judging
+pub mod Growing
+pub mod Holding
+pub mod Wording
+pub mod Reading
+pub mod Going

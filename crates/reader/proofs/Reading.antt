@@ -1,0 +1,241 @@
+-- The words that the code reads of a line are those of the variable, location or edge that the definitions read. Assumes nothing.
+use mathlib.Core.Path.{_≡_, refl, sym, ap, _∙_}
+use mathlib.Core.Bool.{Bool, true, false, _&&_, not}
+use mathlib.Core.List.{List, [], _∷_, _++_}
+use Prim.Native.Nat.{ℕ, _<_, _≤_}
+use native.Mathlib.Omega.{arith}
+use lib.Dec.{eqb, ltb, leb}
+use lib.ListN.{length, getD}
+use lib.IntN.{ℤ, pos}
+use lib.Signed.{leZ}
+use borrow.Author.Tests.{lt-ltb, le-ltb}
+use Rattle.semantics.specs.Lists.{is-empty, all}
+use Rattle.semantics.specs.Text.{name-ok, same-bytes}
+use Rattle.semantics.specs.Chart.{Value, Var, Operand, Rel, Op, assign, add, sub, input, assume, skip, Edge, Chart, in-range}
+use Rattle.semantics.specs.Encoding.{tag, held, rel-code, op-words, edge-words}
+use Rattle.semantics.specs.Reading.{Res, fail, ok, check, andThen, nth, none-empty, number-field, location-field, target-field, operand-field, init-field, kind-field, rel-field, op-word-field, OpWord, do-set, do-add, do-sub, do-in, do-if, do-skip, field-count, op-fields-read, So-far, with-var, with-loc, with-edge, var-line, loc-line, edge-line}
+use Rattle.reader.specs.Lines.{in-table, filled, argument-read, one-read, second-read, two-read, bounds-read, high-read, condition-read, after-target, targeted, op-read, edge-read, var-low, var-fields, var-named, loc-fields, loc-named, edge-fields, edge-worded}
+use Rattle.reader.specs.Held.{Rows}
+use Rattle.reader.specs.declared.tally.Tally.{Tally}
+use Rattle.reader.proofs.Growing.{range-held}
+use Rattle.reader.proofs.Judging.{check-no, check-yes, then-fail, then-ok, check-then, then-map, check-passed, fail-ok, target-below}
+
+-- ---- operands
+
+one-via : (code : ℤ) (v : ℕ) (r : Res Operand) → one-read code v r ≡ andThen (argument-read r) (λ ws. ok (code ∷ pos v ∷ (ws ++ (pos 0 ∷ pos 0 ∷ []))))
+unfolding andThen argument-read
+one-via code v (fail n) = refl
+one-via code v (ok a) = refl
+
+second-via : (code : ℤ) (v : ℕ) (t x : ℤ) (r : Res Operand) → second-read code v t x r ≡ andThen (argument-read r) (λ ws. ok (code ∷ pos v ∷ t ∷ x ∷ ws))
+unfolding andThen argument-read
+second-via code v t x (fail n) = refl
+second-via code v t x (ok a) = refl
+
+two-via : (code : ℤ) (v : ℕ) (r q : Res Operand) → two-read code v r q ≡ andThen (argument-read r) (λ ws. second-read code v (getD ws 0 (pos 0)) (getD ws 1 (pos 0)) q)
+unfolding andThen argument-read
+two-via code v (fail n) q = refl
+two-via code v (ok a) q = refl
+
+module _ (code : ℤ) (v : ℕ) (r : Res Operand) where
+  pub one-fail : {k : ℕ} → argument-read r ≡ fail k → one-read code v r ≡ fail k
+  one-fail e = one-via code v r ∙ then-fail _ e
+
+  pub one-ok : {t x : ℤ} → argument-read r ≡ ok (t ∷ x ∷ []) → one-read code v r ≡ ok (code ∷ pos v ∷ t ∷ x ∷ pos 0 ∷ pos 0 ∷ [])
+  one-ok e = one-via code v r ∙ then-ok _ e
+
+  pub second-fail : (t x : ℤ) {k : ℕ} → argument-read r ≡ fail k → second-read code v t x r ≡ fail k
+  second-fail t x e = second-via code v t x r ∙ then-fail _ e
+
+  pub second-ok : (t x : ℤ) {u y : ℤ} → argument-read r ≡ ok (u ∷ y ∷ []) → second-read code v t x r ≡ ok (code ∷ pos v ∷ t ∷ x ∷ u ∷ y ∷ [])
+  second-ok t x e = second-via code v t x r ∙ then-ok _ e
+
+  pub two-fail : (q : Res Operand) {k : ℕ} → argument-read r ≡ fail k → two-read code v r q ≡ fail k
+  two-fail q e = two-via code v r q ∙ then-fail _ e
+
+  pub two-ok : (q : Res Operand) {t x : ℤ} → argument-read r ≡ ok (t ∷ x ∷ []) → two-read code v r q ≡ second-read code v t x q
+  two-ok q e = two-via code v r q ∙ then-ok _ e
+
+-- ---- operations
+
+one-held : (code : ℤ) (f : ℕ → Operand → Op) → ((v : ℕ) (a : Operand) → op-words (f v a) ≡ code ∷ pos v ∷ tag a ∷ held a ∷ pos 0 ∷ pos 0 ∷ []) → (t : Res ℕ) (r : Res Operand)
+    → andThen t (λ v. one-read code v r) ≡ andThen (andThen t (λ v. andThen r (λ a. ok (f v a)))) (λ o. ok (op-words o))
+unfolding andThen
+one-held code f e (fail n) r = refl
+one-held code f e (ok v) (fail n) = refl
+one-held code f e (ok v) (ok a) = ap ok (sym (e v a))
+
+two-held : (code : ℤ) (f : ℕ → Operand → Operand → Op) → ((v : ℕ) (a b : Operand) → op-words (f v a b) ≡ code ∷ pos v ∷ tag a ∷ held a ∷ tag b ∷ held b ∷ []) → (t : Res ℕ) (r q : Res Operand)
+    → andThen t (λ v. two-read code v r q) ≡ andThen (andThen t (λ v. andThen r (λ a. andThen q (λ b. ok (f v a b))))) (λ o. ok (op-words o))
+unfolding andThen
+two-held code f e (fail n) r q = refl
+two-held code f e (ok v) (fail n) q = refl
+two-held code f e (ok v) (ok a) (fail n) = refl
+two-held code f e (ok v) (ok a) (ok b) = ap ok (sym (e v a b))
+
+condition-held : (t : Res ℕ) (r : Res Rel) (q : Res Operand)
+    → andThen t (λ v. condition-read v r q) ≡ andThen (andThen t (λ v. andThen r (λ x. andThen q (λ a. ok (assume v x a))))) (λ o. ok (op-words o))
+unfolding andThen
+condition-held (fail n) r q = refl
+condition-held (ok v) (fail n) q = refl
+condition-held (ok v) (ok x) (fail n) = refl
+condition-held (ok v) (ok x) (ok a) = refl
+
+module _ (table : List ℤ) (vars : List Var) (ranges : (k : ℕ) (z : ℤ) → k < length vars → in-table table k z ≡ in-range vars k z) where
+  high-held : (v : ℕ) → v < length vars → (p : ℤ) (r : Res ℤ)
+      → high-read table v p r ≡ andThen (andThen r (λ q. check (in-range vars v q && leZ p q) 7 (ok (input v p q)))) (λ o. ok (op-words o))
+  unfolding andThen
+  high-held v l p (fail n) = refl
+  high-held v l p (ok q) = rw (ranges v q l) (sym (check-then (in-range vars v q && leZ p q) 7 (ok (input v p q)) (λ o. ok (op-words o))))
+
+  bounds-held : (t : Res ℕ) → ((v : ℕ) → t ≡ ok v → v < length vars) → (r q : Res ℤ)
+      → andThen t (λ v. bounds-read table v r q)
+      ≡ andThen (andThen t (λ v. andThen r (λ p. check (in-range vars v p) 7 (andThen q (λ z. check (in-range vars v z && leZ p z) 7 (ok (input v p z))))))) (λ o. ok (op-words o))
+  unfolding andThen
+  bounds-held (fail n) b r q = refl
+  bounds-held (ok v) b (fail n) q = refl
+  bounds-held (ok v) b (ok p) q =
+      rw (ranges v p (b v refl), high-held v (b v refl) p q)
+      (sym (check-then (in-range vars v p) 7 (andThen q (λ z. check (in-range vars v z && leZ p z) 7 (ok (input v p z)))) (λ o. ok (op-words o))))
+
+-- the operation's words
+pub op-held : (table : List ℤ) (c : Chart) → ((k : ℕ) (z : ℤ) → k < length (c .vars) → in-table table k z ≡ in-range (c .vars) k z) → (w : OpWord) (fs : List (List ℕ))
+    → op-read table (length (c .vars)) w fs ≡ andThen (op-fields-read c w fs) (λ o. ok (op-words o))
+unfolding op-read op-fields-read after-target
+op-held table c ranges do-skip fs = sym (then-ok (λ o. ok (op-words o)) refl)
+op-held table c ranges do-set fs = one-held (pos 1) assign (λ v a. refl) (target-field (length (c .vars)) (nth fs 4)) (operand-field (length (c .vars)) (nth fs 5))
+op-held table c ranges do-add fs =
+    two-held (pos 2) add (λ v a b. refl) (target-field (length (c .vars)) (nth fs 4)) (operand-field (length (c .vars)) (nth fs 5)) (operand-field (length (c .vars)) (nth fs 6))
+op-held table c ranges do-sub fs =
+    two-held (pos 3) sub (λ v a b. refl) (target-field (length (c .vars)) (nth fs 4)) (operand-field (length (c .vars)) (nth fs 5)) (operand-field (length (c .vars)) (nth fs 6))
+op-held table c ranges do-in fs =
+    bounds-held table (c .vars) ranges (target-field (length (c .vars)) (nth fs 4)) (λ v e. target-below (length (c .vars)) (nth fs 4) e) (number-field (nth fs 5)) (number-field (nth fs 6))
+op-held table c ranges do-if fs =
+    condition-held (target-field (length (c .vars)) (nth fs 4)) (rel-field (nth fs 5)) (operand-field (length (c .vars)) (nth fs 6))
+
+-- ---- edges
+
+edge-via : (a b : Res ℕ) (o : Res Op)
+    → andThen a (λ from. andThen b (λ to. andThen (andThen o (λ x. ok (op-words x))) (λ ws. ok (pos from ∷ pos to ∷ ws))))
+    ≡ andThen (andThen a (λ from. andThen b (λ to. andThen o (λ x. ok (record { from = from; to = to; op = x }))))) (λ g. ok (edge-words g))
+unfolding andThen
+edge-via (fail n) b o = refl
+edge-via (ok f) (fail n) o = refl
+edge-via (ok f) (ok t) (fail n) = refl
+edge-via (ok f) (ok t) (ok x) = refl
+
+pub edge-held : (table : List ℤ) (c : Chart) → ((k : ℕ) (z : ℤ) → k < length (c .vars) → in-table table k z ≡ in-range (c .vars) k z) → (w : OpWord) (fs : List (List ℕ))
+    → edge-read (length (c .locs)) (op-read table (length (c .vars)) w fs) fs ≡ andThen (edge-fields c w fs) (λ g. ok (edge-words g))
+unfolding edge-fields
+edge-held table c ranges w fs =
+    rw (op-held table c ranges w fs) (edge-via (location-field (length (c .locs)) (nth fs 1)) (location-field (length (c .locs)) (nth fs 2)) (op-fields-read c w fs))
+
+-- an edge's words are those of an edge that was read
+pub record Read (r : Res Edge) (row : List ℤ) : Type 0 where
+  pub edge : Edge
+  pub is : r ≡ ok edge
+  pub words : row ≡ edge-words edge
+
+pub edge-ok : (r : Res Edge) (row : List ℤ) → andThen r (λ g. ok (edge-words g)) ≡ ok row → Read r row
+unfolding andThen
+edge-ok (fail n) row e = fail-ok e
+edge-ok (ok g) row e = record { edge = g; is = refl; words = cc }
+
+pub edge-fail : (r : Res Edge) {k : ℕ} → andThen r (λ g. ok (edge-words g)) ≡ fail k → r ≡ fail k
+unfolding andThen
+edge-fail (fail n) e = cc
+edge-fail (ok g) {k} e = fail-ok (sym e)
+
+-- ---- lines
+
+edge-tail : (s : So-far) (a b : Res ℕ) (o : Res Op)
+    → andThen (andThen a (λ from. andThen b (λ to. andThen o (λ x. ok (record { from = from; to = to; op = x }))))) (λ g. ok (with-edge s g))
+    ≡ andThen a (λ from. andThen b (λ to. andThen o (λ x. ok (with-edge s (record { from = from; to = to; op = x })))))
+unfolding andThen
+edge-tail s (fail n) b o = refl
+edge-tail s (ok f) (fail n) o = refl
+edge-tail s (ok f) (ok t) (fail n) = refl
+edge-tail s (ok f) (ok t) (ok x) = refl
+
+var-tail : {A : Type 0} (a b : Res ℤ) (i : ℤ → ℤ → Res Value) (g : Var → Res A)
+    → andThen (andThen a (λ lo. andThen b (λ hi. check (leZ lo hi) 7 (andThen (i lo hi) (λ x. ok (record { lo = lo; hi = hi; init = x })))))) g
+    ≡ andThen a (λ lo. andThen b (λ hi. check (leZ lo hi) 7 (andThen (i lo hi) (λ x. g (record { lo = lo; hi = hi; init = x })))))
+unfolding andThen
+var-tail (fail n) b i g = refl
+var-tail (ok lo) (fail n) i g = refl
+var-tail (ok lo) (ok hi) i g =
+    check-then (leZ lo hi) 7 (andThen (i lo hi) (λ x. ok (record { lo = lo; hi = hi; init = x }))) g
+    ∙ ap (check (leZ lo hi) 7) (then-map (i lo hi) (λ x. record { lo = lo; hi = hi; init = x }) g)
+
+module _ (s : So-far) (fs : List (List ℕ)) where
+  pub edge-full : 256 ≤ length (s .chart .edges) → edge-line s fs ≡ fail 8
+  unfolding edge-line
+  edge-full h = check-no _ _ (le-ltb _ _ h)
+
+  module _ (few : length (s .chart .edges) < 256) where
+    pub edge-short : (leb 4 (length fs) && none-empty fs) ≡ false → edge-line s fs ≡ fail 5
+    unfolding edge-line
+    edge-short e = check-yes _ _ (lt-ltb _ _ few) ∙ check-no _ _ e
+
+    module _ (enough : (leb 4 (length fs) && none-empty fs) ≡ true) where
+      pub edge-no-word : {k : ℕ} → op-word-field (nth fs 3) ≡ fail k → edge-line s fs ≡ fail k
+      unfolding edge-line
+      edge-no-word e = check-yes _ _ (lt-ltb _ _ few) ∙ check-yes _ _ enough ∙ then-fail _ e
+
+      pub edge-word : {w : OpWord} → op-word-field (nth fs 3) ≡ ok w → edge-line s fs ≡ edge-worded s w fs
+      unfolding edge-line edge-fields
+      edge-word {w} e =
+          check-yes _ _ (lt-ltb _ _ few) ∙ check-yes _ _ enough ∙ then-ok _ e
+          ∙ ap (check (eqb (length fs) (field-count w)) 5) (sym (edge-tail s (location-field (length (s .chart .locs)) (nth fs 1)) (location-field (length (s .chart .locs)) (nth fs 2)) (op-fields-read (s .chart) w fs)))
+
+  -- a location
+  pub loc-late : is-empty (s .chart .edges) ≡ false → loc-line s fs ≡ fail 4
+  unfolding loc-line
+  loc-late e = check-no _ _ e
+
+  module _ (early : is-empty (s .chart .edges) ≡ true) where
+    pub loc-full : 64 ≤ length (s .chart .locs) → loc-line s fs ≡ fail 8
+    unfolding loc-line
+    loc-full h = check-yes _ _ early ∙ check-no _ _ (le-ltb _ _ h)
+
+    pub loc-read : length (s .chart .locs) < 64 → loc-line s fs ≡ andThen (loc-fields fs) (λ k. loc-named s (nth fs 1) k)
+    unfolding loc-line loc-fields
+    loc-read h =
+        check-yes _ _ early ∙ check-yes _ _ (lt-ltb _ _ h)
+        ∙ sym (check-then (filled 3 fs) 5 (check (name-ok (nth fs 1)) 6 (kind-field (nth fs 2))) (λ k. loc-named s (nth fs 1) k)
+        ∙ ap (check (filled 3 fs) 5) (check-then (name-ok (nth fs 1)) 6 (kind-field (nth fs 2)) (λ k. loc-named s (nth fs 1) k)))
+
+  -- a variable
+  pub var-late : (is-empty (s .chart .locs) && is-empty (s .chart .edges)) ≡ false → var-line s fs ≡ fail 4
+  unfolding var-line
+  var-late e = check-no _ _ e
+
+  module _ (early : (is-empty (s .chart .locs) && is-empty (s .chart .edges)) ≡ true) where
+    pub var-full : 8 ≤ length (s .chart .vars) → var-line s fs ≡ fail 8
+    unfolding var-line
+    var-full h = check-yes _ _ early ∙ check-no _ _ (le-ltb _ _ h)
+
+    pub var-read : length (s .chart .vars) < 8 → var-line s fs ≡ andThen (var-fields fs) (λ v. var-named s (nth fs 1) v)
+    unfolding var-line var-fields
+    var-read h =
+        check-yes _ _ early ∙ check-yes _ _ (lt-ltb _ _ h)
+        ∙ sym (check-then (filled 5 fs) 5 (check (name-ok (nth fs 1)) 6 low) g
+        ∙ ap (check (filled 5 fs) 5) (check-then (name-ok (nth fs 1)) 6 low g ∙ ap (check (name-ok (nth fs 1)) 6) (var-tail (number-field (nth fs 2)) (number-field (nth fs 3)) (λ lo hi. init-field lo hi (nth fs 4)) g))) where
+          low : Res Var
+          low = var-low fs
+
+          g : Var → Res So-far
+          g v = var-named s (nth fs 1) v
+
+pub var-name-ok : (fs : List (List ℕ)) {v : Var} → var-fields fs ≡ ok v → name-ok (nth fs 1) ≡ true
+unfolding var-fields
+var-name-ok fs e = check-passed (name-ok (nth fs 1)) _ _ (check-passed (filled 5 fs) _ _ e .1) .0
+
+pub loc-name-ok : (fs : List (List ℕ)) {k : Bool} → loc-fields fs ≡ ok k → name-ok (nth fs 1) ≡ true
+unfolding loc-fields
+loc-name-ok fs e = check-passed (name-ok (nth fs 1)) _ _ (check-passed (filled 3 fs) _ _ e .1) .0
+
+-- by the counts and the table that hold the chart
+pub edges-held : {t : Tally} {table : List ℤ} {c : Chart} → Rows t table c → (w : OpWord) (fs : List (List ℕ))
+    → edge-read (t .locs) (op-read table (t .vars) w fs) fs ≡ andThen (edge-fields c w fs) (λ g. ok (edge-words g))
+edges-held {t} {table} {c} h w fs = rw (h .vars, h .locs) (edge-held table c (λ k z l. range-held h k z (omega (arith, h .vars))) w fs)

@@ -1,0 +1,59 @@
+-- Which word an answer names, by the arm that it came to. Assumes nothing.
+use mathlib.Core.Path.{_≡_, refl}
+use mathlib.Core.List.{List, [], _∷_}
+use Prim.Native.Nat.{ℕ}
+use lib.IntN.{ℤ}
+use types.Run.{OneOf, miss}
+use denote.Enum.Declared.{tagOf}
+use Rattle.semantics.specs.Reading.{ok, do-skip}
+use Rattle.text.specs.Fields.{relRes, opWordRes}
+use Rattle.text.specs.declared.Relation.{Relation}
+use Rattle.text.specs.declared.Relation.the-variants as relation
+use Rattle.text.specs.declared.OpWord.{OpWord}
+use Rattle.text.specs.declared.OpWord.the-variants as op-word
+use Rattle.text.proofs.Relation as relation-type
+use Rattle.text.proofs.OpWord as op-word-type
+use Rattle.reader.specs.Answers.{the-word, the-rel}
+use Rattle.reader.specs.Lines.{op-read, targeted}
+
+pub rel-said : (x : Relation) → OneOf (1 ∷ 2 ∷ 3 ∷ 4 ∷ 5 ∷ 6 ∷ []) (tagOf relation-type.the-type x) → relRes x ≡ ok (the-rel x)
+unfolding relRes the-rel
+rel-said (relation.Refused k) h = absurd (miss (1 ∷ 2 ∷ 3 ∷ 4 ∷ 5 ∷ 6 ∷ []) 0 tt h)
+rel-said relation.Eq h = refl
+rel-said relation.Ne h = refl
+rel-said relation.Lt h = refl
+rel-said relation.Le h = refl
+rel-said relation.Gt h = refl
+rel-said relation.Ge h = refl
+
+pub word-said : (x : OpWord) → OneOf (1 ∷ 2 ∷ 3 ∷ 4 ∷ 5 ∷ 6 ∷ []) (tagOf op-word-type.the-type x) → opWordRes x ≡ ok (the-word x)
+unfolding opWordRes the-word
+word-said (op-word.Refused k) h = absurd (miss (1 ∷ 2 ∷ 3 ∷ 4 ∷ 5 ∷ 6 ∷ []) 0 tt h)
+word-said op-word.Set h = refl
+word-said op-word.Add h = refl
+word-said op-word.Sub h = refl
+word-said op-word.In h = refl
+word-said op-word.If h = refl
+word-said op-word.Skip h = refl
+
+-- neither set, add, sub, in nor if
+pub skip-said : (x : OpWord) → OneOf (0 ∷ 6 ∷ []) (tagOf op-word-type.the-type x) → the-word x ≡ do-skip
+unfolding the-word
+skip-said (op-word.Refused k) h = refl
+skip-said op-word.Set h = absurd (miss (0 ∷ 6 ∷ []) 1 tt h)
+skip-said op-word.Add h = absurd (miss (0 ∷ 6 ∷ []) 2 tt h)
+skip-said op-word.Sub h = absurd (miss (0 ∷ 6 ∷ []) 3 tt h)
+skip-said op-word.In h = absurd (miss (0 ∷ 6 ∷ []) 4 tt h)
+skip-said op-word.If h = absurd (miss (0 ∷ 6 ∷ []) 5 tt h)
+skip-said op-word.Skip h = refl
+
+-- one of them
+pub target-said : (x : OpWord) → OneOf (1 ∷ 2 ∷ 3 ∷ 4 ∷ 5 ∷ []) (tagOf op-word-type.the-type x) → (table : List ℤ) (n : ℕ) (fs : List (List ℕ)) → op-read table n (the-word x) fs ≡ targeted table n (the-word x) fs
+unfolding the-word op-read
+target-said (op-word.Refused k) h table n fs = absurd (miss (1 ∷ 2 ∷ 3 ∷ 4 ∷ 5 ∷ []) 0 tt h)
+target-said op-word.Set h table n fs = refl
+target-said op-word.Add h table n fs = refl
+target-said op-word.Sub h table n fs = refl
+target-said op-word.In h table n fs = refl
+target-said op-word.If h table n fs = refl
+target-said op-word.Skip h table n fs = absurd (miss (1 ∷ 2 ∷ 3 ∷ 4 ∷ 5 ∷ []) 6 tt h)

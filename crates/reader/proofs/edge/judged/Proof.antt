@@ -1,0 +1,63 @@
+use Rattle.reader.proofs.Judging.{then-fail, then-ok, location-below}
+use Rattle.reader.specs.Held.{Few}
+use Rattle.reader.specs.Answers.{edge-res}
+use Rattle.text.specs.Fields.{indexRes}
+use Rattle.semantics.specs.Reading.{location-field}
+use Prim.Native.Nat.{_<_}
+use denote.Ref.{now}
+use native.Mathlib.Omega.{arith}
+use mathlib.Core.Path.{_≡_, refl, sym, ap, _∙_}
+use borrow.Author.Needs.{needs}
+use Rattle.reader.proofs.edge.judged.Statement.{statement}
+use Rattle.reader.proofs.edge.judged.Tie as tie
+use Rattle.reader.proofs.edge.judged.Reads as reads
+use Rattle.reader.proofs.edge.judged.Lts as lts
+use Rattle.reader.proofs.edge.with_from.Reads as with-from-reads
+use Rattle.text.proofs.field.Reads as field-reads
+use Rattle.text.proofs.location_field.Reads as location-field-reads
+
+-- src/edge.rt:77:40
+field-requires : tie.Need-field-requires
+field-requires c κs = search needs
+
+-- src/edge.rt:77:11
+location-field-requires : tie.Need-location-field-requires
+location-field-requires c κs = search needs
+
+-- src/edge.rt:78:30
+enum-known-k : tie.Need-enum-known-k
+enum-known-k c = search needs
+
+-- src/edge.rt:79:25
+enum-known-from : tie.Need-enum-known-from
+enum-known-from c = search needs
+
+-- src/edge.rt:79:34
+with-from-requires : tie.Need-with-from-requires
+unfolding indexRes
+with-from-requires c κs = let a = c .before .before .before .before .before .before .args in
+    let h : c .before .from .given .0 .0 < a .t .locs = location-below (a .t .locs) (now (c .before .before .before .before .field .result)) (sym (c .before .before .before .location-field .ensures) ∙ ap indexRes (c .before .from .given .1)) in
+    let g : c .before .from .given .0 .0 < 1000 = omega (arith, c .before .before .before .before .before .before .pre) in
+    (c .before .before .before .before .before .before .pre, g)
+
+-- src/edge.rt:73:1
+returns : tie.Need-returns
+unfolding edge-res indexRes
+returns c = sym (then-fail _ (ap (location-field (c .before .before .before .before .before .before .args .t .locs)) (sym (c .before .before .before .before .field .ensures)) ∙ sym (c .before .before .before .location-field .ensures) ∙ ap indexRes (c .before .k .given .1)))
+
+-- src/edge.rt:73:1
+returns-2 : tie.Need-returns-2
+unfolding indexRes
+returns-2 c = c .with-from .ensures ∙ sym (then-ok _ (ap (location-field (c .before .before .before .before .before .before .before .args .t .locs)) (sym (c .before .before .before .before .before .field .ensures)) ∙ sym (c .before .before .before .before .location-field .ensures) ∙ ap indexRes (c .before .before .from .given .1)))
+
+pub judged-spec : {M : Type 1} → statement M
+judged-spec =
+    tie.close
+    (tie.spec
+    field-requires
+    location-field-requires
+    enum-known-k
+    enum-known-from
+    with-from-requires
+    returns
+    returns-2)

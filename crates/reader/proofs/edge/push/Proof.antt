@@ -1,0 +1,45 @@
+use mir.Syntax.{w32}
+use mir.Val.{toZ, ofZ}
+use mathlib.Core.Path.{_≡_, refl, sym, ap, _∙_}
+use borrow.Author.Needs.{needs}
+use Rattle.reader.proofs.edge.push.Statement.{statement}
+use Rattle.reader.proofs.edge.push.Tie as tie
+use Rattle.reader.proofs.edge.push.Reads as reads
+use Rattle.reader.proofs.edge.push.Lts as lts
+use Rattle.reader.proofs.rows.push_row.Reads as push-row-reads
+use Rattle.reader.proofs.tally.used.Reads as used-reads
+
+-- src/edge.rt:25:9
+used-requires : tie.Need-used-requires
+used-requires c κs = search needs
+
+-- src/edge.rt:26:31
+slice-aggregate-push-row : tie.Need-slice-aggregate-push-row
+slice-aggregate-push-row c = search needs
+
+-- src/edge.rt:26:5
+push-row-requires : tie.Need-push-row-requires
+push-row-requires c κs = search needs
+
+-- src/edge.rt:19:1
+same-length : tie.Need-same-length
+same-length c = search needs
+
+-- src/edge.rt:19:1
+returns : tie.Need-returns
+returns c = let g = c .before .before .before .before .before .before .before .before .args .g in
+    let o = g .op in
+    let p1 : toZ w32 (ofZ w32 (g .from)) ≡ g .from = search needs in
+    let p2 : toZ w32 (ofZ w32 (g .to)) ≡ g .to = search needs in
+    let p3 : toZ w32 (ofZ w32 (o .code)) ≡ o .code = search needs in
+    let p4 : toZ w32 (ofZ w32 (o .target)) ≡ o .target = search needs in
+    let p5 : toZ w32 (ofZ w32 (o .tag1)) ≡ o .tag1 = search needs in
+    let p6 : toZ w32 (ofZ w32 (o .value1)) ≡ o .value1 = search needs in
+    let p7 : toZ w32 (ofZ w32 (o .tag2)) ≡ o .tag2 = search needs in
+    let p8 : toZ w32 (ofZ w32 (o .value2)) ≡ o .value2 = search needs in
+    c .before .push-row .ensures ∙ rw (c .before .before .before .before .used .ensures, p1, p2, p3, p4, p5, p6, p7, p8)
+
+pub push-spec : {M : Type 1} → statement M
+push-spec =
+    tie.close
+    (tie.spec used-requires slice-aggregate-push-row push-row-requires same-length returns)

@@ -1,0 +1,48 @@
+use Rattle.reader.proofs.Reading.{one-fail, one-ok}
+use Rattle.reader.specs.Answers.{argument-res, op-res}
+use mir.Syntax.{w32}
+use mir.Val.{toZ, ofZ}
+use mathlib.Core.Path.{_≡_, refl, sym, ap, _∙_}
+use borrow.Author.Needs.{needs}
+use Rattle.reader.proofs.operation.one_argument.Statement.{statement}
+use Rattle.reader.proofs.operation.one_argument.Tie as tie
+use Rattle.reader.proofs.operation.one_argument.Reads as reads
+use Rattle.reader.proofs.operation.one_argument.Lts as lts
+use Rattle.reader.proofs.operation.argument_of.Reads as argument-of-reads
+use Rattle.reader.proofs.operation.index_word.Reads as index-word-reads
+
+-- src/operation.rt:59:11
+argument-of-requires : tie.Need-argument-of-requires
+argument-of-requires c κs = search needs
+
+-- src/operation.rt:60:27
+enum-known-k : tie.Need-enum-known-k
+enum-known-k c = search needs
+
+-- src/operation.rt:61:22
+enum-known-t : tie.Need-enum-known-t
+enum-known-t c = search needs
+
+-- src/operation.rt:63:21
+index-word-requires : tie.Need-index-word-requires
+index-word-requires c κs = search needs
+
+-- src/operation.rt:55:1
+returns : tie.Need-returns
+unfolding op-res argument-res
+returns c = sym (one-fail _ _ _ (sym (c .before .before .before .argument-of .ensures) ∙ ap argument-res (c .before .k .given .1)))
+
+-- src/operation.rt:55:1
+returns-2 : tie.Need-returns-2
+unfolding op-res argument-res
+returns-2 c = let a = c .before .before .before .before .before .before .args in
+    let p : toZ w32 (ofZ w32 (a .code)) ≡ a .code = search needs in
+    let q : toZ w32 (ofZ w32 (c .index-word .result)) ≡ c .index-word .result = search needs in
+    let r : toZ w32 (ofZ w32 (c .before .before .t .given .0 .0)) ≡ c .before .before .t .given .0 .0 = search needs in
+    let s : toZ w32 (ofZ w32 (c .before .before .t .given .0 .1 .0)) ≡ c .before .before .t .given .0 .1 .0 = search needs in
+    rw (p, q, r, s, c .index-word .ensures) (sym (one-ok _ _ _ (sym (c .before .before .before .before .argument-of .ensures) ∙ ap argument-res (c .before .before .t .given .1))))
+
+pub one-argument-spec : {M : Type 1} → statement M
+one-argument-spec =
+    tie.close
+    (tie.spec argument-of-requires enum-known-k enum-known-t index-word-requires returns returns-2)

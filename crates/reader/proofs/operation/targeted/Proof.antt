@@ -1,0 +1,62 @@
+use Rattle.reader.proofs.Judging.{then-fail, then-ok, target-below}
+use Rattle.reader.specs.Answers.{op-res}
+use Rattle.text.specs.Fields.{indexRes}
+use Rattle.semantics.specs.Reading.{target-field}
+use Prim.Native.Nat.{_<_, _≤_}
+use denote.Ref.{now}
+use native.Mathlib.Omega.{arith}
+use mathlib.Core.Path.{_≡_, refl, sym, ap, _∙_}
+use borrow.Author.Needs.{needs}
+use Rattle.reader.proofs.operation.targeted.Statement.{statement}
+use Rattle.reader.proofs.operation.targeted.Tie as tie
+use Rattle.reader.proofs.operation.targeted.Reads as reads
+use Rattle.reader.proofs.operation.targeted.Lts as lts
+use Rattle.reader.proofs.operation.after_target.Reads as after-target-reads
+use Rattle.text.proofs.field.Reads as field-reads
+use Rattle.text.proofs.target_field.Reads as target-field-reads
+
+-- src/operation.rt:217:36
+field-requires : tie.Need-field-requires
+field-requires c κs = search needs
+
+-- src/operation.rt:217:11
+target-field-requires : tie.Need-target-field-requires
+target-field-requires c κs = search needs
+
+-- src/operation.rt:218:30
+enum-known-k : tie.Need-enum-known-k
+enum-known-k c = search needs
+
+-- src/operation.rt:219:25
+enum-known-v : tie.Need-enum-known-v
+enum-known-v c = search needs
+
+-- src/operation.rt:219:31
+after-target-requires : tie.Need-after-target-requires
+unfolding indexRes
+after-target-requires c κs = let a = c .before .before .before .before .before .before .args in
+    let h : c .before .v .given .0 .0 < a .vars = target-below (a .vars) (now (c .before .before .before .before .field .result)) (sym (c .before .before .before .target-field .ensures) ∙ ap indexRes (c .before .v .given .1)) in
+    let g : (a .vars ≤ 8) × (c .before .v .given .0 .0 < 1000) = omega arith in
+    g
+
+-- src/operation.rt:213:1
+returns : tie.Need-returns
+unfolding op-res indexRes
+returns c = sym (then-fail _ (ap (target-field (c .before .before .before .before .before .before .args .vars)) (sym (c .before .before .before .before .field .ensures)) ∙ sym (c .before .before .before .target-field .ensures) ∙ ap indexRes (c .before .k .given .1)))
+
+-- src/operation.rt:213:1
+returns-2 : tie.Need-returns-2
+unfolding indexRes
+returns-2 c = c .after-target .ensures ∙ sym (then-ok _ (ap (target-field (c .before .before .before .before .before .before .before .args .vars)) (sym (c .before .before .before .before .before .field .ensures)) ∙ sym (c .before .before .before .before .target-field .ensures) ∙ ap indexRes (c .before .before .v .given .1)))
+
+pub targeted-spec : {M : Type 1} → statement M
+targeted-spec =
+    tie.close
+    (tie.spec
+    field-requires
+    target-field-requires
+    enum-known-k
+    enum-known-v
+    after-target-requires
+    returns
+    returns-2)

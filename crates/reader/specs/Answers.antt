@@ -1,0 +1,70 @@
+-- What the answers of the functions over a line say: each enum as the definitions' refusal or value. Assumes nothing.
+use mathlib.Core.List.{List, [], _∷_}
+use Prim.Native.Nat.{ℕ}
+use lib.IntN.{ℤ}
+use Rattle.semantics.specs.Chart.{Var, Rel, eq, ne, lt, le, gt, ge}
+use Rattle.semantics.specs.Encoding.{val}
+use Rattle.semantics.specs.Reading.{Res, fail, ok, OpWord, do-set, do-add, do-sub, do-in, do-if, do-skip}
+use Rattle.text.specs.declared.Relation.{Relation}
+use Rattle.text.specs.declared.Relation.the-variants as relation
+use Rattle.text.specs.declared.OpWord.{OpWord as Said}
+use Rattle.text.specs.declared.OpWord.the-variants as said
+use Rattle.reader.specs.declared.variable.VarRow.{VarRow}
+use Rattle.reader.specs.declared.variable.VarLine.{VarLine}
+use Rattle.reader.specs.declared.variable.VarLine.the-variants as var-line
+use Rattle.reader.specs.declared.operation.Argument.{Argument}
+use Rattle.reader.specs.declared.operation.Argument.the-variants as argument
+use Rattle.reader.specs.declared.operation.OpRow.{OpRow}
+use Rattle.reader.specs.declared.operation.OpLine.{OpLine}
+use Rattle.reader.specs.declared.operation.OpLine.the-variants as op-line
+use Rattle.reader.specs.declared.edge.EdgeRow.{EdgeRow}
+use Rattle.reader.specs.declared.edge.EdgeLine.{EdgeLine}
+use Rattle.reader.specs.declared.edge.EdgeLine.the-variants as edge-line
+
+-- a variable, from its words
+abbrev pub var-of : VarRow → Var
+var-of v = record { lo = v .lo; hi = v .hi; init = val (v .init) }
+
+unfoldable pub var-res : VarLine → Res Var
+var-res (var-line.Refused k) = fail k
+var-res (var-line.Is v) = ok (var-of v)
+
+-- an operand's two words
+unfoldable pub argument-res : Argument → Res (List ℤ)
+argument-res (argument.Refused k) = fail k
+argument-res (argument.Is t x) = ok (t ∷ x ∷ [])
+
+-- an operation's six words
+abbrev pub op-row : OpRow → List ℤ
+op-row o = o .code ∷ o .target ∷ o .tag1 ∷ o .value1 ∷ o .tag2 ∷ o .value2 ∷ []
+
+unfoldable pub op-res : OpLine → Res (List ℤ)
+op-res (op-line.Refused k) = fail k
+op-res (op-line.Is o) = ok (op-row o)
+
+-- an edge's eight
+abbrev pub edge-row : EdgeRow → List ℤ
+edge-row g = g .from ∷ g .to ∷ op-row (g .op)
+
+unfoldable pub edge-res : EdgeLine → Res (List ℤ)
+edge-res (edge-line.Refused k) = fail k
+edge-res (edge-line.Is g) = ok (edge-row g)
+
+-- the word that an answer names; a refused one stands for none
+unfoldable pub the-word : Said → OpWord
+the-word (said.Refused k) = do-skip
+the-word said.Set = do-set
+the-word said.Add = do-add
+the-word said.Sub = do-sub
+the-word said.In = do-in
+the-word said.If = do-if
+the-word said.Skip = do-skip
+
+unfoldable pub the-rel : Relation → Rel
+the-rel (relation.Refused k) = ge
+the-rel relation.Eq = eq
+the-rel relation.Ne = ne
+the-rel relation.Lt = lt
+the-rel relation.Le = le
+the-rel relation.Gt = gt
+the-rel relation.Ge = ge

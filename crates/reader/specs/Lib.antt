@@ -1,0 +1,5 @@
+pub mod Faults
+pub mod Rows
+pub mod Lines
+pub mod Held
+pub mod Answers

@@ -1,0 +1,156 @@
+// `E from to operation ..`: the line is judged, and its row stored.
+ghost use mathlib.Core.Path.{_≡_};
+ghost use mathlib.Core.Bool.{_&&_};
+ghost use mathlib.Core.List.{List};
+ghost use Prim.Native.Nat.{_<_};
+ghost use lib.Dec.{leb};
+ghost use lib.IntN.{ℤ};
+ghost use lib.ListN.{length};
+ghost use Rattle.semantics.specs.Text.{fields};
+ghost use Rattle.semantics.specs.Reading.{So-far, none-empty, edge-line};
+ghost use Rattle.semantics.specs.Reading.{field-count as field-count-of};
+ghost use Rattle.reader.specs.Rows.{stored};
+ghost use Rattle.reader.specs.Answers.{the-word, op-res, edge-row, edge-res};
+ghost use Rattle.reader.specs.Lines.{op-read, edge-read, edge-worded};
+ghost use Rattle.reader.specs.Lines.{with-op as op-after, with-from as from-after};
+ghost use Rattle.reader.specs.Held.{Few, Rows, Names, Stepped};
+ghost use Rattle.reader.specs.Held.{used as used-words};
+use super::operation;
+use super::operation::OpLine;
+use super::operation::OpRow;
+use super::rows;
+use super::tally::Step;
+use super::tally::Tally;
+use super::tally::used;
+
+struct EdgeRow {
+    from: i32,
+    to: i32,
+    op: OpRow,
+}
+
+enum EdgeLine {
+    Refused(u32),
+    Is(EdgeRow),
+}
+
+// How many fields a line with this operation has.
+fn field_count(w: text::OpWord) -> usize
+    ensures { λ r. ⌜ r ≡ field-count-of (the-word w) ⌝ }
+{
+    match w {
+        text::OpWord::Refused(_) => 4,
+        text::OpWord::Set => 6,
+        text::OpWord::Add => 7,
+        text::OpWord::Sub => 7,
+        text::OpWord::In => 7,
+        text::OpWord::If => 7,
+        text::OpWord::Skip => 4,
+    }
+}
+
+fn with_op(from: semantics::LocationId, to: semantics::LocationId, op: OpLine) -> EdgeLine
+    requires { ⌜ (from .0 < 1000) × (to .0 < 1000) ⌝ }
+    ensures { λ r. ⌜ edge-res r ≡ op-after (from .0) (to .0) (op-res op) ⌝ }
+{
+    match op {
+        OpLine::Refused(k) => EdgeLine::Refused(k),
+        OpLine::Is(o) => EdgeLine::Is(EdgeRow {
+            from: operation::index_word(from.0),
+            to: operation::index_word(to.0),
+            op: o,
+        }),
+    }
+}
+
+fn with_from(
+    from: semantics::LocationId,
+    w: text::OpWord,
+    t: Tally,
+    table: &[i32],
+    line: &[u8],
+) -> EdgeLine
+    requires { ⌜ Few t × (from .0 < 1000) ⌝ }
+    ensures { λ r. ⌜ edge-res r ≡ from-after (from .0) (t .locs) (op-read (now (table .entry)) (t .vars) (the-word w) (fields (now (line .entry)))) (fields (now (line .entry))) ⌝ }
+{
+    match text::location_field(t.locs, text::field(line, 2)) {
+        text::Index::Refused(k) => EdgeLine::Refused(k),
+        text::Index::Is(to) => with_op(
+            from,
+            semantics::LocationId(to),
+            operation::read(w, t.vars, table, line),
+        ),
+    }
+}
+
+fn judged(w: text::OpWord, t: Tally, table: &[i32], line: &[u8]) -> EdgeLine
+    requires { ⌜ Few t ⌝ }
+    ensures { λ r. ⌜ edge-res r ≡ edge-read (t .locs) (op-read (now (table .entry)) (t .vars) (the-word w) (fields (now (line .entry)))) (fields (now (line .entry))) ⌝ }
+{
+    match text::location_field(t.locs, text::field(line, 1)) {
+        text::Index::Refused(k) => EdgeLine::Refused(k),
+        text::Index::Is(from) => with_from(semantics::LocationId(from), w, t, table, line),
+    }
+}
+
+fn push(t: Tally, table: &mut [i32], g: EdgeRow)
+    requires { ⌜ Few t × (t .edges < 256) × (length (now table) ≡ 3160) ⌝ }
+    ensures { λ _. ⌜ now (table .exit) ≡ stored (used-words t) (edge-row g) (now (table .entry)) ⌝ }
+{
+    let o = g.op;
+    let row = [
+        g.from,
+        g.to,
+        o.code,
+        o.target,
+        o.tag1,
+        o.value1,
+        o.tag2,
+        o.value2,
+    ];
+    let at = used(t);
+    rows::push_row(table, at, &row);
+}
+
+fn worded(w: text::OpWord, t: Tally, table: &mut [i32], line: &[u8]) -> Step
+    requires { ⌜ Few t × (t .edges < 256) × (length (now table) ≡ 3160) ⌝ }
+    ensures { λ r. ⌜ ((s : So-far) (names : List ℤ) → Rows t (now (table .entry)) (s .chart) → Names (t .vars) names (s .names) → Stepped r (edge-worded s (the-word w) (fields (now (line .entry)))) (now (table .exit)) names) ⌝ }
+{
+    if text::field_count(line) != field_count(w) {
+        return Step::Refused(5);
+    }
+    match judged(w, t, table, line) {
+        EdgeLine::Refused(k) => Step::Refused(k),
+        EdgeLine::Is(g) => {
+            push(t, table, g);
+            Step::Go(Tally {
+                vars: t.vars,
+                locs: t.locs,
+                edges: t.edges + 1,
+            })
+        }
+    }
+}
+
+fn enough(line: &[u8]) -> bool
+    ensures { λ r. ⌜ r ≡ leb 4 (length (fields (now (line .entry)))) && none-empty (fields (now (line .entry))) ⌝ }
+{
+    (4 <= text::field_count(line)) & text::none_empty(line)
+}
+
+pub fn read_line(t: Tally, table: &mut [i32], line: &[u8]) -> Step
+    requires { ⌜ Few t × (length (now table) ≡ 3160) ⌝ }
+    ensures { λ r. ⌜ ((s : So-far) (names : List ℤ) → Rows t (now (table .entry)) (s .chart) → Names (t .vars) names (s .names) → Stepped r (edge-line s (fields (now (line .entry)))) (now (table .exit)) names) ⌝ }
+{
+    if 256 <= t.edges {
+        return Step::Refused(8);
+    }
+    if !enough(line) {
+        return Step::Refused(5);
+    }
+    let w = text::op_word_field(text::field(line, 3));
+    match w {
+        text::OpWord::Refused(k) => Step::Refused(k),
+        _ => worded(w, t, table, line),
+    }
+}

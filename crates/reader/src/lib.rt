@@ -1,0 +1,139 @@
+// Reading a chart file: from its bytes to the words of the encoded chart, or the refusal's number and line.
+ghost use mathlib.Core.Path.{_≡_};
+ghost use mathlib.Core.List.{List};
+ghost use lib.IntN.{ℤ};
+ghost use lib.ListN.{length};
+ghost use lib.Dec.{ltb};
+ghost use mathlib.Core.List.{map};
+ghost use Rattle.semantics.specs.Lists.{is-empty};
+ghost use Rattle.semantics.specs.Text.{lines, fields};
+ghost use Rattle.semantics.specs.Chart.{Chart};
+ghost use Rattle.semantics.specs.Encoding.{encode};
+ghost use Rattle.semantics.specs.Reading.{So-far, judge, ended, judged, nothing-read, refused-at, bad-byte-line, open-line};
+ghost use Rattle.semantics.specs.Outcomes.{refused-by, held-unless, held-by, read-outcome};
+ghost use Rattle.reader.specs.Held.{Few, Rows, Names, Stepped};
+
+mod edge;
+mod location;
+mod operation;
+mod rows;
+mod scan;
+mod tally;
+mod variable;
+
+use tally::Step;
+use tally::Tally;
+use tally::used;
+
+// A refusal; with 0, what a call that goes through answers.
+fn refused(number: u32, line: usize) -> semantics::Answer
+    ensures { λ r. ⌜ r ≡ refused-by number line ⌝ }
+{
+    semantics::Answer {
+        number: number,
+        line: line,
+        length: 0,
+    }
+}
+
+// The rows to the words lent, after their counts; or 14, where these are too few.
+fn hold(t: Tally, table: &[i32], words: &mut [i32]) -> semantics::Answer
+    requires { ⌜ Few t × (length (now table) ≡ 3160) ⌝ }
+    ensures { λ r. ⌜ ((c : Chart) → Rows t (now (table .entry)) c → r ≡ held-unless (ltb (length (now (words .entry))) (length (encode c))) c (now (words .entry)) .answer) ⌝ }
+    ensures { λ _. ⌜ ((c : Chart) → Rows t (now (table .entry)) c → now (words .exit) ≡ held-unless (ltb (length (now (words .entry))) (length (encode c))) c (now (words .entry)) .words) ⌝ }
+{
+    let size = used(t);
+    if words.len() < size + 3 {
+        return refused(14, 0);
+    }
+    let counts = [t.vars as i32, t.locs as i32, t.edges as i32];
+    rows::push_row(words, 0, &counts);
+    rows::push_row(words, 3, &table[..size]);
+    refused(0, 0)
+}
+
+// After the last line.
+fn finish(t: Tally, table: &[i32], words: &mut [i32]) -> semantics::Answer
+    requires { ⌜ Few t × (length (now table) ≡ 3160) ⌝ }
+    ensures { λ r. ⌜ ((c : Chart) → Rows t (now (table .entry)) c → r ≡ held-by (ended (is-empty (c .locs)) c) (now (words .entry)) .answer) ⌝ }
+    ensures { λ _. ⌜ ((c : Chart) → Rows t (now (table .entry)) c → now (words .exit) ≡ held-by (ended (is-empty (c .locs)) c) (now (words .entry)) .words) ⌝ }
+{
+    if t.locs == 0 {
+        return refused(8, 0);
+    }
+    hold(t, table, words)
+}
+
+// One line, by its kind.
+fn step(t: Tally, table: &mut [i32], names: &mut [i32], line: &[u8]) -> Step
+    requires { ⌜ Few t × (length (now table) ≡ 3160) × (length (now names) ≡ 128) ⌝ }
+    ensures { λ r. ⌜ ((s : So-far) → Rows t (now (table .entry)) (s .chart) → Names (t .vars) (now (names .entry)) (s .names) → Stepped r (judge s (fields (now (line .entry)))) (now (table .exit)) (now (names .exit))) ⌝ }
+{
+    let kind = text::field(line, 0);
+    if text::same_bytes(kind, b"V") {
+        return variable::read_line(t, table, names, line);
+    }
+    if text::same_bytes(kind, b"L") {
+        return location::read_line(t, table, line);
+    }
+    if text::same_bytes(kind, b"E") {
+        return edge::read_line(t, table, line);
+    }
+    Step::Refused(4)
+}
+
+// The lines, one by one. The rows are held apart until the last line is judged, so that a refusal has written nothing; they
+// are those of 8 variables, 64 locations and 256 edges at most.
+fn read_lines(text: &[u8], words: &mut [i32]) -> semantics::Answer
+    ensures { λ r. ⌜ r ≡ held-by (judged 1 nothing-read (map fields (lines (now (text .entry))))) (now (words .entry)) .answer ⌝ }
+    ensures { λ _. ⌜ now (words .exit) ≡ held-by (judged 1 nothing-read (map fields (lines (now (text .entry))))) (now (words .entry)) .words ⌝ }
+{
+    let mut table = [0i32; 3160];
+    let mut names = [0i32; 128];
+    let mut t = Tally {
+        vars: 0,
+        locs: 0,
+        edges: 0,
+    };
+    let mut at = 0;
+    let mut n = 1;
+    while at < text.len() {
+        let end = text::line_end(text, at);
+        match step(t, &mut table, &mut names, &text[at..end]) {
+            Step::Refused(k) => {
+                return refused(k, n);
+            }
+            Step::Go(next) => {
+                t = next;
+            }
+        }
+        at = end + 1;
+        n += 1;
+    }
+    finish(t, &table, words)
+}
+
+// The bytes, then the LF of the last line, then the lines.
+fn read_text(text: &[u8], words: &mut [i32]) -> semantics::Answer
+    ensures { λ r. ⌜ r ≡ held-by (refused-at (bad-byte-line 1 (now (text .entry))) 2 (refused-at (open-line 0 10 (now (text .entry))) 3 (judged 1 nothing-read (map fields (lines (now (text .entry))))))) (now (words .entry)) .answer ⌝ }
+    ensures { λ _. ⌜ now (words .exit) ≡ held-by (refused-at (bad-byte-line 1 (now (text .entry))) 2 (refused-at (open-line 0 10 (now (text .entry))) 3 (judged 1 nothing-read (map fields (lines (now (text .entry))))))) (now (words .entry)) .words ⌝ }
+{
+    match scan::bad_byte(text) {
+        scan::Fault::Line(n) => refused(2, n),
+        scan::Fault::Nowhere => match scan::open_line(text) {
+            scan::Fault::Line(n) => refused(3, n),
+            scan::Fault::Nowhere => read_lines(text, words),
+        },
+    }
+}
+
+// A chart file's bytes into the words of the encoded chart: the answer, and every word at exit.
+pub fn read(text: &[u8], words: &mut [i32]) -> semantics::Answer
+    ensures { λ r. ⌜ r ≡ read-outcome (now (text .entry)) (now (words .entry)) .answer ⌝ }
+    ensures { λ _. ⌜ now (words .exit) ≡ read-outcome (now (text .entry)) (now (words .entry)) .words ⌝ }
+{
+    if 32768 < text.len() {
+        return refused(1, 0);
+    }
+    read_text(text, words)
+}

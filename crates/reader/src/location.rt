@@ -1,0 +1,62 @@
+// `L name kind`: the line is judged, and its row stored.
+ghost use mathlib.Core.Path.{_≡_};
+ghost use mathlib.Core.Bool.{true};
+ghost use mathlib.Core.List.{List};
+ghost use Prim.Native.Nat.{_<_};
+ghost use lib.IntN.{ℤ};
+ghost use lib.ListN.{length};
+ghost use Rattle.semantics.specs.Text.{fields, name-ok};
+ghost use Rattle.semantics.specs.Reading.{So-far, loc-line};
+ghost use Rattle.text.specs.Fields.{flagRes};
+ghost use Rattle.reader.specs.Lines.{loc-fields, loc-named};
+ghost use Rattle.reader.specs.Held.{Few, Rows, Names, Stepped};
+use super::rows;
+use super::tally::Step;
+use super::tally::Tally;
+use super::tally::filled;
+use super::tally::used;
+
+fn judged(line: &[u8]) -> text::Flag
+    ensures { λ r. ⌜ flagRes r ≡ loc-fields (fields (now (line .entry))) ⌝ }
+{
+    if !filled(line, 3) {
+        return text::Flag::Refused(5);
+    }
+    if !text::name_ok(text::field(line, 1)) {
+        return text::Flag::Refused(6);
+    }
+    text::kind_field(text::field(line, 2))
+}
+
+// A location, if its name is new.
+fn named(t: Tally, table: &mut [i32], error: bool, name: &[u8]) -> Step
+    requires { ⌜ Few t × (t .locs < 64) × (t .edges ≡ 0) × (length (now table) ≡ 3160) ⌝ }
+    ensures { λ r. ⌜ ((s : So-far) (names : List ℤ) → Rows t (now (table .entry)) (s .chart) → Names (t .vars) names (s .names) → name-ok (now (name .entry)) ≡ true → Stepped r (loc-named s (now (name .entry)) error) (now (table .exit)) names) ⌝ }
+{
+    if rows::name_seen(table, 3 * t.vars + 1, 17, t.locs, name) {
+        return Step::Refused(9);
+    }
+    let at = used(t);
+    rows::push_location(table, at, error, name);
+    Step::Go(Tally {
+        vars: t.vars,
+        locs: t.locs + 1,
+        edges: 0,
+    })
+}
+
+pub fn read_line(t: Tally, table: &mut [i32], line: &[u8]) -> Step
+    requires { ⌜ Few t × (length (now table) ≡ 3160) ⌝ }
+    ensures { λ r. ⌜ ((s : So-far) (names : List ℤ) → Rows t (now (table .entry)) (s .chart) → Names (t .vars) names (s .names) → Stepped r (loc-line s (fields (now (line .entry)))) (now (table .exit)) names) ⌝ }
+{
+    if t.edges != 0 {
+        return Step::Refused(4);
+    }
+    if 64 <= t.locs {
+        return Step::Refused(8);
+    }
+    match judged(line) {
+        text::Flag::Refused(k) => Step::Refused(k),
+        text::Flag::Is(error) => named(t, table, error, text::field(line, 1)),
+    }
+}

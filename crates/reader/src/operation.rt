@@ -1,0 +1,232 @@
+// The operation of an E line: what follows the two locations, as six words.
+ghost use mathlib.Core.Path.{_≡_};
+ghost use mathlib.Core.Bool.{_&&_};
+ghost use Prim.Native.Nat.{_<_, _≤_};
+ghost use lib.IntN.{ℤ, pos};
+ghost use lib.Signed.{leZ};
+ghost use Rattle.semantics.specs.Text.{fields};
+ghost use Rattle.semantics.specs.Chart.{within};
+ghost use Rattle.semantics.specs.Encoding.{rel-code, op-words};
+ghost use Rattle.semantics.specs.Reading.{nth, ok, number-field, operand-field, rel-field};
+ghost use Rattle.reader.specs.Answers.{argument-res, op-res, the-word, the-rel};
+ghost use Rattle.reader.specs.Lines.{in-table, argument-read, one-read, second-read, two-read, high-read, bounds-read, condition-read, op-read};
+ghost use Rattle.reader.specs.Lines.{targeted as targeted-read, after-target as after-target-read};
+ghost use Rattle.semantics.specs.Chart.{skip};
+
+// An operand's tag and value.
+enum Argument {
+    Refused(u32),
+    Is(i32, i32),
+}
+
+pub struct OpRow {
+    pub code: i32,
+    pub target: i32,
+    pub tag1: i32,
+    pub value1: i32,
+    pub tag2: i32,
+    pub value2: i32,
+}
+
+pub enum OpLine {
+    Refused(u32),
+    Is(OpRow),
+}
+
+// The word of a location's or a variable's number.
+pub fn index_word(k: usize) -> i32
+    requires { ⌜ k < 1000 ⌝ }
+    ensures { λ r. ⌜ r ≡ pos k ⌝ }
+{
+    k as i32
+}
+
+fn argument_of(vars: usize, f: &[u8]) -> Argument
+    requires { ⌜ vars ≤ 8 ⌝ }
+    ensures { λ r. ⌜ argument-res r ≡ argument-read (operand-field vars (now (f .entry))) ⌝ }
+{
+    match text::operand_field(vars, f) {
+        text::Operand::Refused(k) => Argument::Refused(k),
+        text::Operand::Number(z) => Argument::Is(0, z),
+        text::Operand::Var(v) => Argument::Is(1, index_word(v)),
+    }
+}
+
+fn one_argument(code: i32, v: usize, vars: usize, f: &[u8]) -> OpLine
+    requires { ⌜ (vars ≤ 8) × (v < 1000) ⌝ }
+    ensures { λ r. ⌜ op-res r ≡ one-read code v (operand-field vars (now (f .entry))) ⌝ }
+{
+    match argument_of(vars, f) {
+        Argument::Refused(k) => OpLine::Refused(k),
+        Argument::Is(t, x) => OpLine::Is(OpRow {
+            code: code,
+            target: index_word(v),
+            tag1: t,
+            value1: x,
+            tag2: 0,
+            value2: 0,
+        }),
+    }
+}
+
+// The second operand, after the words of the first.
+fn second_argument(code: i32, v: usize, t: i32, x: i32, vars: usize, f: &[u8]) -> OpLine
+    requires { ⌜ (vars ≤ 8) × (v < 1000) ⌝ }
+    ensures { λ r. ⌜ op-res r ≡ second-read code v t x (operand-field vars (now (f .entry))) ⌝ }
+{
+    match argument_of(vars, f) {
+        Argument::Refused(k) => OpLine::Refused(k),
+        Argument::Is(u, y) => OpLine::Is(OpRow {
+            code: code,
+            target: index_word(v),
+            tag1: t,
+            value1: x,
+            tag2: u,
+            value2: y,
+        }),
+    }
+}
+
+fn two_arguments(code: i32, v: usize, vars: usize, line: &[u8]) -> OpLine
+    requires { ⌜ (vars ≤ 8) × (v < 1000) ⌝ }
+    ensures { λ r. ⌜ op-res r ≡ two-read code v (operand-field vars (nth (fields (now (line .entry))) 5)) (operand-field vars (nth (fields (now (line .entry))) 6)) ⌝ }
+{
+    match argument_of(vars, text::field(line, 5)) {
+        Argument::Refused(k) => OpLine::Refused(k),
+        Argument::Is(t, x) => second_argument(code, v, t, x, vars, text::field(line, 6)),
+    }
+}
+
+fn between(lo: i32, hi: i32, z: i32) -> bool
+    ensures { λ r. ⌜ r ≡ within lo hi z ⌝ }
+{
+    (lo <= z) & (z <= hi)
+}
+
+// Whether the number lies in the range of variable v.
+fn in_range(table: &[i32], v: usize, z: i32) -> bool
+    requires { ⌜ v < 1000 ⌝ }
+    ensures { λ r. ⌜ r ≡ in-table (now (table .entry)) v z ⌝ }
+{
+    let at = 3 * v;
+    between(words::word_at(table, at), words::word_at(table, at + 1), z)
+}
+
+// Whether p..q ends in the range of variable v.
+fn up_to(table: &[i32], v: usize, p: i32, q: i32) -> bool
+    requires { ⌜ v < 1000 ⌝ }
+    ensures { λ r. ⌜ r ≡ in-table (now (table .entry)) v q && leZ p q ⌝ }
+{
+    in_range(table, v, q) & (p <= q)
+}
+
+fn high(table: &[i32], v: usize, p: i32, f: &[u8]) -> OpLine
+    requires { ⌜ v < 1000 ⌝ }
+    ensures { λ r. ⌜ op-res r ≡ high-read (now (table .entry)) v p (number-field (now (f .entry))) ⌝ }
+{
+    match text::number_field(f) {
+        text::Word::Refused(k) => OpLine::Refused(k),
+        text::Word::Is(q) => {
+            if up_to(table, v, p, q) {
+                return OpLine::Is(OpRow {
+                    code: 4,
+                    target: index_word(v),
+                    tag1: 0,
+                    value1: p,
+                    tag2: 0,
+                    value2: q,
+                });
+            }
+            OpLine::Refused(7)
+        }
+    }
+}
+
+fn bounds(table: &[i32], v: usize, line: &[u8]) -> OpLine
+    requires { ⌜ v < 1000 ⌝ }
+    ensures { λ r. ⌜ op-res r ≡ bounds-read (now (table .entry)) v (number-field (nth (fields (now (line .entry))) 5)) (number-field (nth (fields (now (line .entry))) 6)) ⌝ }
+{
+    match text::number_field(text::field(line, 5)) {
+        text::Word::Refused(k) => OpLine::Refused(k),
+        text::Word::Is(p) => {
+            if in_range(table, v, p) {
+                return high(table, v, p, text::field(line, 6));
+            }
+            OpLine::Refused(7)
+        }
+    }
+}
+
+// The code of a condition with this relation.
+fn code_of(r: text::Relation) -> i32
+    ensures { λ x. ⌜ x ≡ pos (rel-code (the-rel r)) ⌝ }
+{
+    match r {
+        text::Relation::Refused(_) => 10,
+        text::Relation::Eq => 5,
+        text::Relation::Ne => 6,
+        text::Relation::Lt => 7,
+        text::Relation::Le => 8,
+        text::Relation::Gt => 9,
+        text::Relation::Ge => 10,
+    }
+}
+
+fn condition(v: usize, vars: usize, line: &[u8]) -> OpLine
+    requires { ⌜ (vars ≤ 8) × (v < 1000) ⌝ }
+    ensures { λ r. ⌜ op-res r ≡ condition-read v (rel-field (nth (fields (now (line .entry))) 5)) (operand-field vars (nth (fields (now (line .entry))) 6)) ⌝ }
+{
+    let r = text::rel_field(text::field(line, 5));
+    match r {
+        text::Relation::Refused(k) => OpLine::Refused(k),
+        _ => one_argument(code_of(r), v, vars, text::field(line, 6)),
+    }
+}
+
+fn unchanged() -> OpLine
+    ensures { λ r. ⌜ op-res r ≡ ok (op-words skip) ⌝ }
+{
+    OpLine::Is(OpRow {
+        code: 0,
+        target: 0,
+        tag1: 0,
+        value1: 0,
+        tag2: 0,
+        value2: 0,
+    })
+}
+
+fn after_target(w: text::OpWord, v: usize, vars: usize, table: &[i32], line: &[u8]) -> OpLine
+    requires { ⌜ (vars ≤ 8) × (v < 1000) ⌝ }
+    ensures { λ r. ⌜ op-res r ≡ after-target-read (now (table .entry)) vars (the-word w) v (fields (now (line .entry))) ⌝ }
+{
+    match w {
+        text::OpWord::Set => one_argument(1, v, vars, text::field(line, 5)),
+        text::OpWord::Add => two_arguments(2, v, vars, line),
+        text::OpWord::Sub => two_arguments(3, v, vars, line),
+        text::OpWord::In => bounds(table, v, line),
+        text::OpWord::If => condition(v, vars, line),
+        _ => unchanged(),
+    }
+}
+
+fn targeted(w: text::OpWord, vars: usize, table: &[i32], line: &[u8]) -> OpLine
+    requires { ⌜ vars ≤ 8 ⌝ }
+    ensures { λ r. ⌜ op-res r ≡ targeted-read (now (table .entry)) vars (the-word w) (fields (now (line .entry))) ⌝ }
+{
+    match text::target_field(vars, text::field(line, 4)) {
+        text::Index::Refused(k) => OpLine::Refused(k),
+        text::Index::Is(v) => after_target(w, v, vars, table, line),
+    }
+}
+
+pub fn read(w: text::OpWord, vars: usize, table: &[i32], line: &[u8]) -> OpLine
+    requires { ⌜ vars ≤ 8 ⌝ }
+    ensures { λ r. ⌜ op-res r ≡ op-read (now (table .entry)) vars (the-word w) (fields (now (line .entry))) ⌝ }
+{
+    match w {
+        text::OpWord::Refused(_) => unchanged(),
+        text::OpWord::Skip => unchanged(),
+        _ => targeted(w, vars, table, line),
+    }
+}

@@ -1,0 +1,65 @@
+// What is judged of the file as a whole: its bytes, and the LF of its last line.
+ghost use mathlib.Core.Path.{_≡_};
+ghost use Prim.Native.Nat.{suc, _<_};
+ghost use lib.Dec.{eqb};
+ghost use Rattle.semantics.specs.Lists.{pick};
+ghost use Rattle.semantics.specs.Reading.{byte-ok, bad-byte-line, open-line};
+ghost use Rattle.reader.specs.Faults.{fault-line};
+
+// The line at fault, if there is one.
+pub enum Fault {
+    Nowhere,
+    Line(usize),
+}
+
+fn byte_ok(b: u8) -> bool
+    ensures { λ r. ⌜ r ≡ byte-ok b ⌝ }
+{
+    (b == 9) | (b == 10) | ((33 <= b) & (b <= 126))
+}
+
+// One line more after an LF.
+fn line_after(n: usize, b: u8) -> usize
+    requires { ⌜ n < 10000000000000000000 ⌝ }
+    ensures { λ r. ⌜ r ≡ pick (eqb b 10) (suc n) n ⌝ }
+{
+    if b == 10 {
+        return n + 1;
+    }
+    n
+}
+
+// The line of the first byte that no chart has.
+pub fn bad_byte(text: &[u8]) -> Fault
+    ensures { λ r. ⌜ fault-line r ≡ bad-byte-line 1 (now (text .entry)) ⌝ }
+{
+    let mut n = 1;
+    let mut i = 0;
+    while i < text.len() {
+        let b = text[i];
+        if !byte_ok(b) {
+            return Fault::Line(n);
+        }
+        n = line_after(n, b);
+        i += 1;
+    }
+    Fault::Nowhere
+}
+
+// The last line, where it lacks its LF.
+pub fn open_line(text: &[u8]) -> Fault
+    ensures { λ r. ⌜ fault-line r ≡ open-line 0 10 (now (text .entry)) ⌝ }
+{
+    let mut n = 0;
+    let mut last = 10;
+    let mut i = 0;
+    while i < text.len() {
+        n = line_after(n, last);
+        last = text[i];
+        i += 1;
+    }
+    if last == 10 {
+        return Fault::Nowhere;
+    }
+    Fault::Line(n)
+}

@@ -1,0 +1,117 @@
+// `V name lo hi init`: the line is judged, and its row stored.
+ghost use mathlib.Core.Path.{_≡_};
+ghost use mathlib.Core.Bool.{true};
+ghost use Prim.Native.Nat.{_<_};
+ghost use lib.ListN.{length};
+ghost use lib.Signed.{leZ};
+ghost use Rattle.semantics.specs.Text.{fields, name-ok};
+ghost use Rattle.semantics.specs.Reading.{So-far, var-line};
+ghost use Rattle.reader.specs.Answers.{var-of, var-res};
+ghost use Rattle.reader.specs.Lines.{var-init, var-high, var-low, var-fields, var-named};
+ghost use Rattle.reader.specs.Held.{Few, Rows, Names, Stepped};
+use super::rows;
+use super::tally::Step;
+use super::tally::Tally;
+use super::tally::filled;
+
+struct VarRow {
+    lo: i32,
+    hi: i32,
+    init: i32,
+}
+
+enum VarLine {
+    Refused(u32),
+    Is(VarRow),
+}
+
+fn init(lo: i32, hi: i32, f: &[u8]) -> VarLine
+    ensures { λ r. ⌜ var-res r ≡ var-init lo hi (now (f .entry)) ⌝ }
+{
+    match text::init_field(lo, hi, f) {
+        text::Word::Refused(k) => VarLine::Refused(k),
+        text::Word::Is(x) => VarLine::Is(VarRow {
+            lo: lo,
+            hi: hi,
+            init: x,
+        }),
+    }
+}
+
+fn at_most(a: i32, b: i32) -> bool
+    ensures { λ r. ⌜ r ≡ leZ a b ⌝ }
+{
+    a <= b
+}
+
+fn high(lo: i32, line: &[u8]) -> VarLine
+    ensures { λ r. ⌜ var-res r ≡ var-high lo (fields (now (line .entry))) ⌝ }
+{
+    match text::number_field(text::field(line, 3)) {
+        text::Word::Refused(k) => VarLine::Refused(k),
+        text::Word::Is(hi) => {
+            if at_most(lo, hi) {
+                return init(lo, hi, text::field(line, 4));
+            }
+            VarLine::Refused(7)
+        }
+    }
+}
+
+fn low(line: &[u8]) -> VarLine
+    ensures { λ r. ⌜ var-res r ≡ var-low (fields (now (line .entry))) ⌝ }
+{
+    match text::number_field(text::field(line, 2)) {
+        text::Word::Refused(k) => VarLine::Refused(k),
+        text::Word::Is(lo) => high(lo, line),
+    }
+}
+
+fn judged(line: &[u8]) -> VarLine
+    ensures { λ r. ⌜ var-res r ≡ var-fields (fields (now (line .entry))) ⌝ }
+{
+    if !filled(line, 5) {
+        return VarLine::Refused(5);
+    }
+    if !text::name_ok(text::field(line, 1)) {
+        return VarLine::Refused(6);
+    }
+    low(line)
+}
+
+// A variable, if its name is new: its row, and its name's.
+fn named(t: Tally, table: &mut [i32], names: &mut [i32], v: VarRow, name: &[u8]) -> Step
+    requires { ⌜ (t .vars < 8) × (t .locs ≡ 0) × (t .edges ≡ 0) × (length (now table) ≡ 3160) × (length (now names) ≡ 128) ⌝ }
+    ensures { λ r. ⌜ ((s : So-far) → Rows t (now (table .entry)) (s .chart) → Names (t .vars) (now (names .entry)) (s .names) → name-ok (now (name .entry)) ≡ true → Stepped r (var-named s (now (name .entry)) (var-of v)) (now (table .exit)) (now (names .exit))) ⌝ }
+{
+    if rows::name_seen(names, 0, 16, t.vars, name) {
+        return Step::Refused(9);
+    }
+    let row = [v.lo, v.hi, v.init];
+    rows::push_row(table, 3 * t.vars, &row);
+    rows::push_name(names, 16 * t.vars, name);
+    Step::Go(Tally {
+        vars: t.vars + 1,
+        locs: 0,
+        edges: 0,
+    })
+}
+
+pub fn read_line(t: Tally, table: &mut [i32], names: &mut [i32], line: &[u8]) -> Step
+    requires { ⌜ Few t × (length (now table) ≡ 3160) × (length (now names) ≡ 128) ⌝ }
+    ensures { λ r. ⌜ ((s : So-far) → Rows t (now (table .entry)) (s .chart) → Names (t .vars) (now (names .entry)) (s .names) → Stepped r (var-line s (fields (now (line .entry)))) (now (table .exit)) (now (names .exit))) ⌝ }
+{
+    if t.locs != 0 {
+        return Step::Refused(4);
+    }
+    if t.edges != 0 {
+        return Step::Refused(4);
+    }
+    if 8 <= t.vars {
+        return Step::Refused(8);
+    }
+    match judged(line) {
+        VarLine::Refused(k) => Step::Refused(k),
+        VarLine::Is(v) => named(t, table, names, v, text::field(line, 1)),
+    }
+}

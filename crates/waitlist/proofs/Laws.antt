@@ -1,0 +1,91 @@
+-- Laws of the waitlist's words: what they hold, a word more, and room for a slot that does not wait. Assumes nothing.
+use mathlib.Core.Path.{_≡_, refl, sym, ap, subst, _∙_}
+use mathlib.Core.Logic.{inl, inr}
+use mathlib.Core.Bool.{Bool, true, false}
+use mathlib.Core.List.{List, [], _∷_, _++_, map}
+use Prim.Native.Nat.{ℕ, suc, _+_, _-_, _<_}
+use native.Mathlib.Numerals.{add-one}
+use native.Mathlib.Omega.{arith}
+use lib.Dec.{eqb}
+use lib.IntN.{ℤ, pos, natAbs}
+use lib.ListN.{length, take, drop, getD, set, replicate, length-map, length-append, length-set}
+use lib.Seq.{take-at, drop-at, drop-cons, set-at, append-snoc}
+use Rattle.semantics.specs.Chart.{eqZ}
+use Rattle.semantics.specs.Lists.{In, some-of}
+use Rattle.semantics.specs.Algorithm.{without}
+use Rattle.semantics.specs.Coverage.{Queue}
+use Rattle.semantics.proofs.Tidy.{without-in, without-not, without-distinct, some-not, queue-few}
+use Rattle.waitlist.specs.Waits.{waits, Put, any-word}
+
+abs-pos : (wa : List ℕ) → map natAbs (map pos wa) ≡ wa
+abs-pos [] = refl
+abs-pos (k ∷ wa) = rw (abs-pos wa)
+
+pub map-append : (a b : List ℕ) → map pos (a ++ b) ≡ map pos a ++ map pos b
+map-append [] b = refl
+map-append (x ∷ a) b = rw (map-append a b)
+
+module _ {l : List ℤ} {n : ℕ} {wa : List ℕ} (p : Put l n wa) where
+  count-words : length (map pos wa) ≡ n
+  count-words = length-map wa pos ∙ sym (p .count)
+
+  pub front : take n l ≡ map pos wa
+  front = ap (λ (x : List ℤ). take n x) (p .words) ∙ take-at (map pos wa) (replicate (length l - n) (pos 0)) n count-words
+
+  pub back : drop n l ≡ replicate (length l - n) (pos 0)
+  back = ap (drop n) (p .words) ∙ drop-at (map pos wa) (replicate (length l - n) (pos 0)) n count-words
+
+  -- what is held is what is read
+  pub held : waits n l ≡ wa
+  held = ap (map natAbs) front ∙ abs-pos wa
+
+  pub kept : Put l n (waits n l)
+  kept = subst (λ (x : List ℕ). Put l n x) (sym held) p
+
+  -- the next word is written
+  pub put-last : (k : ℕ) → n < length l → Put (set l n (pos k)) (n + 1) (wa ++ (k ∷ []))
+  put-last k h = record { count = rw (length-append, ← p .count); fits = omega (arith, len); words = words }
+    where
+      len : length (set l n (pos k)) ≡ length l
+      len = simp length-set
+
+      rest : List ℤ
+      rest = replicate (length l - (n + 1)) (pos 0)
+
+      split : l ≡ map pos wa ++ pos 0 ∷ replicate (length l - (n + 1)) (pos 0)
+      split = let e : length l - n ≡ suc (length l - (n + 1)) = omega arith in p .words ∙ rw e
+
+      words : set l n (pos k) ≡ map pos (wa ++ (k ∷ [])) ++ replicate (length (set l n (pos k)) - (n + 1)) (pos 0)
+      words =
+          ap (λ (x : List ℤ). set x n (pos k)) split ∙ set-at (map pos wa) (pos 0) (replicate (length l - (n + 1)) (pos 0)) (pos k) n count-words
+          ∙ rw (len, map-append, append-snoc)
+
+-- ---- the test
+
+pub any-some : (k : ℕ) (wa : List ℕ) → any-word (pos k) (map pos wa) ≡ some-of (eqb k) wa
+any-some k [] = refl
+any-some k (x ∷ wa) = ap (λ (t : Bool). elim (eqb k x) [ true ↦ true | false ↦ t ]) (any-some k wa)
+
+pub any-turn : (k : ℤ) (s : List ℤ) (i : ℕ) (b : Bool) → i < length s → eqZ k (getD s i (pos 0)) ≡ b
+    → any-word k (drop i s) ≡ elim b [ true ↦ true | false ↦ any-word k (drop (i + 1) s) ]
+any-turn k s i b h e =
+    ap (any-word k) (drop-cons s i (pos 0) h) ∙ ap (λ (t : Bool). elim t [ true ↦ true | false ↦ any-word k (drop (suc i) s) ]) e
+    ∙ ap (λ (m : ℕ). elim b [ true ↦ true | false ↦ any-word k (drop m s) ]) (sym (add-one i))
+
+-- ---- room
+
+-- a slot that does not wait finds a place
+pub queue-room : (n k : ℕ) (w : List ℕ) → Queue n w → k < n → some-of (eqb k) w ≡ false → length w < n
+queue-room n k w q h e = queue-few n (k ∷ w) (record { once = (some-not k w e, q .once); used = used })
+  where
+    used : (j : ℕ) → In j (k ∷ w) → j < n
+    used j (inl p) = subst (λ (m : ℕ). m < n) (sym p) h
+    used j (inr i) = q .used j i
+
+-- and so does one that was taken out
+pub back-room : (n k : ℕ) (w : List ℕ) → Queue n w → k < n → length (without k w) < n
+back-room n k w q h = queue-few n (k ∷ without k w) (record { once = (without-not k w, without-distinct k w (q .once)); used = used })
+  where
+    used : (j : ℕ) → In j (k ∷ without k w) → j < n
+    used j (inl p) = subst (λ (m : ℕ). m < n) (sym p) h
+    used j (inr i) = q .used j (without-in k j w i)

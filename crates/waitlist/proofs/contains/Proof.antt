@@ -1,0 +1,31 @@
+-- `waitlist::contains` meets its contract. Assumes nothing.
+use mathlib.Core.Path.{sym, ap, _∙_}
+use Prim.Native.Nat.{_-_}
+use native.Mathlib.Omega.{arith}
+use lib.IntN.{pos}
+use lib.Seq.{length-take-le}
+use mir.Syntax.{w32}
+use mir.ValLaws.{toZ-pos}
+use borrow.Author.Needs.{needs}
+use Rattle.waitlist.specs.Waits.{waits, any-word}
+use Rattle.waitlist.proofs.Laws.{front, any-some}
+use Rattle.waitlist.proofs.contains.Statement.{statement}
+use Rattle.waitlist.proofs.contains.Tie as tie
+
+cast-k : tie.Need-cast-k
+cast-k c = search needs
+
+slice-aggregate-any-word : tie.Need-slice-aggregate-any-word
+slice-aggregate-any-word c = sym (length-take-le (c .before .args .count) (c .before .args .list .now) (c .before .pre .0 .fits))
+
+any-word-requires : tie.Need-any-word-requires
+any-word-requires c κs = search needs
+
+returns : tie.Need-returns
+returns c =
+    let a = c .before .before .args in
+    let p = c .before .before .pre .0 in
+    c .any-word .ensures ∙ rw (toZ-pos w32 (a .slot .0) (omega arith)) (ap (any-word (pos (a .slot .0))) (front p) ∙ any-some (a .slot .0) (waits (a .count) (a .list .now)))
+
+pub contains-spec : {M : Type 1} → statement M
+contains-spec = tie.close (tie.spec cast-k slice-aggregate-any-word any-word-requires returns)

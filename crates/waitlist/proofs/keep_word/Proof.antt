@@ -1,0 +1,35 @@
+-- `waitlist::keep_word` meets its contract. Assumes nothing.
+use mathlib.Core.Path.{refl}
+use Prim.Native.Nat.{_-_}
+use mir.Syntax.{w32}
+use mir.ValLaws.{toZ-ofZ}
+use borrow.Author.Needs.{needs}
+use Rattle.words.proofs.Words.{bits-eq, bits-ne}
+use Rattle.waitlist.proofs.keep_word.Statement.{statement}
+use Rattle.waitlist.proofs.keep_word.Tie as tie
+
+returns : tie.Need-returns
+returns c =
+    let s = c .before in
+    rw (bits-eq w32 {a = s .args .x} {b = s .args .k} (s .fits .x) (s .fits .k) (c .if1 .taken)) (refl, refl)
+
+mul-x : tie.Need-mul-x
+mul-x c = search needs
+
+slice-set-from-x : tie.Need-slice-set-from-x
+slice-set-from-x c = search needs
+
+add-result : tie.Need-add-result
+add-result c = search needs
+
+same-length : tie.Need-same-length
+same-length c = search needs
+
+returns-2 : tie.Need-returns-2
+returns-2 c =
+    let s = c .before in
+    rw (bits-ne w32 {a = s .args .x} {b = s .args .k} (s .fits .x) (s .fits .k) (c .if1 .left), toZ-ofZ w32 (s .args .x) (s .fits .x)) (refl, refl)
+
+pub keep-word-spec : {M : Type 1} → statement M
+keep-word-spec =
+    tie.close (tie.spec returns mul-x slice-set-from-x add-result same-length returns-2)

@@ -1,0 +1,74 @@
+-- `waitlist::push_front` meets its contract. Assumes nothing.
+use mathlib.Core.Path.{_≡_, refl, sym, _∙_}
+use mathlib.Core.List.{_++_}
+use Prim.Native.Nat.{_+_, _-_, _≤_}
+use native.Mathlib.Omega.{arith}
+use lib.IntN.{pos}
+use lib.ListN.{length, take, drop, getD, length-set}
+use mir.Syntax.{w32}
+use mir.Val.{toZ}
+use mir.ValLaws.{toZ-ofZ}
+use borrow.Author.Needs.{needs, sfits-of}
+use Rattle.waitlist.specs.Waits.{pushed}
+use Rattle.waitlist.proofs.Moves.{push-turn, push-end}
+use Rattle.waitlist.proofs.push_front.Statement.{statement}
+use Rattle.waitlist.proofs.push_front.Tie as tie
+
+abbrev Inv-loop : tie.InvT-loop
+Inv-loop s₀ x carry₀ i₀ s carry i = (i ≤ length s) × (length s ≡ length s₀) × (pushed (toZ w32 x) s₀ ≡ take i s ++ pushed (toZ w32 carry) (drop i s))
+
+abbrev μ-loop : tie.MeasureT-loop
+μ-loop s₀ x carry₀ i₀ s carry i = length s₀ - i
+
+loop-holds : tie.Need-loop-holds Inv-loop μ-loop
+loop-holds c = (omega arith, refl, refl)
+
+mul-y : tie.Need-mul-y Inv-loop μ-loop
+mul-y c = search needs
+
+slice-copy-out-y : tie.Need-slice-copy-out-y Inv-loop μ-loop
+slice-copy-out-y c = search needs
+
+mul-carry : tie.Need-mul-carry Inv-loop μ-loop
+mul-carry c = search needs
+
+slice-set-from-carry : tie.Need-slice-set-from-carry Inv-loop μ-loop
+slice-set-from-carry c = search needs
+
+add-i : tie.Need-add-i Inv-loop μ-loop
+add-i c = search needs
+
+loop-less : tie.Need-loop-less Inv-loop μ-loop
+loop-less c = search needs
+
+loop-again : tie.Need-loop-again Inv-loop μ-loop
+loop-again c =
+    let b = c .before .before in
+    let y = toZ-ofZ w32 (getD (b .loop .s) (b .loop .i) (pos 0)) (sfits-of (c .y .given)) in
+    rw y (simp length-set (omega arith), (simp length-set) ∙ b .loop .inv .1, b .loop .inv .2 ∙ push-turn (b .loop .s) (b .loop .i) (toZ w32 (b .loop .carry)) (omega arith))
+
+same-length : tie.Need-same-length Inv-loop μ-loop
+same-length c = search needs
+
+returns : tie.Need-returns Inv-loop μ-loop
+returns c =
+    let b = c .before in
+    let k = toZ-ofZ w32 (b .before .args .x) (b .before .fits .x) in
+    sym ((rw k at (b .loop .inv .2)) ∙ push-end (b .loop .s) (b .loop .i) (toZ w32 (b .loop .carry)) (omega arith))
+
+pub push-front-spec : {M : Type 1} → statement M
+push-front-spec =
+    tie.close
+    (tie.spec
+    Inv-loop
+    μ-loop
+    loop-holds
+    mul-y
+    slice-copy-out-y
+    mul-carry
+    slice-set-from-carry
+    add-i
+    loop-less
+    loop-again
+    same-length
+    returns)

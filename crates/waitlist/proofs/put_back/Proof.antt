@@ -1,0 +1,62 @@
+-- `waitlist::put_back` meets its contract. Assumes nothing.
+use Prim.Native.Nat.{_-_}
+use native.Mathlib.Omega.{arith}
+use lib.ListN.{length}
+use borrow.Author.Needs.{needs}
+use Rattle.waitlist.specs.Waits.{waits}
+use Rattle.waitlist.proofs.Laws.{held, kept, back-room}
+use Rattle.waitlist.proofs.put_back.Statement.{statement}
+use Rattle.waitlist.proofs.put_back.Tie as tie
+
+remove-requires : tie.Need-remove-requires
+remove-requires c κs = search needs
+
+enum-told : tie.Need-enum-told
+enum-told c = search needs
+
+prepend-requires : tie.Need-prepend-requires
+prepend-requires c κs =
+    let r = c .before .before .before .before in
+    let s = r .before .before in
+    let m = back-room (length (s .args .list .now)) (s .args .slot .0) (waits (s .args .count) (s .args .list .now)) (s .pre .3) (s .pre .1) in
+    (kept (r .remove .ensures), omega (arith, m, r .remove .ensures .count, r .remove .kept .0), omega arith)
+
+enum-told-2 : tie.Need-enum-told-2
+enum-told-2 c = search needs
+
+append-requires : tie.Need-append-requires
+append-requires c κs =
+    let r = c .before .before .before .before in
+    let s = r .before .before in
+    let m = back-room (length (s .args .list .now)) (s .args .slot .0) (waits (s .args .count) (s .args .list .now)) (s .pre .3) (s .pre .1) in
+    (kept (r .remove .ensures), omega (arith, m, r .remove .ensures .count, r .remove .kept .0), omega arith)
+
+same-length : tie.Need-same-length
+same-length c = search needs
+
+returns : tie.Need-returns
+returns c =
+    let r = c .before .before .before .before .before .before in
+    rw (c .before .before .before .enum-told .given .1, ← held (r .remove .ensures)) (c .before .prepend .ensures)
+
+same-length-2 : tie.Need-same-length-2
+same-length-2 c = search needs
+
+returns-2 : tie.Need-returns-2
+returns-2 c =
+    let r = c .before .before .before .before .before .before in
+    rw (c .before .before .before .enum-told2 .given .1, ← held (r .remove .ensures)) (c .before .append .ensures)
+
+pub put-back-spec : {M : Type 1} → statement M
+put-back-spec =
+    tie.close
+    (tie.spec
+    remove-requires
+    enum-told
+    prepend-requires
+    enum-told-2
+    append-requires
+    same-length
+    returns
+    same-length-2
+    returns-2)

@@ -1,0 +1,85 @@
+-- `waitlist::shift_down` meets its contract. Assumes nothing.
+use mathlib.Core.Path.{_≡_, refl, sym, ap, _∙_}
+use mathlib.Core.List.{_++_}
+use Prim.Native.Nat.{ℕ, _+_, _-_, _≤_}
+use native.Mathlib.Omega.{arith}
+use lib.IntN.{pos}
+use lib.ListN.{length, take, drop, getD, set, length-set}
+use mir.Syntax.{w32}
+use mir.ValLaws.{toZ-ofZ}
+use borrow.Author.Needs.{needs, sfits-of}
+use Rattle.waitlist.specs.Waits.{shifted}
+use Rattle.waitlist.proofs.Moves.{shift-turn, shift-end}
+use Rattle.waitlist.proofs.shift_down.Statement.{statement}
+use Rattle.waitlist.proofs.shift_down.Tie as tie
+
+abbrev Inv-loop : tie.InvT-loop
+Inv-loop s₀ last i₀ s i = (i ≤ last) × (length s ≡ length s₀) × (last + 1 ≡ length s₀) × (shifted s₀ ≡ take i s ++ shifted (drop i s))
+
+abbrev μ-loop : tie.MeasureT-loop
+μ-loop s₀ last i₀ s i = last - i
+
+sub-last : tie.Need-sub-last Inv-loop μ-loop
+sub-last c = search needs
+
+loop-holds : tie.Need-loop-holds Inv-loop μ-loop
+loop-holds c = (omega arith, refl, omega arith, refl)
+
+add-next : tie.Need-add-next Inv-loop μ-loop
+add-next c = search needs
+
+mul-x : tie.Need-mul-x Inv-loop μ-loop
+mul-x c = search needs
+
+slice-copy-out-x : tie.Need-slice-copy-out-x Inv-loop μ-loop
+slice-copy-out-x c = search needs
+
+mul-x-2 : tie.Need-mul-x-2 Inv-loop μ-loop
+mul-x-2 c = search needs
+
+slice-set-from-x : tie.Need-slice-set-from-x Inv-loop μ-loop
+slice-set-from-x c = search needs
+
+loop-less : tie.Need-loop-less Inv-loop μ-loop
+loop-less c = search needs
+
+loop-again : tie.Need-loop-again Inv-loop μ-loop
+loop-again c =
+    let b = c .before .before in
+    let q = toZ-ofZ w32 (getD (b .loop .s) (b .loop .i + 1) (pos 0)) (sfits-of (c .x .given)) in
+    (omega arith, rw q (length-set (b .loop .s) (b .loop .i) (getD (b .loop .s) (b .loop .i + 1) (pos 0)) ∙ b .loop .inv .1), b .loop .inv .2, rw q (b .loop .inv .3 ∙ shift-turn (b .loop .s) (b .loop .i) (omega arith)))
+
+mul-s : tie.Need-mul-s Inv-loop μ-loop
+mul-s c = search needs
+
+slice-set-of-s : tie.Need-slice-set-of-s Inv-loop μ-loop
+slice-set-of-s c = search needs
+
+same-length : tie.Need-same-length Inv-loop μ-loop
+same-length c = search needs
+
+returns : tie.Need-returns Inv-loop μ-loop
+returns c =
+    let b = c .before in
+    let e : b .loop .i ≡ length (b .before .args .s .now) - 1 = omega arith in
+    sym (b .loop .inv .3 ∙ shift-end (b .loop .s) (b .loop .i) (omega arith) ∙ ap (λ (n : ℕ). set (b .loop .s) n (pos 0)) e)
+
+pub shift-down-spec : {M : Type 1} → statement M
+shift-down-spec =
+    tie.close
+    (tie.spec
+    Inv-loop
+    μ-loop
+    sub-last
+    loop-holds
+    add-next
+    mul-x
+    slice-copy-out-x
+    mul-x-2
+    slice-set-from-x
+    loop-less
+    loop-again
+    mul-s
+    slice-set-of-s
+    same-length
+    returns)

@@ -1,0 +1,46 @@
+-- `waitlist::wait` meets its contract. Assumes nothing.
+use mathlib.Core.Path.{_≡_, sym, _∙_}
+use mathlib.Core.Bool.{true, false}
+use Prim.Native.Nat.{_-_}
+use native.Mathlib.Omega.{arith}
+use lib.Dec.{eqb}
+use lib.ListN.{length}
+use borrow.Author.Needs.{needs}
+use Rattle.semantics.specs.Lists.{some-of}
+use Rattle.waitlist.specs.Waits.{waits}
+use Rattle.waitlist.proofs.Laws.{queue-room}
+use Rattle.waitlist.proofs.wait.Statement.{statement}
+use Rattle.waitlist.proofs.wait.Tie as tie
+
+contains-requires : tie.Need-contains-requires
+contains-requires c κs = search needs
+
+same-length : tie.Need-same-length
+same-length c = search needs
+
+returns : tie.Need-returns
+returns c =
+    let h = c .before .contains .ensures in
+    let b : some-of (eqb (c .before .before .before .args .slot .0)) (waits (c .before .before .before .args .count) (c .before .before .before .args .list .now)) ≡ true = sym h ∙ c .if1 .taken in
+    rw b (c .before .before .before .pre .0)
+
+append-requires : tie.Need-append-requires
+append-requires c κs =
+    let s = c .before .before .before .before in
+    let h = sym (c .before .before .contains .ensures) ∙ c .before .if1 .left in
+    let m = queue-room (length (s .args .list .now)) (s .args .slot .0) (waits (s .args .count) (s .args .list .now)) (s .pre .3) (s .pre .1) h in
+    (s .pre .0, omega (arith, s .pre .0 .count, m), omega arith)
+
+same-length-2 : tie.Need-same-length-2
+same-length-2 c = search needs
+
+returns-2 : tie.Need-returns-2
+returns-2 c =
+    let s = c .before .before .before .before .before .before in
+    let b : some-of (eqb (s .args .slot .0)) (waits (s .args .count) (s .args .list .now)) ≡ false = sym (c .before .before .before .before .contains .ensures) ∙ c .before .before .before .if1 .left in
+    rw b (c .before .append .ensures)
+
+pub wait-spec : {M : Type 1} → statement M
+wait-spec =
+    tie.close
+    (tie.spec contains-requires same-length returns append-requires same-length-2 returns-2)

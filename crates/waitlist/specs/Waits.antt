@@ -1,0 +1,63 @@
+-- The waitlist as lent words: the slot numbers, longest waiting first, then zeros. Assumes nothing.
+use mathlib.Core.Path.{_≡_}
+use mathlib.Core.Bool.{Bool, true, false}
+use mathlib.Core.List.{List, [], _∷_, _++_, map}
+use mathlib.Core.Option.{some}
+use Prim.Native.Nat.{ℕ, _+_, _-_, _≤_}
+use lib.IntN.{ℤ, pos, natAbs}
+use lib.ListN.{length, take, getD, set, replicate}
+use Rattle.semantics.specs.Chart.{eqZ}
+use Rattle.semantics.specs.Lists.{some-of}
+use Rattle.semantics.specs.declared.Order.{Order}
+use Rattle.semantics.specs.Algorithm.{take-by, wait}
+
+-- the slots that the first n words say
+abbrev pub waits : ℕ → List ℤ → List ℕ
+waits n l = map natAbs (take n l)
+
+-- the words l, n of them in use, hold the slots wa
+pub record Put (l : List ℤ) (n : ℕ) (wa : List ℕ) : Type 0 where
+  pub count : n ≡ length wa
+  pub fits : n ≤ length l
+  pub words : l ≡ map pos wa ++ replicate (length l - n) (pos 0)
+
+-- one of the words is k
+abbrev pub any-word : ℤ → List ℤ → Bool
+any-word k l = some-of (eqZ k) l
+
+-- x is put before the words, and the last word falls out
+abbrev pub pushed : ℤ → List ℤ → List ℤ
+pushed x [] = []
+pushed x (y ∷ l) = x ∷ pushed y l
+
+-- the first word falls out, and a zero comes after the others
+abbrev pub shifted : List ℤ → List ℤ
+shifted [] = []
+shifted (x ∷ l) = getD l 0 (pos 0) ∷ shifted l
+
+abbrev pub keep-word : Bool → ℤ → List ℤ → List ℤ
+keep-word true x l = l
+keep-word false x l = x ∷ l
+
+-- the words other than k
+abbrev pub others : ℤ → List ℤ → List ℤ
+others k [] = []
+others k (x ∷ l) = keep-word (eqZ x k) x (others k l)
+
+-- the slot waits, unless its abstract state is the same as before
+abbrev pub wait-unless : Bool → ℕ → List ℕ → List ℕ
+wait-unless true k wa = wa
+wait-unless false k wa = wait k wa
+
+abbrev pub next-place : Bool → ℕ → ℕ
+next-place true j = j
+next-place false j = j + 1
+
+abbrev pub kept-at : Bool → List ℤ → ℕ → ℤ → List ℤ
+kept-at true l j x = l
+kept-at false l j x = set l j x
+
+-- the slot k was taken by the order o from the slots wa, and the words l, n of them in use, hold the rest
+pub record TakenFrom (o : Order) (wa : List ℕ) (k : ℕ) (l : List ℤ) (n : ℕ) : Type 0 where
+  pub taken : take-by o wa ≡ some (record { slot = k; rest = waits n l })
+  pub kept : Put l n (waits n l)

@@ -1,0 +1,195 @@
+// The waitlist in lent words: its slot numbers, longest waiting first, then zeros. Each function takes and returns the
+// count of slots that wait.
+use semantics::Order;
+use semantics::SlotId;
+ghost use mathlib.Core.Path.{_≡_};
+ghost use mathlib.Core.List.{_∷_, [], _++_};
+ghost use Prim.Native.Nat.{_+_, _-_, _<_, _≤_};
+ghost use lib.Dec.{eqb};
+ghost use lib.IntN.{pos};
+ghost use lib.ListN.{length, take, drop, replicate};
+ghost use Rattle.semantics.specs.Chart.{eqZ};
+ghost use Rattle.semantics.specs.Lists.{some-of};
+ghost use Rattle.semantics.specs.declared.Order.the-variants.{Old, New};
+ghost use Rattle.semantics.specs.Algorithm.{without, put-back, wait};
+ghost use Rattle.semantics.specs.Coverage.{Queue};
+ghost use Rattle.waitlist.specs.Waits.{waits, Put, any-word, pushed, shifted, wait-unless, others, next-place, kept-at, TakenFrom};
+
+fn any_word(s: &[i32], k: i32) -> bool
+    ensures { λ r. ⌜ r ≡ any-word k (now (s .entry)) ⌝ }
+{
+    let mut i = 0;
+    while i < s.len() {
+        let x = s[i];
+        if k == x {
+            return true;
+        }
+        i += 1;
+    }
+    false
+}
+
+// Whether the slot is waiting.
+pub fn contains(list: &[i32], count: usize, slot: SlotId) -> bool
+    requires { ⌜ Put (now list) count (waits count (now list)) × (slot .0 < 65536) ⌝ }
+    ensures { λ r. ⌜ r ≡ some-of (eqb (slot .0)) (waits count (now (list .entry))) ⌝ }
+{
+    let n = slot.0;
+    let k = n as i32;
+    any_word(&list[..count], k)
+}
+
+// The slot joins the waitlist at its end.
+pub fn append(list: &mut [i32], count: usize, slot: SlotId) -> usize
+    requires { ⌜ Put (now list) count (waits count (now list)) × (count < length (now list)) × (slot .0 < 65536) ⌝ }
+    ensures { λ r. ⌜ Put (now (list .exit)) r (waits count (now (list .entry)) ++ (slot .0 ∷ [])) ⌝ }
+{
+    let n = slot.0;
+    let k = n as i32;
+    list[count] = k;
+    count + 1
+}
+
+// The slot waits: it joins the waitlist unless it is on it.
+pub fn wait(list: &mut [i32], count: usize, slot: SlotId) -> usize
+    requires { ⌜ Put (now list) count (waits count (now list)) × (slot .0 < length (now list)) × (length (now list) < 65536) × Queue (length (now list)) (waits count (now list)) ⌝ }
+    ensures { λ r. ⌜ Put (now (list .exit)) r (wait (slot .0) (waits count (now (list .entry)))) ⌝ }
+{
+    if contains(list, count, slot) {
+        return count;
+    }
+    append(list, count, slot)
+}
+
+// The same, unless the flag says that its abstract state is the same as before.
+pub fn wait_unless(same: bool, list: &mut [i32], count: usize, slot: SlotId) -> usize
+    requires { ⌜ Put (now list) count (waits count (now list)) × (slot .0 < length (now list)) × (length (now list) < 65536) × Queue (length (now list)) (waits count (now list)) ⌝ }
+    ensures { λ r. ⌜ Put (now (list .exit)) r (wait-unless same (slot .0) (waits count (now (list .entry)))) ⌝ }
+{
+    if same {
+        return count;
+    }
+    wait(list, count, slot)
+}
+
+// Each word goes down by one place; the last becomes 0.
+fn shift_down(s: &mut [i32])
+    requires { ⌜ 0 < length (now s) ⌝ }
+    ensures { λ _. ⌜ now (s .exit) ≡ shifted (now (s .entry)) ⌝ }
+{
+    let last = s.len() - 1;
+    let mut i = 0;
+    while i < last {
+        let next = i + 1;
+        let x = s[next];
+        s[i] = x;
+        i = next;
+    }
+    s[last] = 0;
+}
+
+// Each word goes up by one place, and x comes first; the last falls out.
+fn push_front(s: &mut [i32], x: i32)
+    ensures { λ _. ⌜ now (s .exit) ≡ pushed x (now (s .entry)) ⌝ }
+{
+    let mut carry = x;
+    let mut i = 0;
+    while i < s.len() {
+        let y = s[i];
+        s[i] = carry;
+        carry = y;
+        i += 1;
+    }
+}
+
+fn keep_word(list: &mut [i32], j: usize, x: i32, k: i32) -> usize
+    requires { ⌜ j < length (now list) ⌝ }
+    ensures { λ r. ⌜ (r ≡ next-place (eqZ x k) j) × (now (list .exit) ≡ kept-at (eqZ x k) (now (list .entry)) j x) ⌝ }
+{
+    if x == k {
+        return j;
+    }
+    list[j] = x;
+    j + 1
+}
+
+// Takes the words k out of the first words; zeros come after the others. How many are left.
+fn remove_word(list: &mut [i32], count: usize, k: i32) -> usize
+    requires { ⌜ count ≤ length (now list) ⌝ }
+    ensures { λ r. ⌜ (r ≤ count) × (take r (now (list .exit)) ≡ others k (take count (now (list .entry)))) × (drop r (now (list .exit)) ≡ replicate (count - r) (pos 0) ++ drop count (now (list .entry))) ⌝ }
+{
+    let mut j = 0;
+    let mut i = 0;
+    while i < count {
+        let x = list[i];
+        list[i] = 0;
+        j = keep_word(list, j, x, k);
+        i += 1;
+    }
+    j
+}
+
+// Takes the slot that joined first. Only the words in use move.
+fn take_old(list: &mut [i32], count: usize) -> SlotId
+    requires { ⌜ Put (now list) count (waits count (now list)) × (0 < count) ⌝ }
+    ensures { λ r. ⌜ TakenFrom Old (waits count (now (list .entry))) (r .0) (now (list .exit)) (count - 1) ⌝ }
+{
+    let w = list[0];
+    shift_down(&mut list[..count]);
+    SlotId(w as usize)
+}
+
+// Takes the slot that joined last.
+fn take_new(list: &mut [i32], count: usize) -> SlotId
+    requires { ⌜ Put (now list) count (waits count (now list)) × (0 < count) ⌝ }
+    ensures { λ r. ⌜ TakenFrom New (waits count (now (list .entry))) (r .0) (now (list .exit)) (count - 1) ⌝ }
+{
+    let at = count - 1;
+    let w = list[at];
+    list[at] = 0;
+    SlotId(w as usize)
+}
+
+// Takes the slot that is next by the order.
+pub fn take_slot(order: Order, list: &mut [i32], count: usize) -> SlotId
+    requires { ⌜ Put (now list) count (waits count (now list)) × (0 < count) ⌝ }
+    ensures { λ r. ⌜ TakenFrom order (waits count (now (list .entry))) (r .0) (now (list .exit)) (count - 1) ⌝ }
+{
+    match order {
+        Order::Old => take_old(list, count),
+        Order::New => take_new(list, count),
+    }
+}
+
+// Takes the slot out of the waitlist, if it is on it.
+pub fn remove(list: &mut [i32], count: usize, slot: SlotId) -> usize
+    requires { ⌜ Put (now list) count (waits count (now list)) × (slot .0 < 65536) ⌝ }
+    ensures { λ r. ⌜ Put (now (list .exit)) r (without (slot .0) (waits count (now (list .entry)))) ⌝ }
+{
+    let n = slot.0;
+    let k = n as i32;
+    remove_word(list, count, k)
+}
+
+// The slot joins the waitlist at its front.
+pub fn prepend(list: &mut [i32], count: usize, slot: SlotId) -> usize
+    requires { ⌜ Put (now list) count (waits count (now list)) × (count < length (now list)) × (slot .0 < 65536) ⌝ }
+    ensures { λ r. ⌜ Put (now (list .exit)) r (slot .0 ∷ waits count (now (list .entry))) ⌝ }
+{
+    let n = slot.0;
+    let k = n as i32;
+    push_front(list, k);
+    count + 1
+}
+
+// The slot goes back, or is moved, to the place that is taken next.
+pub fn put_back(order: Order, list: &mut [i32], count: usize, slot: SlotId) -> usize
+    requires { ⌜ Put (now list) count (waits count (now list)) × (slot .0 < length (now list)) × (length (now list) < 65536) × Queue (length (now list)) (waits count (now list)) ⌝ }
+    ensures { λ r. ⌜ Put (now (list .exit)) r (put-back order (slot .0) (waits count (now (list .entry)))) ⌝ }
+{
+    let left = remove(list, count, slot);
+    match order {
+        Order::Old => prepend(list, left, slot),
+        Order::New => append(list, left, slot),
+    }
+}
