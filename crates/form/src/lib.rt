@@ -219,7 +219,7 @@ fn empty_if_safe(v: Verdict, waiting: usize) -> bool
 }
 
 // The settings that 12 lets pass.
-fn is_allowed(merge: Mode, stop: Mode) -> bool
+pub fn is_allowed(merge: Mode, stop: Mode) -> bool
     ensures { λ r. ⌜ r ≡ allowed merge stop ⌝ }
 {
     match merge {

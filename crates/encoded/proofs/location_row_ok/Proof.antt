@@ -16,9 +16,9 @@ returns c =
     let b = c .before .before in
     let n = b .before .before .row-name-length in
     let k = b .before .before .before .word-at in
-    let fk = sfits-of {z = k .result} (k .ok) in
     let e : n .result + 1 - 1 ≡ n .result = omega arith in
     let d : 17 - (n .result + 1) ≡ 16 - n .result = omega arith in
+    let fk = sfits-of {z = k .result} (k .ok) in
     rw (
       c .all-zero .ensures,
       b .name-bytes-ok .ensures,

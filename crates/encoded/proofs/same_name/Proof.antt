@@ -23,7 +23,8 @@ returns c =
     let x = y .before in
     let l = x .before .before in
     let a = l .before .args in
-    sym (l .loop .inv .1 ∙ names-part (a .a .now) (a .b .now) (l .loop .i) (x .before .loop-test .taken) (x .number-at .result) (y .number-at2 .result) (x .number-at .ensures .0) (y .number-at2 .ensures .0) (c .if1 .taken))
+    sym (l .loop .inv .1 ∙ names-part (a .a .now) (a .b .now) (l .loop .i) (x .before .loop-test .taken)
+    (x .number-at .result) (y .number-at2 .result) (x .number-at .ensures .0) (y .number-at2 .ensures .0) (c .if1 .taken))
 
 returns-2 : tie.Need-returns-2 Inv-loop μ-loop
 returns-2 c =
@@ -31,15 +32,19 @@ returns-2 c =
     let x = y .before in
     let l = x .before .before in
     let a = l .before .args in
-    sym (l .loop .inv .1 ∙ names-end (a .a .now) (a .b .now) (l .loop .i) (x .before .loop-test .taken) (x .number-at .result) (y .number-at2 .result) (x .number-at .ensures .0) (y .number-at2 .ensures .0) (c .before .if1 .left) (c .if2 .taken))
+    sym (l .loop .inv .1 ∙ names-end (a .a .now) (a .b .now) (l .loop .i) (x .before .loop-test .taken)
+    (x .number-at .result) (y .number-at2 .result) (x .number-at .ensures .0) (y .number-at2 .ensures .0) (c .before .if1 .left) (c .if2 .taken))
 
 loop-again : tie.Need-loop-again Inv-loop μ-loop
 loop-again c =
     let y = c .before .before in
     let x = y .before in
     let l = x .before .before in
-    let a = l .before .args in
-    (omega arith, l .loop .inv .1 ∙ names-go (a .a .now) (a .b .now) (l .loop .i) (x .before .loop-test .taken) (x .number-at .result) (y .number-at2 .result) (x .number-at .ensures .0) (y .number-at2 .ensures .0) (c .before .if1 .left) (c .if2 .left))
+    let a = l .before .args in (
+      omega arith,
+      l .loop .inv .1 ∙ names-go (a .a .now) (a .b .now) (l .loop .i) (x .before .loop-test .taken)
+          (x .number-at .result) (y .number-at2 .result) (x .number-at .ensures .0) (y .number-at2 .ensures .0) (c .before .if1 .left) (c .if2 .left),
+    )
 
 returns-3 : tie.Need-returns-3 Inv-loop μ-loop
 returns-3 c =
