@@ -1,14 +1,14 @@
 -- A line by its kind, and reading goes on by one line. Assumes nothing.
-use mathlib.Core.Path.{_≡_, refl, sym, ap, _∙_}
-use mathlib.Core.Bool.{Bool, true, false}
-use mathlib.Core.List.{List, [], _∷_, map}
-use Prim.Native.Nat.{ℕ, suc, _+_, _-_, _≤_, _<_}
+use mathlib.Core.Path.{_≡_}
+use mathlib.Core.Bool.{true, false}
+use mathlib.Core.List.{List, map}
+use Prim.Native.Nat.{ℕ, _+_, _-_, _≤_, _<_}
 use native.Mathlib.Numerals.{add-one}
 use lib.ListN.{length, take, drop}
 use lib.IntN.{ℤ}
 use Rattle.semantics.specs.Lists.{is-empty}
 use Rattle.semantics.specs.Text.{bytes, same-bytes, lines, fields}
-use Rattle.semantics.specs.Reading.{Res, fail, ok, nth, So-far, nothing-read, var-line, loc-line, edge-line, judge, Reading, refused, ended, judged}
+use Rattle.semantics.specs.Reading.{fail, ok, nth, So-far, nothing-read, var-line, loc-line, edge-line, judge, refused, ended, judged}
 use Rattle.text.specs.Fields.{up-to}
 use Rattle.text.proofs.Lines.{lines-at, lines-done}
 use Rattle.reader.specs.Held.{Few, Rows, Names}

@@ -1,19 +1,19 @@
 -- The table and the names after one more variable, location or edge. Assumes nothing.
-use mathlib.Core.Path.{_≡_, refl, sym, ap, _∙_, subst}
-use mathlib.Core.Bool.{Bool, true, false, _&&_, not}
-use mathlib.Core.List.{List, [], _∷_, _++_, append-assoc, append-nil, map}
-use Prim.Native.Nat.{ℕ, zero, suc, _+_, _*_, _-_, _≤_, _<_}
+use mathlib.Core.Path.{_≡_, refl, sym, ap, _∙_}
+use mathlib.Core.Bool.{Bool, true, not}
+use mathlib.Core.List.{List, [], _∷_, _++_, append-assoc, append-nil}
+use Prim.Native.Nat.{ℕ, zero, suc, _+_, _*_, _≤_, _<_}
 use native.Mathlib.Omega.{arith}
 use lib.ListN.{length, getD, take, drop, length-append, take-append-drop}
 use lib.IntN.{ℤ, pos}
-use lib.Seq.{drop-drop, drop-at, length-take-le}
+use lib.Seq.{drop-drop, drop-at}
 use Rattle.semantics.specs.Lists.{all, each}
 use Rattle.semantics.specs.Text.{name-ok, same-bytes}
 use Rattle.semantics.specs.Chart.{Var, Loc, Op, assign, add, sub, input, assume, skip, Edge, Chart, within, in-range}
 use Rattle.semantics.specs.Encoding.{var-words, loc-words, op-words, edge-words, kind-word}
 use Rattle.semantics.specs.Reading.{So-far, with-var, with-loc, with-edge}
 use Rattle.reader.specs.Rows.{name-row, stored, seen}
-use Rattle.reader.specs.Held.{rows-of, used, Few, Rows, Names, in-order}
+use Rattle.reader.specs.Held.{rows-of, used, Rows, Names, in-order}
 use Rattle.reader.specs.declared.tally.Tally.{Tally}
 use Rattle.reader.proofs.Storing.{stored-take}
 use Rattle.reader.proofs.Naming.{and-true, name-short, name-row-padded, name-row-length, locs-seen}

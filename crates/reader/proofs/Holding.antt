@@ -1,8 +1,8 @@
 -- From the rows to the words lent. Assumes nothing.
-use mathlib.Core.Path.{_≡_, refl, sym, ap, _∙_}
-use mathlib.Core.Bool.{Bool, true, false}
+use mathlib.Core.Path.{_≡_, refl, ap, _∙_}
+use mathlib.Core.Bool.{true, false}
 use mathlib.Core.List.{List, [], _∷_, _++_}
-use Prim.Native.Nat.{ℕ, suc, _+_, _*_, _≤_, _<_}
+use Prim.Native.Nat.{_+_, _≤_, _<_}
 use native.Mathlib.Omega.{arith}
 use lib.Dec.{ltb}
 use lib.ListN.{length, take, drop}
@@ -10,9 +10,8 @@ use lib.IntN.{ℤ, pos}
 use lib.Seq.{length-take-le}
 use borrow.Author.Tests.{lt-ltb, le-ltb}
 use Rattle.semantics.specs.Lists.{is-empty}
-use Rattle.semantics.specs.Chart.{Loc, Chart}
+use Rattle.semantics.specs.Chart.{Chart}
 use Rattle.semantics.specs.Encoding.{encode}
-use Rattle.semantics.specs.Outcomes.{refused-by, fine, held-unless}
 use Rattle.reader.specs.Rows.{stored}
 use Rattle.reader.specs.Held.{rows-of, used, Rows}
 use Rattle.reader.specs.declared.tally.Tally.{Tally}

@@ -1,5 +1,5 @@
 -- A judgement passed or failed, and what follows it. Assumes nothing.
-use mathlib.Core.Path.{_≡_, refl, sym, ap, _∙_}
+use mathlib.Core.Path.{_≡_, refl, sym}
 use mathlib.Core.Bool.{Bool, true, false, not}
 use mathlib.Core.List.{List, [], _∷_}
 use mathlib.Core.Option.{Option, none, some}
@@ -11,7 +11,7 @@ use lib.IntN.{ℤ, pos, negsuc}
 use borrow.Author.Tests.{ltb-true}
 use Rattle.semantics.specs.Lists.{pick}
 use Rattle.semantics.specs.Text.{natural-of, nonnegative, number-of}
-use Rattle.semantics.specs.Chart.{Operand, num, var}
+use Rattle.semantics.specs.Chart.{num, var}
 use Rattle.semantics.specs.Reading.{Res, fail, ok, check, andThen, below-or, number-field, location-field, target-field, operand-field}
 
 module _ {A : Type 0} {b : Bool} (n : ℕ) (r : Res A) where

@@ -2,11 +2,11 @@
 use mathlib.Core.Path.{_≡_, refl, sym, ap, _∙_, subst}
 use mathlib.Core.Bool.{Bool, true, false, _&&_, _||_, not}
 use mathlib.Core.List.{List, [], _∷_, _++_, append-assoc, map}
-use Prim.Native.Nat.{ℕ, zero, suc, _+_, _*_, _-_, _≤_, _<_}
+use Prim.Native.Nat.{ℕ, zero, suc, _+_, _*_, _≤_, _<_}
 use native.Mathlib.Omega.{arith}
 use native.Mathlib.Nat.{sub-zero, suc-sub-suc}
 use lib.Dec.{T, eqb, leb}
-use lib.ListN.{length, getD, take, drop, replicate, length-append, take-append-drop}
+use lib.ListN.{length, drop, length-append, take-append-drop}
 use lib.IntN.{ℤ, pos}
 use lib.Seq.{drop-drop, drop-at}
 use borrow.Author.Tests.{ne-eqb, leb-true}

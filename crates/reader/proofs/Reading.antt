@@ -1,20 +1,20 @@
 -- The words that the code reads of a line are those of the variable, location or edge that the definitions read. Assumes nothing.
 use mathlib.Core.Path.{_≡_, refl, sym, ap, _∙_}
-use mathlib.Core.Bool.{Bool, true, false, _&&_, not}
+use mathlib.Core.Bool.{Bool, true, false, _&&_}
 use mathlib.Core.List.{List, [], _∷_, _++_}
 use Prim.Native.Nat.{ℕ, _<_, _≤_}
 use native.Mathlib.Omega.{arith}
-use lib.Dec.{eqb, ltb, leb}
+use lib.Dec.{eqb, leb}
 use lib.ListN.{length, getD}
 use lib.IntN.{ℤ, pos}
 use lib.Signed.{leZ}
 use borrow.Author.Tests.{lt-ltb, le-ltb}
-use Rattle.semantics.specs.Lists.{is-empty, all}
-use Rattle.semantics.specs.Text.{name-ok, same-bytes}
-use Rattle.semantics.specs.Chart.{Value, Var, Operand, Rel, Op, assign, add, sub, input, assume, skip, Edge, Chart, in-range}
-use Rattle.semantics.specs.Encoding.{tag, held, rel-code, op-words, edge-words}
-use Rattle.semantics.specs.Reading.{Res, fail, ok, check, andThen, nth, none-empty, number-field, location-field, target-field, operand-field, init-field, kind-field, rel-field, op-word-field, OpWord, do-set, do-add, do-sub, do-in, do-if, do-skip, field-count, op-fields-read, So-far, with-var, with-loc, with-edge, var-line, loc-line, edge-line}
-use Rattle.reader.specs.Lines.{in-table, filled, argument-read, one-read, second-read, two-read, bounds-read, high-read, condition-read, after-target, targeted, op-read, edge-read, var-low, var-fields, var-named, loc-fields, loc-named, edge-fields, edge-worded}
+use Rattle.semantics.specs.Lists.{is-empty}
+use Rattle.semantics.specs.Text.{name-ok}
+use Rattle.semantics.specs.Chart.{Value, Var, Operand, Rel, Op, assign, add, sub, input, assume, Edge, Chart, in-range}
+use Rattle.semantics.specs.Encoding.{tag, held, op-words, edge-words}
+use Rattle.semantics.specs.Reading.{Res, fail, ok, check, andThen, nth, none-empty, number-field, location-field, target-field, operand-field, init-field, kind-field, rel-field, op-word-field, OpWord, do-set, do-add, do-sub, do-in, do-if, do-skip, field-count, op-fields-read, So-far, with-edge, var-line, loc-line, edge-line}
+use Rattle.reader.specs.Lines.{in-table, filled, argument-read, one-read, second-read, two-read, bounds-read, high-read, condition-read, after-target, op-read, edge-read, var-low, var-fields, var-named, loc-fields, loc-named, edge-fields, edge-worded}
 use Rattle.reader.specs.Held.{Rows}
 use Rattle.reader.specs.declared.tally.Tally.{Tally}
 use Rattle.reader.proofs.Growing.{range-held}

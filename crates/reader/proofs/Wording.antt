@@ -3,18 +3,18 @@ use mathlib.Core.Path.{_≡_, refl}
 use mathlib.Core.List.{List, [], _∷_}
 use Prim.Native.Nat.{ℕ}
 use lib.IntN.{ℤ}
-use types.Run.{OneOf, miss}
 use denote.Enum.Declared.{tagOf}
+use types.Run.{OneOf, miss}
 use Rattle.semantics.specs.Reading.{ok, do-skip}
 use Rattle.text.specs.Fields.{relRes, opWordRes}
 use Rattle.text.specs.declared.Relation.{Relation}
-use Rattle.text.specs.declared.Relation.the-variants as relation
 use Rattle.text.specs.declared.OpWord.{OpWord}
+use Rattle.reader.specs.Answers.{the-word, the-rel}
+use Rattle.reader.specs.Lines.{op-read, targeted}
+use Rattle.text.specs.declared.Relation.the-variants as relation
 use Rattle.text.specs.declared.OpWord.the-variants as op-word
 use Rattle.text.proofs.Relation as relation-type
 use Rattle.text.proofs.OpWord as op-word-type
-use Rattle.reader.specs.Answers.{the-word, the-rel}
-use Rattle.reader.specs.Lines.{op-read, targeted}
 
 pub rel-said : (x : Relation) → OneOf (1 ∷ 2 ∷ 3 ∷ 4 ∷ 5 ∷ 6 ∷ []) (tagOf relation-type.the-type x) → relRes x ≡ ok (the-rel x)
 unfolding relRes the-rel

@@ -1,25 +1,32 @@
--- What the answers of the functions over a line say: each enum as the definitions' refusal or value. Assumes nothing.
+-- What the answers of the functions over a file and a line say: each enum as the definitions' refusal or value. Assumes nothing.
 use mathlib.Core.List.{List, [], _∷_}
+use mathlib.Core.Option.{Option, none, some}
 use Prim.Native.Nat.{ℕ}
 use lib.IntN.{ℤ}
 use Rattle.semantics.specs.Chart.{Var, Rel, eq, ne, lt, le, gt, ge}
 use Rattle.semantics.specs.Encoding.{val}
 use Rattle.semantics.specs.Reading.{Res, fail, ok, OpWord, do-set, do-add, do-sub, do-in, do-if, do-skip}
 use Rattle.text.specs.declared.Relation.{Relation}
-use Rattle.text.specs.declared.Relation.the-variants as relation
 use Rattle.text.specs.declared.OpWord.{OpWord as Said}
-use Rattle.text.specs.declared.OpWord.the-variants as said
+use Rattle.reader.specs.declared.scan.Fault.{Fault}
 use Rattle.reader.specs.declared.variable.VarRow.{VarRow}
 use Rattle.reader.specs.declared.variable.VarLine.{VarLine}
-use Rattle.reader.specs.declared.variable.VarLine.the-variants as var-line
 use Rattle.reader.specs.declared.operation.Argument.{Argument}
-use Rattle.reader.specs.declared.operation.Argument.the-variants as argument
 use Rattle.reader.specs.declared.operation.OpRow.{OpRow}
 use Rattle.reader.specs.declared.operation.OpLine.{OpLine}
-use Rattle.reader.specs.declared.operation.OpLine.the-variants as op-line
 use Rattle.reader.specs.declared.edge.EdgeRow.{EdgeRow}
 use Rattle.reader.specs.declared.edge.EdgeLine.{EdgeLine}
+use Rattle.reader.specs.declared.scan.Fault.the-variants as fault
+use Rattle.text.specs.declared.Relation.the-variants as relation
+use Rattle.text.specs.declared.OpWord.the-variants as said
+use Rattle.reader.specs.declared.variable.VarLine.the-variants as var-line
+use Rattle.reader.specs.declared.operation.Argument.the-variants as argument
+use Rattle.reader.specs.declared.operation.OpLine.the-variants as op-line
 use Rattle.reader.specs.declared.edge.EdgeLine.the-variants as edge-line
+
+unfoldable pub fault-line : Fault → Option ℕ
+fault-line fault.Nowhere = none
+fault-line (fault.Line n) = some n
 
 -- a variable, from its words
 abbrev pub var-of : VarRow → Var

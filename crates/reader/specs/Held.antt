@@ -49,11 +49,11 @@ pub record Names (n : ℕ) (table : List ℤ) (names : List (List ℕ)) : Type 0
 
 -- a line goes on: to the counts t, the table and the names
 pub record Gone (r : Res So-far) (t : Tally) (table names : List ℤ) : Type 0 where
-  pub nothing-read : So-far
-  pub is : r ≡ ok nothing-read
+  pub read : So-far
+  pub is : r ≡ ok read
   pub few : Few t
-  pub held : Rows t table (nothing-read .chart)
-  pub names-held : Names (t .vars) names (nothing-read .names)
+  pub held : Rows t table (read .chart)
+  pub names-held : Names (t .vars) names (read .names)
 
 -- what the code answers to a line that comes to r, and what it leaves
 abbrev pub Stepped : Step → Res So-far → List ℤ → List ℤ → Type 0

@@ -1,10 +1,8 @@
 // Reading a chart file: from its bytes to the words of the encoded chart, or the refusal's number and line.
 ghost use mathlib.Core.Path.{_≡_};
-ghost use mathlib.Core.List.{List};
-ghost use lib.IntN.{ℤ};
+ghost use mathlib.Core.List.{map};
 ghost use lib.ListN.{length};
 ghost use lib.Dec.{ltb};
-ghost use mathlib.Core.List.{map};
 ghost use Rattle.semantics.specs.Lists.{is-empty};
 ghost use Rattle.semantics.specs.Text.{lines, fields};
 ghost use Rattle.semantics.specs.Chart.{Chart};

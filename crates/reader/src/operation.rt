@@ -2,16 +2,15 @@
 ghost use mathlib.Core.Path.{_≡_};
 ghost use mathlib.Core.Bool.{_&&_};
 ghost use Prim.Native.Nat.{_<_, _≤_};
-ghost use lib.IntN.{ℤ, pos};
+ghost use lib.IntN.{pos};
 ghost use lib.Signed.{leZ};
 ghost use Rattle.semantics.specs.Text.{fields};
-ghost use Rattle.semantics.specs.Chart.{within};
+ghost use Rattle.semantics.specs.Chart.{within, skip};
 ghost use Rattle.semantics.specs.Encoding.{rel-code, op-words};
 ghost use Rattle.semantics.specs.Reading.{nth, ok, number-field, operand-field, rel-field};
 ghost use Rattle.reader.specs.Answers.{argument-res, op-res, the-word, the-rel};
 ghost use Rattle.reader.specs.Lines.{in-table, argument-read, one-read, second-read, two-read, high-read, bounds-read, condition-read, op-read};
 ghost use Rattle.reader.specs.Lines.{targeted as targeted-read, after-target as after-target-read};
-ghost use Rattle.semantics.specs.Chart.{skip};
 
 // An operand's tag and value.
 enum Argument {

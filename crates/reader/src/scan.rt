@@ -4,7 +4,7 @@ ghost use Prim.Native.Nat.{suc, _<_};
 ghost use lib.Dec.{eqb};
 ghost use Rattle.semantics.specs.Lists.{pick};
 ghost use Rattle.semantics.specs.Reading.{byte-ok, bad-byte-line, open-line};
-ghost use Rattle.reader.specs.Faults.{fault-line};
+ghost use Rattle.reader.specs.Answers.{fault-line};
 
 // The line at fault, if there is one.
 pub enum Fault {

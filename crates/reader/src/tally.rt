@@ -1,4 +1,4 @@
-// What was read so far, in numbers, and what a line comes to.
+// What the judges of the three kinds of line share: the counts so far, what a line comes to, and how many fields it has.
 ghost use mathlib.Core.Path.{_≡_};
 ghost use Rattle.semantics.specs.Text.{fields};
 ghost use Rattle.reader.specs.Lines.{filled as filled-with};

@@ -1,86 +1,64 @@
+-- `reader::hold` meets its contract. Assumes nothing.
+use mathlib.Core.Path.{_≡_, sym, _∙_}
 use Prim.Native.Nat.{_+_, _≤_}
-use mir.Val.{toZ}
-use lib.ListN.{take}
+use native.Mathlib.Omega.{arith}
+use lib.ListN.{take, length}
 use lib.IntN.{pos}
-use Rattle.reader.proofs.Holding.{encode-length, held-words, too-few, enough}
-use Rattle.semantics.specs.Outcomes.{held-unless}
-use Rattle.semantics.specs.Encoding.{encode}
+use lib.Seq.{length-take-le}
+use denote.Ref.{now}
+use mir.Val.{toZ}
 use mir.Facts.{toZ-pos}
 use mir.Syntax.{w32}
-use lib.Seq.{length-take-le}
-use lib.ListN.{length, length-take}
-use lib.Dec.{ltb}
-use denote.Ref.{now}
-use native.Mathlib.Omega.{arith}
-use mathlib.Core.Path.{_≡_, refl, sym, ap, _∙_}
 use borrow.Author.Needs.{needs}
+use Rattle.reader.proofs.Holding.{encode-length, held-words, too-few, enough}
 use Rattle.reader.proofs.hold.Statement.{statement}
 use Rattle.reader.proofs.hold.Tie as tie
-use Rattle.reader.proofs.hold.Reads as reads
-use Rattle.reader.proofs.hold.Lts as lts
-use Rattle.reader.proofs.refused.Reads as refused-reads
-use Rattle.reader.proofs.rows.push_row.Reads as push-row-reads
-use Rattle.reader.proofs.tally.used.Reads as used-reads
 
--- src/lib.rt:41:9
 used-requires : tie.Need-used-requires
 used-requires c κs = search needs
 
--- src/lib.rt:42:22
 add-if1 : tie.Need-add-if1
 add-if1 c = search needs
 
--- src/lib.rt:43:9
 refused-requires : tie.Need-refused-requires
 refused-requires c κs = search needs
 
--- src/lib.rt:43:9
 returns : tie.Need-returns
 returns c = let a = c .before .before .before .args in (
   λ d h. rw (too-few d (now (a .words)) (omega (arith, encode-length h (omega arith)))) (c .refused .ensures),
   λ d h. rw (too-few d (now (a .words)) (omega (arith, encode-length h (omega arith)))),
 )
 
--- src/lib.rt:45:19
 cast-t9 : tie.Need-cast-t9
 cast-t9 c = search needs
 
--- src/lib.rt:45:34
 cast-t10 : tie.Need-cast-t10
 cast-t10 c = search needs
 
--- src/lib.rt:45:49
 cast-t11 : tie.Need-cast-t11
 cast-t11 c = search needs
 
--- src/lib.rt:46:30
 slice-aggregate-push-row : tie.Need-slice-aggregate-push-row
 slice-aggregate-push-row c = search needs
 
--- src/lib.rt:46:5
 push-row-requires : tie.Need-push-row-requires
 push-row-requires c κs = search needs
 
--- src/lib.rt:47:30
 slice-aggregate-push-row-2 : tie.Need-slice-aggregate-push-row-2
 slice-aggregate-push-row-2 c = sym (length-take-le (c .before .before .before .before .before .before .before .before .before .before .used .result) (now (c .before .before .before .before .before .before .before .before .before .before .before .args .table)) (omega arith))
 
--- src/lib.rt:47:5
 push-row-requires-2 : tie.Need-push-row-requires-2
 push-row-requires-2 c κs = let n : length (take (c .before .before .before .before .before .before .before .before .before .before .used .result) (now (c .before .before .before .before .before .before .before .before .before .before .before .args .table))) ≡ c .before .before .before .before .before .before .before .before .before .before .used .result = length-take-le (c .before .before .before .before .before .before .before .before .before .before .used .result) (now (c .before .before .before .before .before .before .before .before .before .before .before .args .table)) (omega arith) in
     let k : length (c .before .before .before .push-row .last .0) ≡ length (now (c .before .before .before .before .before .before .before .before .before .before .before .args .words)) = c .before .before .before .push-row .kept .0 in
     let g : 3 + length (take (c .before .before .before .before .before .before .before .before .before .before .used .result) (now (c .before .before .before .before .before .before .before .before .before .before .before .args .table))) ≤ length (c .before .before .before .push-row .last .0) = omega (arith, c .before .before .before .before .before .before .before .before .before .if1 .left) in
     g
 
--- src/lib.rt:48:5
 refused-requires-2 : tie.Need-refused-requires-2
 refused-requires-2 c κs = search needs
 
--- src/lib.rt:36:1
 same-length : tie.Need-same-length
 same-length c = search needs
 
--- src/lib.rt:36:1
 returns-2 : tie.Need-returns-2
 returns-2 c = let a = c .before .before .before .before .before .before .before .before .before .before .before .before .before .before .args in
     let p : toZ w32 (a .t .vars) ≡ pos (a .t .vars) = toZ-pos w32 (omega (arith, c .before .before .before .before .before .before .before .before .before .before .before .before .before .before .pre)) in

@@ -1,34 +1,25 @@
+-- `reader::read` meets its contract. Assumes nothing.
+use borrow.Author.Tests.{lt-ltb, le-ltb}
+use borrow.Author.Needs.{needs}
 use Rattle.semantics.specs.Outcomes.{read-outcome}
 use Rattle.semantics.specs.Reading.{read}
-use borrow.Author.Tests.{lt-ltb, le-ltb}
-use mathlib.Core.Path.{_≡_, refl, sym, ap, _∙_}
-use borrow.Author.Needs.{needs}
 use Rattle.reader.proofs.read.Statement.{statement}
 use Rattle.reader.proofs.read.Tie as tie
-use Rattle.reader.proofs.read.Reads as reads
-use Rattle.reader.proofs.read.Lts as lts
-use Rattle.reader.proofs.read_text.Reads as read-text-reads
-use Rattle.reader.proofs.refused.Reads as refused-reads
 
--- src/lib.rt:134:9
 refused-requires : tie.Need-refused-requires
 refused-requires c κs = search needs
 
--- src/lib.rt:134:9
 returns : tie.Need-returns
 unfolding read read-outcome
 returns c = let e = lt-ltb _ _ (c .before .if1 .taken) in
     (rw e (c .refused .ensures), rw e)
 
--- src/lib.rt:136:5
 read-text-requires : tie.Need-read-text-requires
 read-text-requires c κs = search needs
 
--- src/lib.rt:129:1
 same-length : tie.Need-same-length
 same-length c = search needs
 
--- src/lib.rt:129:1
 returns-2 : tie.Need-returns-2
 unfolding read read-outcome
 returns-2 c = let e = le-ltb _ _ (c .before .before .before .if1 .left) in

@@ -1,22 +1,15 @@
-use Rattle.semantics.specs.Outcomes.{held-by}
-use Rattle.semantics.specs.Reading.{Reading}
-use Rattle.reader.proofs.Going.{Along, judged-stop, judged-on, judged-end}
-use Rattle.reader.specs.Held.{Few, Rows, Names}
-use Rattle.semantics.specs.Reading.{nothing-read}
-use lib.ListN.{length, drop}
-use denote.Ref.{now}
-use native.Mathlib.Omega.{arith}
-use Prim.Native.Nat.{_+_, _-_, _≤_}
+-- `reader::read_lines` meets its contract. Assumes nothing.
 use mathlib.Core.Path.{_≡_, refl, sym, ap, _∙_}
+use Prim.Native.Nat.{_+_, _-_, _≤_}
+use native.Mathlib.Omega.{arith}
+use lib.ListN.{length}
+use denote.Ref.{now}
 use borrow.Author.Needs.{needs}
+use Rattle.semantics.specs.Outcomes.{held-by}
+use Rattle.semantics.specs.Reading.{Reading, nothing-read}
+use Rattle.reader.proofs.Going.{Along, judged-stop, judged-on, judged-end}
 use Rattle.reader.proofs.read_lines.Statement.{statement}
 use Rattle.reader.proofs.read_lines.Tie as tie
-use Rattle.reader.proofs.read_lines.Reads as reads
-use Rattle.reader.proofs.read_lines.Lts as lts
-use Rattle.reader.proofs.finish.Reads as finish-reads
-use Rattle.reader.proofs.refused.Reads as refused-reads
-use Rattle.reader.proofs.step.Reads as step-reads
-use Rattle.text.proofs.line_end.Reads as line-end-reads
 
 abbrev Inv-loop : tie.InvT-loop
 Inv-loop text words table₀ names₀ t₀ at₀ n₀ table names t at n = (at ≤ length text + 1) × (n ≤ at + 1) × (length table ≡ 3160) × (length names ≡ 128) × Along text t table names at n
@@ -24,7 +17,6 @@ Inv-loop text words table₀ names₀ t₀ at₀ n₀ table names t at n = (at �
 abbrev μ-loop : tie.MeasureT-loop
 μ-loop text words table₀ names₀ t₀ at₀ n₀ table names t at n = length text - at
 
--- src/lib.rt:98:5
 loop-holds : tie.Need-loop-holds Inv-loop μ-loop
 loop-holds c = (
   omega arith,
@@ -40,43 +32,33 @@ loop-holds c = (
   },
 )
 
--- src/lib.rt:99:13
 line-end-requires : tie.Need-line-end-requires Inv-loop μ-loop
 line-end-requires c κs = search needs
 
--- src/lib.rt:100:23
 slice-aggregate-step : tie.Need-slice-aggregate-step Inv-loop μ-loop
 slice-aggregate-step c = search needs
 
--- src/lib.rt:100:35
 slice-aggregate-step-2 : tie.Need-slice-aggregate-step-2 Inv-loop μ-loop
 slice-aggregate-step-2 c = search needs
 
--- src/lib.rt:100:47
 sub-step : tie.Need-sub-step Inv-loop μ-loop
 sub-step c = c .before .before .line-end .ensures .after
 
--- src/lib.rt:100:47
 part-step-start : tie.Need-part-step-start Inv-loop μ-loop
 part-step-start c = c .before .before .line-end .ensures .after
 
--- src/lib.rt:100:47
 part-step-end : tie.Need-part-step-end Inv-loop μ-loop
 part-step-end c = omega (arith, c .before .before .line-end .ensures .within, c .before .before .before .loop-test .taken)
 
--- src/lib.rt:100:15
 step-requires : tie.Need-step-requires Inv-loop μ-loop
 step-requires c κs = let l = c .before .before .before .before .before .loop .inv in (l .4 .few, l .2, l .3)
 
--- src/lib.rt:101:27
 enum-known-k : tie.Need-enum-known-k Inv-loop μ-loop
 enum-known-k c = search needs
 
--- src/lib.rt:102:17
 refused-requires : tie.Need-refused-requires Inv-loop μ-loop
 refused-requires c κs = search needs
 
--- src/lib.rt:102:17
 returns : tie.Need-returns Inv-loop μ-loop
 returns c = let l = c .before .before .before .before .before .before .before .before .before .before .before .before .loop in
     let a = l .inv .4 in
@@ -84,23 +66,18 @@ returns c = let l = c .before .before .before .before .before .before .before .b
     let q = a .is ∙ judged-stop _ _ _ _ _ (c .before .before .before .before .before .before .before .before .before .before .before .loop-test .taken) (c .before .before .before .before .before .before .before .before .before .before .line-end .ensures .is) (rw (c .before .before .k .given .1) at (c .before .before .before .before .before .before .step .ensures (a .read) (a .held) (a .names-held))) in
     (c .refused .ensures ∙ ap (λ (o : Reading). held-by o w .answer) (sym q), ap (λ (o : Reading). held-by o w .words) (sym q))
 
--- src/lib.rt:104:22
 enum-known-next : tie.Need-enum-known-next Inv-loop μ-loop
 enum-known-next c = search needs
 
--- src/lib.rt:108:14
 add-at : tie.Need-add-at Inv-loop μ-loop
 add-at c = omega (arith, c .before .before .before .before .before .before .before .before .before .line-end .ensures .within, c .before .before .before .before .before .before .before .before .before .before .loop-test .taken)
 
--- src/lib.rt:109:9
 add-n : tie.Need-add-n Inv-loop μ-loop
 add-n c = omega (arith, c .before .before .before .before .before .before .before .before .before .before .loop-test .taken, c .before .before .before .before .before .before .before .before .before .before .before .loop .inv .1)
 
--- src/lib.rt:98:5
 loop-less : tie.Need-loop-less Inv-loop μ-loop
 loop-less c = omega (arith, c .before .before .before .before .before .before .before .before .before .line-end .ensures .after, c .before .before .before .before .before .before .before .before .before .before .loop-test .taken)
 
--- src/lib.rt:98:5
 loop-again : tie.Need-loop-again Inv-loop μ-loop
 loop-again c = let l = c .before .before .before .before .before .before .before .before .before .before .before .loop in
     let a = l .inv .4 in
@@ -111,7 +88,7 @@ loop-again c = let l = c .before .before .before .before .before .before .before
       c .before .before .before .before .before .step .kept .1 .0 ∙ l .inv .2,
       c .before .before .before .before .before .step .kept .1 .1 .0 ∙ l .inv .3,
       record {
-        read = g .nothing-read;
+        read = g .read;
         few = g .few;
         held = g .held;
         names-held = g .names-held;
@@ -119,19 +96,15 @@ loop-again c = let l = c .before .before .before .before .before .before .before
       },
     )
 
--- src/lib.rt:111:15
 slice-aggregate-finish : tie.Need-slice-aggregate-finish Inv-loop μ-loop
 slice-aggregate-finish c = search needs
 
--- src/lib.rt:111:5
 finish-requires : tie.Need-finish-requires Inv-loop μ-loop
 finish-requires c κs = let l = c .before .before .before .loop .inv in (l .4 .few, l .2)
 
--- src/lib.rt:85:1
 same-length : tie.Need-same-length Inv-loop μ-loop
 same-length c = search needs
 
--- src/lib.rt:85:1
 returns-2 : tie.Need-returns-2 Inv-loop μ-loop
 returns-2 c = let a = c .before .before .before .before .before .loop .inv .4 in
     let w = now (c .before .before .before .before .before .before .before .args .words) in

@@ -1,90 +1,67 @@
-use Rattle.reader.proofs.Going.{kind-var, kind-loc, kind-edge, kind-none}
-use Rattle.semantics.specs.Text.{bytes, same-bytes}
-use denote.Ref.{now}
-use Prim.Native.Nat.{ℕ}
+-- `reader::step` meets its contract. Assumes nothing.
 use mathlib.Core.List.{List}
-use mathlib.Core.Path.{_≡_, refl, sym, ap, _∙_}
+use mathlib.Core.Path.{sym, ap, _∙_}
+use Prim.Native.Nat.{ℕ}
+use denote.Ref.{now}
 use borrow.Author.Needs.{needs}
+use Rattle.semantics.specs.Text.{bytes, same-bytes}
+use Rattle.reader.proofs.Going.{kind-var, kind-loc, kind-edge, kind-none}
 use Rattle.reader.proofs.step.Statement.{statement}
 use Rattle.reader.proofs.step.Tie as tie
-use Rattle.reader.proofs.step.Reads as reads
-use Rattle.reader.proofs.step.Lts as lts
-use Rattle.reader.proofs.edge.read_line.Reads as edge-read-line-reads
-use Rattle.reader.proofs.location.read_line.Reads as location-read-line-reads
-use Rattle.reader.proofs.variable.read_line.Reads as variable-read-line-reads
-use Rattle.text.proofs.field.Reads as field-reads
-use Rattle.text.proofs.same_bytes.Reads as same-bytes-reads
 
--- src/lib.rt:70:9
 field-requires : tie.Need-field-requires
 field-requires c κs = search needs
 
--- src/lib.rt:71:31
 slice-aggregate-same-bytes : tie.Need-slice-aggregate-same-bytes
 slice-aggregate-same-bytes c = search needs
 
--- src/lib.rt:71:8
 same-bytes-requires : tie.Need-same-bytes-requires
 same-bytes-requires c κs = search needs
 
--- src/lib.rt:72:9
 read-line-requires : tie.Need-read-line-requires
 read-line-requires c κs = search needs
 
--- src/lib.rt:72:9
 same-length : tie.Need-same-length
 same-length c = search needs
 
--- src/lib.rt:72:9
 same-length-2 : tie.Need-same-length-2
 same-length-2 c = search needs
 
--- src/lib.rt:72:9
 returns : tie.Need-returns
 returns c = λ s h g.
     let v = ap (λ (f : List ℕ). same-bytes f (bytes "V")) (sym (c .before .before .before .before .before .before .before .before .field .ensures)) ∙ sym (c .before .before .before .before .before .before .same-bytes .ensures) ∙ c .before .before .before .before .before .if1 .taken in
     rw (kind-var s _ v) (c .before .before .read-line .ensures s h g)
 
--- src/lib.rt:74:31
 slice-aggregate-same-bytes-2 : tie.Need-slice-aggregate-same-bytes-2
 slice-aggregate-same-bytes-2 c = search needs
 
--- src/lib.rt:74:8
 same-bytes-requires-2 : tie.Need-same-bytes-requires-2
 same-bytes-requires-2 c κs = search needs
 
--- src/lib.rt:75:9
 read-line-requires-2 : tie.Need-read-line-requires-2
 read-line-requires-2 c κs = search needs
 
--- src/lib.rt:75:9
 same-length-3 : tie.Need-same-length-3
 same-length-3 c = search needs
 
--- src/lib.rt:75:9
 returns-2 : tie.Need-returns-2
 returns-2 c = λ s h g.
     let v = ap (λ (f : List ℕ). same-bytes f (bytes "V")) (sym (c .before .before .before .before .before .before .before .before .before .field .ensures)) ∙ sym (c .before .before .before .before .before .before .before .same-bytes .ensures) ∙ c .before .before .before .before .before .before .if1 .left in
     let l = ap (λ (f : List ℕ). same-bytes f (bytes "L")) (sym (c .before .before .before .before .before .before .before .before .before .field .ensures)) ∙ sym (c .before .before .before .before .same-bytes2 .ensures) ∙ c .before .before .before .if2 .taken in
     rw (kind-loc s _ v l) (c .before .read-line2 .ensures s (now (c .before .before .before .before .before .before .before .before .before .before .before .args .names)) h g)
 
--- src/lib.rt:77:31
 slice-aggregate-same-bytes-3 : tie.Need-slice-aggregate-same-bytes-3
 slice-aggregate-same-bytes-3 c = search needs
 
--- src/lib.rt:77:8
 same-bytes-requires-3 : tie.Need-same-bytes-requires-3
 same-bytes-requires-3 c κs = search needs
 
--- src/lib.rt:78:9
 read-line-requires-3 : tie.Need-read-line-requires-3
 read-line-requires-3 c κs = search needs
 
--- src/lib.rt:78:9
 same-length-4 : tie.Need-same-length-4
 same-length-4 c = search needs
 
--- src/lib.rt:78:9
 returns-3 : tie.Need-returns-3
 returns-3 c = λ s h g.
     let v = ap (λ (f : List ℕ). same-bytes f (bytes "V")) (sym (c .before .before .before .before .before .before .before .before .before .before .before .before .field .ensures)) ∙ sym (c .before .before .before .before .before .before .before .before .before .before .same-bytes .ensures) ∙ c .before .before .before .before .before .before .before .before .before .if1 .left in
@@ -92,7 +69,6 @@ returns-3 c = λ s h g.
     let e = ap (λ (f : List ℕ). same-bytes f (bytes "E")) (sym (c .before .before .before .before .before .before .before .before .before .before .before .before .field .ensures)) ∙ sym (c .before .before .before .before .same-bytes3 .ensures) ∙ c .before .before .before .if3 .taken in
     rw (kind-edge s _ v l e) (c .before .read-line3 .ensures s (now (c .before .before .before .before .before .before .before .before .before .before .before .before .before .before .args .names)) h g)
 
--- src/lib.rt:66:1
 returns-4 : tie.Need-returns-4
 returns-4 c = λ s h g.
     let v = ap (λ (f : List ℕ). same-bytes f (bytes "V")) (sym (c .before .before .before .before .before .before .before .before .before .field .ensures)) ∙ sym (c .before .before .before .before .before .before .before .same-bytes .ensures) ∙ c .before .before .before .before .before .before .if1 .left in

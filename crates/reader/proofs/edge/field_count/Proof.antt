@@ -1,69 +1,54 @@
-use Rattle.reader.specs.Answers.{the-word}
+-- `reader::edge::field_count` meets its contract. Assumes nothing.
 use borrow.Author.Needs.{needs}
+use Rattle.reader.specs.Answers.{the-word}
 use Rattle.reader.proofs.edge.field_count.Statement.{statement}
 use Rattle.reader.proofs.edge.field_count.Tie as tie
-use Rattle.reader.proofs.edge.field_count.Reads as reads
-use Rattle.reader.proofs.edge.field_count.Lts as lts
 
--- src/edge.rt:39:37
 enum-told : tie.Need-enum-told
 enum-told c = search needs
 
--- src/edge.rt:40:30
 enum-told-2 : tie.Need-enum-told-2
 enum-told-2 c = search needs
 
--- src/edge.rt:41:30
 enum-told-3 : tie.Need-enum-told-3
 enum-told-3 c = search needs
 
--- src/edge.rt:42:30
 enum-told-4 : tie.Need-enum-told-4
 enum-told-4 c = search needs
 
--- src/edge.rt:43:29
 enum-told-5 : tie.Need-enum-told-5
 enum-told-5 c = search needs
 
--- src/edge.rt:44:29
 enum-told-6 : tie.Need-enum-told-6
 enum-told-6 c = search needs
 
--- src/edge.rt:45:31
 enum-told-7 : tie.Need-enum-told-7
 enum-told-7 c = search needs
 
--- src/edge.rt:35:1
 returns : tie.Need-returns
 unfolding the-word
 returns c = simp (c .enum-told .given .1)
 
--- src/edge.rt:35:1
 returns-2 : tie.Need-returns-2
 unfolding the-word
 returns-2 c = simp (c .enum-told2 .given .1)
 
--- src/edge.rt:35:1
 returns-3 : tie.Need-returns-3
 unfolding the-word
 returns-3 c = simp (c .enum-told3 .given .1)
 
--- src/edge.rt:35:1
 returns-4 : tie.Need-returns-4
 unfolding the-word
 returns-4 c = simp (c .enum-told4 .given .1)
 
--- src/edge.rt:35:1
 returns-5 : tie.Need-returns-5
 unfolding the-word
 returns-5 c = simp (c .enum-told5 .given .1)
 
--- src/edge.rt:35:1
 returns-6 : tie.Need-returns-6
 unfolding the-word
 returns-6 c = simp (c .enum-told6 .given .1)
 
--- src/edge.rt:35:1
 returns-7 : tie.Need-returns-7
 unfolding the-word
 returns-7 c = simp (c .enum-told7 .given .1)

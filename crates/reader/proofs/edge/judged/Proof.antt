@@ -1,38 +1,28 @@
-use Rattle.reader.proofs.Judging.{then-fail, then-ok, location-below}
-use Rattle.reader.specs.Held.{Few}
-use Rattle.reader.specs.Answers.{edge-res}
-use Rattle.text.specs.Fields.{indexRes}
-use Rattle.semantics.specs.Reading.{location-field}
+-- `reader::edge::judged` meets its contract. Assumes nothing.
+use mathlib.Core.Path.{sym, ap, _∙_}
 use Prim.Native.Nat.{_<_}
-use denote.Ref.{now}
 use native.Mathlib.Omega.{arith}
-use mathlib.Core.Path.{_≡_, refl, sym, ap, _∙_}
+use denote.Ref.{now}
 use borrow.Author.Needs.{needs}
+use Rattle.semantics.specs.Reading.{location-field}
+use Rattle.text.specs.Fields.{indexRes}
+use Rattle.reader.specs.Answers.{edge-res}
+use Rattle.reader.proofs.Judging.{then-fail, then-ok, location-below}
 use Rattle.reader.proofs.edge.judged.Statement.{statement}
 use Rattle.reader.proofs.edge.judged.Tie as tie
-use Rattle.reader.proofs.edge.judged.Reads as reads
-use Rattle.reader.proofs.edge.judged.Lts as lts
-use Rattle.reader.proofs.edge.with_from.Reads as with-from-reads
-use Rattle.text.proofs.field.Reads as field-reads
-use Rattle.text.proofs.location_field.Reads as location-field-reads
 
--- src/edge.rt:77:40
 field-requires : tie.Need-field-requires
 field-requires c κs = search needs
 
--- src/edge.rt:77:11
 location-field-requires : tie.Need-location-field-requires
 location-field-requires c κs = search needs
 
--- src/edge.rt:78:30
 enum-known-k : tie.Need-enum-known-k
 enum-known-k c = search needs
 
--- src/edge.rt:79:25
 enum-known-from : tie.Need-enum-known-from
 enum-known-from c = search needs
 
--- src/edge.rt:79:34
 with-from-requires : tie.Need-with-from-requires
 unfolding indexRes
 with-from-requires c κs = let a = c .before .before .before .before .before .before .args in
@@ -40,12 +30,10 @@ with-from-requires c κs = let a = c .before .before .before .before .before .be
     let g : c .before .from .given .0 .0 < 1000 = omega (arith, c .before .before .before .before .before .before .pre) in
     (c .before .before .before .before .before .before .pre, g)
 
--- src/edge.rt:73:1
 returns : tie.Need-returns
 unfolding edge-res indexRes
 returns c = sym (then-fail _ (ap (location-field (c .before .before .before .before .before .before .args .t .locs)) (sym (c .before .before .before .before .field .ensures)) ∙ sym (c .before .before .before .location-field .ensures) ∙ ap indexRes (c .before .k .given .1)))
 
--- src/edge.rt:73:1
 returns-2 : tie.Need-returns-2
 unfolding indexRes
 returns-2 c = c .with-from .ensures ∙ sym (then-ok _ (ap (location-field (c .before .before .before .before .before .before .before .args .t .locs)) (sym (c .before .before .before .before .before .field .ensures)) ∙ sym (c .before .before .before .before .location-field .ensures) ∙ ap indexRes (c .before .before .from .given .1)))

@@ -1,31 +1,23 @@
+-- `reader::edge::push` meets its contract. Assumes nothing.
+use mathlib.Core.Path.{_≡_, _∙_}
 use mir.Syntax.{w32}
 use mir.Val.{toZ, ofZ}
-use mathlib.Core.Path.{_≡_, refl, sym, ap, _∙_}
 use borrow.Author.Needs.{needs}
 use Rattle.reader.proofs.edge.push.Statement.{statement}
 use Rattle.reader.proofs.edge.push.Tie as tie
-use Rattle.reader.proofs.edge.push.Reads as reads
-use Rattle.reader.proofs.edge.push.Lts as lts
-use Rattle.reader.proofs.rows.push_row.Reads as push-row-reads
-use Rattle.reader.proofs.tally.used.Reads as used-reads
 
--- src/edge.rt:25:9
 used-requires : tie.Need-used-requires
 used-requires c κs = search needs
 
--- src/edge.rt:26:31
 slice-aggregate-push-row : tie.Need-slice-aggregate-push-row
 slice-aggregate-push-row c = search needs
 
--- src/edge.rt:26:5
 push-row-requires : tie.Need-push-row-requires
 push-row-requires c κs = search needs
 
--- src/edge.rt:19:1
 same-length : tie.Need-same-length
 same-length c = search needs
 
--- src/edge.rt:19:1
 returns : tie.Need-returns
 returns c = let g = c .before .before .before .before .before .before .before .before .args .g in
     let o = g .op in

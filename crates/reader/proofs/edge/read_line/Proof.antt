@@ -1,60 +1,43 @@
+-- `reader::edge::read_line` meets its contract. Assumes nothing.
+use mathlib.Core.Path.{sym, ap, _∙_}
+use native.Mathlib.Omega.{arith}
+use borrow.Author.Tests.{not-true, not-false}
+use borrow.Author.Needs.{needs}
+use Rattle.semantics.specs.Reading.{op-word-field}
+use Rattle.text.specs.Fields.{opWordRes}
 use Rattle.reader.proofs.Wording.{word-said}
 use Rattle.reader.proofs.Reading.{edge-full, edge-short, edge-no-word, edge-word}
-use Rattle.reader.specs.Held.{Rows}
-use Rattle.text.specs.Fields.{opWordRes}
-use Rattle.semantics.specs.Reading.{op-word-field}
-use borrow.Author.Tests.{not-true, not-false}
-use denote.Ref.{now}
-use native.Mathlib.Omega.{arith}
-use mathlib.Core.Path.{_≡_, refl, sym, ap, _∙_}
-use borrow.Author.Needs.{needs}
 use Rattle.reader.proofs.edge.read_line.Statement.{statement}
 use Rattle.reader.proofs.edge.read_line.Tie as tie
-use Rattle.reader.proofs.edge.read_line.Reads as reads
-use Rattle.reader.proofs.edge.read_line.Lts as lts
-use Rattle.reader.proofs.edge.enough.Reads as enough-reads
-use Rattle.reader.proofs.edge.worded.Reads as worded-reads
-use Rattle.text.proofs.field.Reads as field-reads
-use Rattle.text.proofs.op_word_field.Reads as op-word-field-reads
 
--- src/edge.rt:124:9
 returns : tie.Need-returns
 returns c = λ s names h g. edge-full s _ (omega (arith, h .edges))
 
--- src/edge.rt:126:9
 enough-requires : tie.Need-enough-requires
 enough-requires c κs = search needs
 
--- src/edge.rt:127:9
 returns-2 : tie.Need-returns-2
 returns-2 c = λ s names h g. edge-short s _ (omega (arith, h .edges)) (sym (c .before .enough .ensures) ∙ not-true _ (c .if2 .taken))
 
--- src/edge.rt:129:33
 field-requires : tie.Need-field-requires
 field-requires c κs = search needs
 
--- src/edge.rt:129:9
 op-word-field-requires : tie.Need-op-word-field-requires
 op-word-field-requires c κs = search needs
 
--- src/edge.rt:131:31
 enum-known-w : tie.Need-enum-known-w
 enum-known-w c = search needs
 
--- src/edge.rt:132:14
 worded-requires : tie.Need-worded-requires
 worded-requires c κs = search needs
 
--- src/edge.rt:119:1
 returns-3 : tie.Need-returns-3
 unfolding opWordRes
 returns-3 c = λ s names h g. edge-no-word s _ (omega (arith, h .edges)) (sym (c .before .before .before .before .before .before .enough .ensures) ∙ not-false _ (c .before .before .before .before .before .if2 .left)) (ap op-word-field (sym (c .before .before .before .before .field .ensures)) ∙ sym (c .before .before .before .op-word-field .ensures) ∙ ap opWordRes (c .before .w .given .1))
 
--- src/edge.rt:119:1
 same-length : tie.Need-same-length
 same-length c = search needs
 
--- src/edge.rt:119:1
 returns-4 : tie.Need-returns-4
 returns-4 c = λ s names h g.
     let e = ap op-word-field (sym (c .before .before .before .before .before .field .ensures)) ∙ sym (c .before .before .before .before .op-word-field .ensures) ∙ word-said (c .before .before .before .before .op-word-field .result) (c .before .before .before .match .keys2) in

@@ -1,42 +1,31 @@
-use Rattle.reader.proofs.Judging.{then-fail, then-ok, location-below}
-use Rattle.reader.specs.Answers.{edge-res}
-use Rattle.text.specs.Fields.{indexRes}
-use Rattle.semantics.specs.Reading.{location-field}
+-- `reader::edge::with_from` meets its contract. Assumes nothing.
+use mathlib.Core.Path.{sym, ap, _∙_}
 use Prim.Native.Nat.{_<_}
-use denote.Ref.{now}
 use native.Mathlib.Omega.{arith}
-use mathlib.Core.Path.{_≡_, refl, sym, ap, _∙_}
+use denote.Ref.{now}
 use borrow.Author.Needs.{needs}
+use Rattle.semantics.specs.Reading.{location-field}
+use Rattle.text.specs.Fields.{indexRes}
+use Rattle.reader.specs.Answers.{edge-res}
+use Rattle.reader.proofs.Judging.{then-fail, then-ok, location-below}
 use Rattle.reader.proofs.edge.with_from.Statement.{statement}
 use Rattle.reader.proofs.edge.with_from.Tie as tie
-use Rattle.reader.proofs.edge.with_from.Reads as reads
-use Rattle.reader.proofs.edge.with_from.Lts as lts
-use Rattle.reader.proofs.edge.with_op.Reads as with-op-reads
-use Rattle.reader.proofs.operation.read.Reads as read-reads
-use Rattle.text.proofs.field.Reads as field-reads
-use Rattle.text.proofs.location_field.Reads as location-field-reads
 
--- src/edge.rt:67:40
 field-requires : tie.Need-field-requires
 field-requires c κs = search needs
 
--- src/edge.rt:67:11
 location-field-requires : tie.Need-location-field-requires
 location-field-requires c κs = search needs
 
--- src/edge.rt:68:30
 enum-known-k : tie.Need-enum-known-k
 enum-known-k c = search needs
 
--- src/edge.rt:69:25
 enum-known-to : tie.Need-enum-known-to
 enum-known-to c = search needs
 
--- src/edge.rt:69:73
 read-requires : tie.Need-read-requires
 read-requires c κs = search needs
 
--- src/edge.rt:69:32
 with-op-requires : tie.Need-with-op-requires
 unfolding indexRes
 with-op-requires c κs = let a = c .before .before .before .before .before .before .before .args in
@@ -44,12 +33,10 @@ with-op-requires c κs = let a = c .before .before .before .before .before .befo
     let g : (a .from .0 < 1000) × (c .before .before .to .given .0 .0 < 1000) = omega (arith, c .before .before .before .before .before .before .before .pre) in
     g
 
--- src/edge.rt:63:1
 returns : tie.Need-returns
 unfolding edge-res indexRes
 returns c = sym (then-fail _ (ap (location-field (c .before .before .before .before .before .before .args .t .locs)) (sym (c .before .before .before .before .field .ensures)) ∙ sym (c .before .before .before .location-field .ensures) ∙ ap indexRes (c .before .k .given .1)))
 
--- src/edge.rt:63:1
 returns-2 : tie.Need-returns-2
 unfolding indexRes
 returns-2 c = c .with-op .ensures ∙ rw (c .before .read .ensures)

@@ -1,37 +1,29 @@
-use Rattle.reader.proofs.Judging.{then-fail, then-ok}
-use Rattle.reader.specs.Answers.{op-res, edge-res}
+-- `reader::edge::with_op` meets its contract. Assumes nothing.
+use mathlib.Core.Path.{_≡_, sym, ap}
 use mir.Syntax.{w32}
 use mir.Val.{toZ, ofZ}
-use mathlib.Core.Path.{_≡_, refl, sym, ap, _∙_}
 use borrow.Author.Needs.{needs}
+use Rattle.reader.specs.Answers.{op-res, edge-res}
+use Rattle.reader.proofs.Judging.{then-fail, then-ok}
 use Rattle.reader.proofs.edge.with_op.Statement.{statement}
 use Rattle.reader.proofs.edge.with_op.Tie as tie
-use Rattle.reader.proofs.edge.with_op.Reads as reads
-use Rattle.reader.proofs.edge.with_op.Lts as lts
-use Rattle.reader.proofs.operation.index_word.Reads as index-word-reads
 
--- src/edge.rt:54:25
 enum-known-op : tie.Need-enum-known-op
 enum-known-op c = search needs
 
--- src/edge.rt:55:20
 enum-known-op-2 : tie.Need-enum-known-op-2
 enum-known-op-2 c = search needs
 
--- src/edge.rt:56:19
 index-word-requires : tie.Need-index-word-requires
 index-word-requires c κs = search needs
 
--- src/edge.rt:57:17
 index-word-requires-2 : tie.Need-index-word-requires-2
 index-word-requires-2 c κs = search needs
 
--- src/edge.rt:49:1
 returns : tie.Need-returns
 unfolding op-res edge-res
 returns c = sym (then-fail _ (ap op-res (c .before .op .given .1)))
 
--- src/edge.rt:49:1
 returns-2 : tie.Need-returns-2
 unfolding op-res edge-res
 returns-2 c = let p : toZ w32 (ofZ w32 (c .before .index-word .result)) ≡ c .before .index-word .result = search needs in

@@ -1,76 +1,58 @@
+-- `reader::edge::worded` meets its contract. Assumes nothing.
+use mathlib.Core.Path.{sym, ap, _∙_}
+use native.Mathlib.Omega.{arith}
+use borrow.Author.Tests.{eq-eqb, ne-eqb}
+use borrow.Author.Needs.{needs}
+use Rattle.semantics.specs.Reading.{with-edge}
+use Rattle.reader.specs.Answers.{edge-res}
 use Rattle.reader.proofs.Reading.{edges-held, edge-ok, edge-fail}
 use Rattle.reader.proofs.Growing.{rows-edge}
 use Rattle.reader.proofs.Judging.{check-no, check-yes, then-fail, then-ok}
-use Rattle.reader.specs.Held.{Few, Rows, Gone}
-use Rattle.reader.specs.Answers.{edge-res}
-use Rattle.semantics.specs.Reading.{with-edge}
-use borrow.Author.Tests.{eq-eqb, ne-eqb}
-use native.Mathlib.Omega.{arith}
-use mathlib.Core.Path.{_≡_, refl, sym, ap, _∙_}
-use borrow.Author.Needs.{needs}
 use Rattle.reader.proofs.edge.worded.Statement.{statement}
 use Rattle.reader.proofs.edge.worded.Tie as tie
-use Rattle.reader.proofs.edge.worded.Reads as reads
-use Rattle.reader.proofs.edge.worded.Lts as lts
-use Rattle.reader.proofs.edge.field_count.Reads as edge-field-count-reads
-use Rattle.reader.proofs.edge.judged.Reads as judged-reads
-use Rattle.reader.proofs.edge.push.Reads as push-reads
-use Rattle.text.proofs.field_count.Reads as field-count-reads
 
--- src/edge.rt:97:8
 field-count-requires : tie.Need-field-count-requires
 field-count-requires c κs = search needs
 
--- src/edge.rt:97:35
 field-count-requires-2 : tie.Need-field-count-requires-2
 field-count-requires-2 c κs = search needs
 
--- src/edge.rt:98:9
 returns : tie.Need-returns
 returns c = λ s names h g. check-no _ _ (ne-eqb _ _ (λ e. c .if1 .taken (c .before .before .field-count .ensures ∙ e ∙ sym (c .before .field-count2 .ensures))))
 
--- src/edge.rt:100:11
 judged-requires : tie.Need-judged-requires
 judged-requires c κs = search needs
 
--- src/edge.rt:101:27
 enum-known-k : tie.Need-enum-known-k
 enum-known-k c = search needs
 
--- src/edge.rt:102:22
 enum-known-g : tie.Need-enum-known-g
 enum-known-g c = search needs
 
--- src/edge.rt:103:13
 push-requires : tie.Need-push-requires
 push-requires c κs = search needs
 
--- src/edge.rt:107:24
 add-t17 : tie.Need-add-t17
 add-t17 c = search needs
 
--- src/edge.rt:93:1
 same-length : tie.Need-same-length
 same-length c = search needs
 
--- src/edge.rt:93:1
 returns-2 : tie.Need-returns-2
 unfolding edge-res
 returns-2 c = λ s names h g.
     check-yes _ _ (eq-eqb _ _ (sym (c .before .before .before .before .before .before .before .field-count .ensures) ∙ c .before .before .before .before .before .if1 .left ∙ c .before .before .before .before .before .before .field-count2 .ensures))
     ∙ then-fail _ (edge-fail _ (sym (edges-held h _ _) ∙ sym (c .before .before .before .judged .ensures) ∙ ap edge-res (c .before .k .given .1)))
 
--- src/edge.rt:93:1
 same-length-2 : tie.Need-same-length-2
 same-length-2 c = search needs
 
--- src/edge.rt:93:1
 returns-3 : tie.Need-returns-3
 unfolding edge-res
 returns-3 c = λ s names h g.
     let r = edge-ok _ _ (sym (edges-held h _ _) ∙ sym (c .before .before .before .before .before .before .before .judged .ensures) ∙ ap edge-res (c .before .before .before .before .before .g .given .1)) in
     record {
-      nothing-read = with-edge s (r .edge);
+      read = with-edge s (r .edge);
       is = check-yes _ _ (eq-eqb _ _ (sym (c .before .before .before .before .before .before .before .before .before .before .before .field-count .ensures) ∙ c .before .before .before .before .before .before .before .before .before .if1 .left ∙ c .before .before .before .before .before .before .before .before .before .before .field-count2 .ensures)) ∙ then-ok _ (r .is);
       few = record { vars = omega (arith, c .before .before .before .before .before .before .before .before .before .before .before .before .before .pre); locs = omega (arith, c .before .before .before .before .before .before .before .before .before .before .before .before .before .pre); edges = omega (arith, c .before .before .before .before .before .before .before .before .before .before .before .before .before .pre) };
       held = rw (c .before .before .push .ensures) (rows-edge s h (r .edge) _ (r .words) (omega (arith, c .before .before .before .before .before .before .before .before .before .before .before .before .before .pre)));

@@ -1,51 +1,38 @@
-use Rattle.reader.proofs.Judging.{check-no, check-yes}
-use Rattle.reader.specs.Lines.{loc-fields}
-use Rattle.text.specs.Fields.{flagRes}
+-- `reader::location::judged` meets its contract. Assumes nothing.
+use mathlib.Core.Path.{sym, ap, _∙_}
+use borrow.Author.Tests.{not-true, not-false}
+use borrow.Author.Needs.{needs}
 use Rattle.semantics.specs.Reading.{kind-field}
 use Rattle.semantics.specs.Text.{name-ok}
-use borrow.Author.Tests.{not-true, not-false}
-use mathlib.Core.Path.{_≡_, refl, sym, ap, _∙_}
-use borrow.Author.Needs.{needs}
+use Rattle.text.specs.Fields.{flagRes}
+use Rattle.reader.specs.Lines.{loc-fields}
+use Rattle.reader.proofs.Judging.{check-no, check-yes}
 use Rattle.reader.proofs.location.judged.Statement.{statement}
 use Rattle.reader.proofs.location.judged.Tie as tie
-use Rattle.reader.proofs.location.judged.Reads as reads
-use Rattle.reader.proofs.location.judged.Lts as lts
-use Rattle.reader.proofs.tally.filled.Reads as filled-reads
-use Rattle.text.proofs.field.Reads as field-reads
-use Rattle.text.proofs.kind_field.Reads as kind-field-reads
-use Rattle.text.proofs.name_ok.Reads as name-ok-reads
 
--- src/location.rt:19:9
 filled-requires : tie.Need-filled-requires
 filled-requires c κs = search needs
 
--- src/location.rt:20:9
 returns : tie.Need-returns
 unfolding flagRes loc-fields
 returns c = sym (check-no _ _ (sym (c .before .filled .ensures) ∙ not-true _ (c .if1 .taken)))
 
--- src/location.rt:22:23
 field-requires : tie.Need-field-requires
 field-requires c κs = search needs
 
--- src/location.rt:22:9
 name-ok-requires : tie.Need-name-ok-requires
 name-ok-requires c κs = search needs
 
--- src/location.rt:23:9
 returns-2 : tie.Need-returns-2
 unfolding flagRes loc-fields
 returns-2 c = sym (check-yes _ _ (sym (c .before .before .before .before .filled .ensures) ∙ not-false _ (c .before .before .before .if1 .left)) ∙ check-no _ _ (ap name-ok (sym (c .before .before .field .ensures)) ∙ sym (c .before .name-ok .ensures) ∙ not-true _ (c .if2 .taken)))
 
--- src/location.rt:25:22
 field-requires-2 : tie.Need-field-requires-2
 field-requires-2 c κs = search needs
 
--- src/location.rt:25:5
 kind-field-requires : tie.Need-kind-field-requires
 kind-field-requires c κs = search needs
 
--- src/location.rt:16:1
 returns-3 : tie.Need-returns-3
 unfolding loc-fields
 returns-3 c = c .kind-field .ensures ∙ ap kind-field (c .before .field2 .ensures) ∙ sym (check-yes _ _ (sym (c .before .before .before .before .before .before .filled .ensures) ∙ not-false _ (c .before .before .before .before .before .if1 .left)) ∙ check-yes _ _ (ap name-ok (sym (c .before .before .before .before .field .ensures)) ∙ sym (c .before .before .before .name-ok .ensures) ∙ not-false _ (c .before .before .if2 .left)))

@@ -1,59 +1,44 @@
+-- `reader::location::named` meets its contract. Assumes nothing.
+use mathlib.Core.Path.{sym, _∙_}
+use native.Mathlib.Omega.{arith}
+use denote.Ref.{now}
+use borrow.Author.Needs.{needs}
+use Rattle.semantics.specs.Reading.{with-loc}
 use Rattle.reader.proofs.Growing.{name-held, rows-loc}
 use Rattle.reader.proofs.Judging.{check-no, check-yes, not-no, not-yes}
-use Rattle.reader.specs.Held.{Few, Rows, Gone}
-use Rattle.semantics.specs.Reading.{with-loc}
-use denote.Ref.{now}
-use native.Mathlib.Omega.{arith}
-use mathlib.Core.Path.{_≡_, refl, sym, ap, _∙_}
-use borrow.Author.Needs.{needs}
 use Rattle.reader.proofs.location.named.Statement.{statement}
 use Rattle.reader.proofs.location.named.Tie as tie
-use Rattle.reader.proofs.location.named.Reads as reads
-use Rattle.reader.proofs.location.named.Lts as lts
-use Rattle.reader.proofs.rows.name_seen.Reads as name-seen-reads
-use Rattle.reader.proofs.rows.push_location.Reads as push-location-reads
-use Rattle.reader.proofs.tally.used.Reads as used-reads
 
--- src/location.rt:20:31
 mul-name-seen : tie.Need-mul-name-seen
 mul-name-seen c = search needs
 
--- src/location.rt:20:31
 add-name-seen : tie.Need-add-name-seen
 add-name-seen c = search needs
 
--- src/location.rt:20:8
 name-seen-requires : tie.Need-name-seen-requires
 name-seen-requires c κs = search needs
 
--- src/location.rt:21:9
 same-length : tie.Need-same-length
 same-length c = search needs
 
--- src/location.rt:21:9
 returns : tie.Need-returns
 returns c = λ s names h g o. check-no _ _ (not-no (sym (name-held h (now (c .before .before .before .before .before .args .name)) o) ∙ sym (c .before .name-seen .ensures) ∙ c .if1 .taken))
 
--- src/location.rt:23:9
 used-requires : tie.Need-used-requires
 used-requires c κs = search needs
 
--- src/location.rt:24:5
 push-location-requires : tie.Need-push-location-requires
 push-location-requires c κs = search needs
 
--- src/location.rt:27:15
 add-t9 : tie.Need-add-t9
 add-t9 c = search needs
 
--- src/location.rt:16:1
 same-length-2 : tie.Need-same-length-2
 same-length-2 c = search needs
 
--- src/location.rt:16:1
 returns-2 : tie.Need-returns-2
 returns-2 c = λ s names h g o. record {
-  nothing-read = with-loc s (record { name = now (c .before .before .before .before .before .before .before .before .before .before .args .name); error = c .before .before .before .before .before .before .before .before .before .before .args .error });
+  read = with-loc s (record { name = now (c .before .before .before .before .before .before .before .before .before .before .args .name); error = c .before .before .before .before .before .before .before .before .before .before .args .error });
   is = check-yes _ _ (not-yes (sym (name-held h (now (c .before .before .before .before .before .before .before .before .before .before .args .name)) o) ∙ sym (c .before .before .before .before .before .before .name-seen .ensures) ∙ c .before .before .before .before .before .if1 .left));
   few = record { vars = omega arith; locs = omega arith; edges = omega arith };
   held = rw (c .before .before .push-location .ensures, c .before .before .before .before .used .ensures) (rows-loc s h (now (c .before .before .before .before .before .before .before .before .before .before .args .name)) (c .before .before .before .before .before .before .before .before .before .before .args .error) o (omega arith) (omega arith));

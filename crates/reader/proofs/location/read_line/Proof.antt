@@ -1,61 +1,46 @@
+-- `reader::location::read_line` meets its contract. Assumes nothing.
+use mathlib.Core.Path.{sym, ap, _∙_}
+use native.Mathlib.Omega.{arith}
+use denote.Ref.{now}
+use borrow.Author.Needs.{needs}
+use Rattle.semantics.specs.Text.{name-ok, fields}
+use Rattle.text.specs.Fields.{flagRes}
 use Rattle.reader.proofs.Reading.{loc-late, loc-full, loc-read, loc-name-ok}
 use Rattle.reader.proofs.Holding.{none-empty-list, some-list}
 use Rattle.reader.proofs.Judging.{then-fail, then-ok}
-use Rattle.reader.specs.Held.{Rows}
-use Rattle.text.specs.Fields.{flagRes}
-use Rattle.semantics.specs.Text.{name-ok, fields}
-use denote.Ref.{now}
-use native.Mathlib.Omega.{arith}
-use mathlib.Core.Path.{_≡_, refl, sym, ap, _∙_}
-use borrow.Author.Needs.{needs}
 use Rattle.reader.proofs.location.read_line.Statement.{statement}
 use Rattle.reader.proofs.location.read_line.Tie as tie
-use Rattle.reader.proofs.location.read_line.Reads as reads
-use Rattle.reader.proofs.location.read_line.Lts as lts
-use Rattle.reader.proofs.location.judged.Reads as judged-reads
-use Rattle.reader.proofs.location.named.Reads as named-reads
-use Rattle.text.proofs.field.Reads as field-reads
 
--- src/location.rt:50:9
 returns : tie.Need-returns
 returns c = λ s names h g. loc-late s _ (some-list (s .chart .edges) (omega (arith, h .edges, c .if1 .taken)))
 
--- src/location.rt:53:9
 returns-2 : tie.Need-returns-2
 returns-2 c = λ s names h g. loc-full s _ (none-empty-list (s .chart .edges) (omega (arith, h .edges, c .before .before .if1 .left))) (omega (arith, h .locs, c .if2 .taken))
 
--- src/location.rt:55:11
 judged-requires : tie.Need-judged-requires
 judged-requires c κs = search needs
 
--- src/location.rt:56:29
 enum-known-k : tie.Need-enum-known-k
 enum-known-k c = search needs
 
--- src/location.rt:57:24
 enum-known-error : tie.Need-enum-known-error
 enum-known-error c = search needs
 
--- src/location.rt:57:57
 field-requires : tie.Need-field-requires
 field-requires c κs = search needs
 
--- src/location.rt:57:34
 named-requires : tie.Need-named-requires
 named-requires c κs = search needs
 
--- src/location.rt:45:1
 returns-3 : tie.Need-returns-3
 unfolding flagRes
 returns-3 c = λ s names h g.
     loc-read s _ (none-empty-list (s .chart .edges) (omega (arith, h .edges, c .before .before .before .before .before .before .if1 .left))) (omega (arith, h .locs, c .before .before .before .before .if2 .left))
     ∙ then-fail _ (sym (c .before .before .before .judged .ensures) ∙ ap flagRes (c .before .k .given .1))
 
--- src/location.rt:45:1
 same-length : tie.Need-same-length
 same-length c = search needs
 
--- src/location.rt:45:1
 returns-4 : tie.Need-returns-4
 unfolding flagRes
 returns-4 c = λ s names h g.

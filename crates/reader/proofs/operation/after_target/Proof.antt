@@ -1,93 +1,68 @@
-use Rattle.reader.proofs.Wording.{skip-said}
+-- `reader::operation::after_target` meets its contract. Assumes nothing.
+use mathlib.Core.Path.{_∙_}
+use borrow.Author.Needs.{needs}
 use Rattle.reader.specs.Lines.{after-target}
 use Rattle.reader.specs.Answers.{the-word}
-use mathlib.Core.Path.{_≡_, refl, sym, ap, _∙_}
-use borrow.Author.Needs.{needs}
+use Rattle.reader.proofs.Wording.{skip-said}
 use Rattle.reader.proofs.operation.after_target.Statement.{statement}
 use Rattle.reader.proofs.operation.after_target.Tie as tie
-use Rattle.reader.proofs.operation.after_target.Reads as reads
-use Rattle.reader.proofs.operation.after_target.Lts as lts
-use Rattle.reader.proofs.operation.bounds.Reads as bounds-reads
-use Rattle.reader.proofs.operation.condition.Reads as condition-reads
-use Rattle.reader.proofs.operation.one_argument.Reads as one-argument-reads
-use Rattle.reader.proofs.operation.two_arguments.Reads as two-arguments-reads
-use Rattle.reader.proofs.operation.unchanged.Reads as unchanged-reads
-use Rattle.text.proofs.field.Reads as field-reads
 
--- src/operation.rt:204:55
 enum-told : tie.Need-enum-told
 enum-told c = search needs
 
--- src/operation.rt:204:55
 field-requires : tie.Need-field-requires
 field-requires c κs = search needs
 
--- src/operation.rt:204:30
 one-argument-requires : tie.Need-one-argument-requires
 one-argument-requires c κs = search needs
 
--- src/operation.rt:205:30
 enum-told-2 : tie.Need-enum-told-2
 enum-told-2 c = search needs
 
--- src/operation.rt:205:30
 two-arguments-requires : tie.Need-two-arguments-requires
 two-arguments-requires c κs = search needs
 
--- src/operation.rt:206:30
 enum-told-3 : tie.Need-enum-told-3
 enum-told-3 c = search needs
 
--- src/operation.rt:206:30
 two-arguments-requires-2 : tie.Need-two-arguments-requires-2
 two-arguments-requires-2 c κs = search needs
 
--- src/operation.rt:207:29
 enum-told-4 : tie.Need-enum-told-4
 enum-told-4 c = search needs
 
--- src/operation.rt:207:29
 bounds-requires : tie.Need-bounds-requires
 bounds-requires c κs = search needs
 
--- src/operation.rt:208:29
 enum-told-5 : tie.Need-enum-told-5
 enum-told-5 c = search needs
 
--- src/operation.rt:208:29
 condition-requires : tie.Need-condition-requires
 condition-requires c κs = search needs
 
--- src/operation.rt:209:14
 unchanged-requires : tie.Need-unchanged-requires
 unchanged-requires c κs = search needs
 
--- src/operation.rt:199:1
 returns : tie.Need-returns
 unfolding the-word after-target
 returns c = rw (c .before .before .enum-told .given .1) (c .one-argument .ensures ∙ rw (c .before .field .ensures))
 
--- src/operation.rt:199:1
 returns-2 : tie.Need-returns-2
 unfolding the-word after-target
 returns-2 c = rw (c .before .enum-told2 .given .1) (c .two-arguments .ensures)
 
--- src/operation.rt:199:1
 returns-3 : tie.Need-returns-3
 unfolding the-word after-target
 returns-3 c = rw (c .before .enum-told3 .given .1) (c .two-arguments2 .ensures)
 
--- src/operation.rt:199:1
 returns-4 : tie.Need-returns-4
 unfolding the-word after-target
 returns-4 c = rw (c .before .enum-told4 .given .1) (c .bounds .ensures)
 
--- src/operation.rt:199:1
 returns-5 : tie.Need-returns-5
 unfolding the-word after-target
 returns-5 c = rw (c .before .enum-told5 .given .1) (c .condition .ensures)
 
--- src/operation.rt:199:1
 returns-6 : tie.Need-returns-6
 unfolding after-target
 returns-6 c = rw (skip-said (c .before .before .before .args .w) (c .before .match .keys6)) (c .unchanged .ensures)

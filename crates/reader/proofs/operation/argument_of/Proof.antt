@@ -1,38 +1,30 @@
-use Rattle.reader.proofs.Judging.{then-fail, then-ok, operand-below}
-use Rattle.reader.specs.Lines.{argument-read}
-use Rattle.reader.specs.Answers.{argument-res}
-use Rattle.text.specs.Fields.{operandRes}
+-- `reader::operation::argument_of` meets its contract. Assumes nothing.
+use mathlib.Core.Path.{_≡_, sym, ap, _∙_}
 use Prim.Native.Nat.{_<_}
+use native.Mathlib.Omega.{arith}
+use denote.Ref.{now}
 use mir.Syntax.{w32}
 use mir.Val.{toZ, ofZ}
-use denote.Ref.{now}
-use native.Mathlib.Omega.{arith}
-use mathlib.Core.Path.{_≡_, refl, sym, ap, _∙_}
 use borrow.Author.Needs.{needs}
+use Rattle.text.specs.Fields.{operandRes}
+use Rattle.reader.specs.Lines.{argument-read}
+use Rattle.reader.specs.Answers.{argument-res}
+use Rattle.reader.proofs.Judging.{then-fail, then-ok, operand-below}
 use Rattle.reader.proofs.operation.argument_of.Statement.{statement}
 use Rattle.reader.proofs.operation.argument_of.Tie as tie
-use Rattle.reader.proofs.operation.argument_of.Reads as reads
-use Rattle.reader.proofs.operation.argument_of.Lts as lts
-use Rattle.reader.proofs.operation.index_word.Reads as index-word-reads
-use Rattle.text.proofs.operand_field.Reads as operand-field-reads
 
--- src/operation.rt:48:11
 operand-field-requires : tie.Need-operand-field-requires
 operand-field-requires c κs = search needs
 
--- src/operation.rt:49:32
 enum-known-k : tie.Need-enum-known-k
 enum-known-k c = search needs
 
--- src/operation.rt:50:31
 enum-known-z : tie.Need-enum-known-z
 enum-known-z c = search needs
 
--- src/operation.rt:51:28
 enum-known-v : tie.Need-enum-known-v
 enum-known-v c = search needs
 
--- src/operation.rt:51:50
 index-word-requires : tie.Need-index-word-requires
 unfolding operandRes
 index-word-requires c κs = let a = c .before .before .before .before .before .args in
@@ -40,19 +32,16 @@ index-word-requires c κs = let a = c .before .before .before .before .before .a
     let g : c .before .v .given .0 .0 < 1000 = omega arith in
     g
 
--- src/operation.rt:44:1
 returns : tie.Need-returns
 unfolding argument-res argument-read operandRes
 returns c = sym (then-fail _ (sym (c .before .before .before .operand-field .ensures) ∙ ap operandRes (c .before .k .given .1)))
 
--- src/operation.rt:44:1
 returns-2 : tie.Need-returns-2
 unfolding argument-res argument-read operandRes
 returns-2 c = let z = c .before .z .given .0 .0 in
     let p : toZ w32 (ofZ w32 z) ≡ z = search needs in
     rw p (sym (then-ok _ (sym (c .before .before .before .operand-field .ensures) ∙ ap operandRes (c .before .z .given .1))))
 
--- src/operation.rt:44:1
 returns-3 : tie.Need-returns-3
 unfolding argument-res argument-read operandRes
 returns-3 c = let p : toZ w32 (ofZ w32 (c .index-word .result)) ≡ c .index-word .result = search needs in

@@ -1,69 +1,54 @@
-use Rattle.reader.specs.Answers.{the-rel}
+-- `reader::operation::code_of` meets its contract. Assumes nothing.
 use borrow.Author.Needs.{needs}
+use Rattle.reader.specs.Answers.{the-rel}
 use Rattle.reader.proofs.operation.code_of.Statement.{statement}
 use Rattle.reader.proofs.operation.code_of.Tie as tie
-use Rattle.reader.proofs.operation.code_of.Reads as reads
-use Rattle.reader.proofs.operation.code_of.Lts as lts
 
--- src/operation.rt:165:39
 enum-told : tie.Need-enum-told
 enum-told c = search needs
 
--- src/operation.rt:166:31
 enum-told-2 : tie.Need-enum-told-2
 enum-told-2 c = search needs
 
--- src/operation.rt:167:31
 enum-told-3 : tie.Need-enum-told-3
 enum-told-3 c = search needs
 
--- src/operation.rt:168:31
 enum-told-4 : tie.Need-enum-told-4
 enum-told-4 c = search needs
 
--- src/operation.rt:169:31
 enum-told-5 : tie.Need-enum-told-5
 enum-told-5 c = search needs
 
--- src/operation.rt:170:31
 enum-told-6 : tie.Need-enum-told-6
 enum-told-6 c = search needs
 
--- src/operation.rt:171:31
 enum-told-7 : tie.Need-enum-told-7
 enum-told-7 c = search needs
 
--- src/operation.rt:161:1
 returns : tie.Need-returns
 unfolding the-rel
 returns c = simp (c .enum-told .given .1)
 
--- src/operation.rt:161:1
 returns-2 : tie.Need-returns-2
 unfolding the-rel
 returns-2 c = simp (c .enum-told2 .given .1)
 
--- src/operation.rt:161:1
 returns-3 : tie.Need-returns-3
 unfolding the-rel
 returns-3 c = simp (c .enum-told3 .given .1)
 
--- src/operation.rt:161:1
 returns-4 : tie.Need-returns-4
 unfolding the-rel
 returns-4 c = simp (c .enum-told4 .given .1)
 
--- src/operation.rt:161:1
 returns-5 : tie.Need-returns-5
 unfolding the-rel
 returns-5 c = simp (c .enum-told5 .given .1)
 
--- src/operation.rt:161:1
 returns-6 : tie.Need-returns-6
 unfolding the-rel
 returns-6 c = simp (c .enum-told6 .given .1)
 
--- src/operation.rt:161:1
 returns-7 : tie.Need-returns-7
 unfolding the-rel
 returns-7 c = simp (c .enum-told7 .given .1)

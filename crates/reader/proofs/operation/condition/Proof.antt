@@ -1,51 +1,38 @@
-use Rattle.reader.proofs.Wording.{rel-said}
-use Rattle.reader.proofs.Judging.{then-fail, then-ok}
-use Rattle.reader.specs.Answers.{op-res}
-use Rattle.text.specs.Fields.{relRes}
-use Rattle.semantics.specs.Reading.{rel-field}
+-- `reader::operation::condition` meets its contract. Assumes nothing.
+use mathlib.Core.Path.{_≡_, sym, ap, _∙_}
 use mir.Syntax.{w32}
 use mir.Val.{toZ, ofZ}
-use mathlib.Core.Path.{_≡_, refl, sym, ap, _∙_}
 use borrow.Author.Needs.{needs}
+use Rattle.semantics.specs.Reading.{rel-field}
+use Rattle.text.specs.Fields.{relRes}
+use Rattle.reader.specs.Answers.{op-res}
+use Rattle.reader.proofs.Wording.{rel-said}
+use Rattle.reader.proofs.Judging.{then-fail, then-ok}
 use Rattle.reader.proofs.operation.condition.Statement.{statement}
 use Rattle.reader.proofs.operation.condition.Tie as tie
-use Rattle.reader.proofs.operation.condition.Reads as reads
-use Rattle.reader.proofs.operation.condition.Lts as lts
-use Rattle.reader.proofs.operation.code_of.Reads as code-of-reads
-use Rattle.reader.proofs.operation.one_argument.Reads as one-argument-reads
-use Rattle.text.proofs.field.Reads as field-reads
-use Rattle.text.proofs.rel_field.Reads as rel-field-reads
 
--- src/operation.rt:179:29
 field-requires : tie.Need-field-requires
 field-requires c κs = search needs
 
--- src/operation.rt:179:9
 rel-field-requires : tie.Need-rel-field-requires
 rel-field-requires c κs = search needs
 
--- src/operation.rt:181:33
 enum-known-r : tie.Need-enum-known-r
 enum-known-r c = search needs
 
--- src/operation.rt:182:27
 code-of-requires : tie.Need-code-of-requires
 code-of-requires c κs = search needs
 
--- src/operation.rt:182:48
 field-requires-2 : tie.Need-field-requires-2
 field-requires-2 c κs = search needs
 
--- src/operation.rt:182:14
 one-argument-requires : tie.Need-one-argument-requires
 one-argument-requires c κs = search needs
 
--- src/operation.rt:175:1
 returns : tie.Need-returns
 unfolding op-res relRes
 returns c = sym (then-fail _ (ap rel-field (sym (c .before .before .before .before .field .ensures)) ∙ sym (c .before .before .before .rel-field .ensures) ∙ ap relRes (c .before .r .given .1)))
 
--- src/operation.rt:175:1
 returns-2 : tie.Need-returns-2
 returns-2 c = let p : toZ w32 (ofZ w32 (c .before .before .code-of .result)) ≡ c .before .before .code-of .result = search needs in
     c .one-argument .ensures ∙ rw (p, c .before .before .code-of .ensures, c .before .field2 .ensures)

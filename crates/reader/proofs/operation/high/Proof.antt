@@ -1,39 +1,29 @@
-use Rattle.reader.proofs.Judging.{then-fail, then-ok, check-no, check-yes}
-use Rattle.reader.specs.Answers.{op-res}
-use Rattle.text.specs.Fields.{wordRes}
+-- `reader::operation::high` meets its contract. Assumes nothing.
+use mathlib.Core.Path.{_≡_, sym, ap, _∙_}
 use mir.Syntax.{w32}
 use mir.Val.{toZ, ofZ}
-use mathlib.Core.Path.{_≡_, refl, sym, ap, _∙_}
 use borrow.Author.Needs.{needs}
+use Rattle.text.specs.Fields.{wordRes}
+use Rattle.reader.specs.Answers.{op-res}
+use Rattle.reader.proofs.Judging.{then-fail, then-ok, check-no, check-yes}
 use Rattle.reader.proofs.operation.high.Statement.{statement}
 use Rattle.reader.proofs.operation.high.Tie as tie
-use Rattle.reader.proofs.operation.high.Reads as reads
-use Rattle.reader.proofs.operation.high.Lts as lts
-use Rattle.reader.proofs.operation.index_word.Reads as index-word-reads
-use Rattle.reader.proofs.operation.up_to.Reads as up-to-reads
-use Rattle.text.proofs.number_field.Reads as number-field-reads
 
--- src/operation.rt:127:11
 number-field-requires : tie.Need-number-field-requires
 number-field-requires c κs = search needs
 
--- src/operation.rt:128:29
 enum-known-k : tie.Need-enum-known-k
 enum-known-k c = search needs
 
--- src/operation.rt:129:24
 enum-known-q : tie.Need-enum-known-q
 enum-known-q c = search needs
 
--- src/operation.rt:130:16
 up-to-requires : tie.Need-up-to-requires
 up-to-requires c κs = search needs
 
--- src/operation.rt:133:29
 index-word-requires : tie.Need-index-word-requires
 index-word-requires c κs = search needs
 
--- src/operation.rt:131:17
 returns : tie.Need-returns
 unfolding op-res wordRes
 returns c = let a = c .before .before .before .before .before .before .before .before .args in
@@ -43,12 +33,10 @@ returns c = let a = c .before .before .before .before .before .before .before .b
     let r : toZ w32 (ofZ w32 (c .index-word .result)) ≡ c .index-word .result = search needs in
     rw (p, q, r, c .index-word .ensures) (sym (then-ok _ (sym (c .before .before .before .before .before .before .number-field .ensures) ∙ ap wordRes (c .before .before .before .before .q .given .1)) ∙ check-yes _ _ (sym (rw (p, q) at (c .before .before .up-to .ensures)) ∙ c .before .if1 .taken)))
 
--- src/operation.rt:123:1
 returns-2 : tie.Need-returns-2
 unfolding op-res wordRes
 returns-2 c = sym (then-fail _ (sym (c .before .before .before .number-field .ensures) ∙ ap wordRes (c .before .k .given .1)))
 
--- src/operation.rt:123:1
 returns-3 : tie.Need-returns-3
 unfolding op-res wordRes
 returns-3 c = let a = c .before .before .before .before .before .before .before .args in

@@ -1,38 +1,29 @@
-use Rattle.reader.proofs.Reading.{one-fail, one-ok}
-use Rattle.reader.specs.Answers.{argument-res, op-res}
+-- `reader::operation::one_argument` meets its contract. Assumes nothing.
+use mathlib.Core.Path.{_≡_, sym, ap, _∙_}
 use mir.Syntax.{w32}
 use mir.Val.{toZ, ofZ}
-use mathlib.Core.Path.{_≡_, refl, sym, ap, _∙_}
 use borrow.Author.Needs.{needs}
+use Rattle.reader.specs.Answers.{argument-res, op-res}
+use Rattle.reader.proofs.Reading.{one-fail, one-ok}
 use Rattle.reader.proofs.operation.one_argument.Statement.{statement}
 use Rattle.reader.proofs.operation.one_argument.Tie as tie
-use Rattle.reader.proofs.operation.one_argument.Reads as reads
-use Rattle.reader.proofs.operation.one_argument.Lts as lts
-use Rattle.reader.proofs.operation.argument_of.Reads as argument-of-reads
-use Rattle.reader.proofs.operation.index_word.Reads as index-word-reads
 
--- src/operation.rt:59:11
 argument-of-requires : tie.Need-argument-of-requires
 argument-of-requires c κs = search needs
 
--- src/operation.rt:60:27
 enum-known-k : tie.Need-enum-known-k
 enum-known-k c = search needs
 
--- src/operation.rt:61:22
 enum-known-t : tie.Need-enum-known-t
 enum-known-t c = search needs
 
--- src/operation.rt:63:21
 index-word-requires : tie.Need-index-word-requires
 index-word-requires c κs = search needs
 
--- src/operation.rt:55:1
 returns : tie.Need-returns
 unfolding op-res argument-res
 returns c = sym (one-fail _ _ _ (sym (c .before .before .before .argument-of .ensures) ∙ ap argument-res (c .before .k .given .1)))
 
--- src/operation.rt:55:1
 returns-2 : tie.Need-returns-2
 unfolding op-res argument-res
 returns-2 c = let a = c .before .before .before .before .before .before .args in

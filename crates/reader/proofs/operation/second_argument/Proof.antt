@@ -1,38 +1,29 @@
-use Rattle.reader.proofs.Reading.{second-fail, second-ok}
-use Rattle.reader.specs.Answers.{argument-res, op-res}
+-- `reader::operation::second_argument` meets its contract. Assumes nothing.
+use mathlib.Core.Path.{_≡_, sym, ap, _∙_}
 use mir.Syntax.{w32}
 use mir.Val.{toZ, ofZ}
-use mathlib.Core.Path.{_≡_, refl, sym, ap, _∙_}
 use borrow.Author.Needs.{needs}
+use Rattle.reader.specs.Answers.{argument-res, op-res}
+use Rattle.reader.proofs.Reading.{second-fail, second-ok}
 use Rattle.reader.proofs.operation.second_argument.Statement.{statement}
 use Rattle.reader.proofs.operation.second_argument.Tie as tie
-use Rattle.reader.proofs.operation.second_argument.Reads as reads
-use Rattle.reader.proofs.operation.second_argument.Lts as lts
-use Rattle.reader.proofs.operation.argument_of.Reads as argument-of-reads
-use Rattle.reader.proofs.operation.index_word.Reads as index-word-reads
 
--- src/operation.rt:77:11
 argument-of-requires : tie.Need-argument-of-requires
 argument-of-requires c κs = search needs
 
--- src/operation.rt:78:27
 enum-known-k : tie.Need-enum-known-k
 enum-known-k c = search needs
 
--- src/operation.rt:79:22
 enum-known-u : tie.Need-enum-known-u
 enum-known-u c = search needs
 
--- src/operation.rt:81:21
 index-word-requires : tie.Need-index-word-requires
 index-word-requires c κs = search needs
 
--- src/operation.rt:73:1
 returns : tie.Need-returns
 unfolding op-res argument-res
 returns c = sym (second-fail _ _ _ _ _ (sym (c .before .before .before .argument-of .ensures) ∙ ap argument-res (c .before .k .given .1)))
 
--- src/operation.rt:73:1
 returns-2 : tie.Need-returns-2
 unfolding op-res argument-res
 returns-2 c = let a = c .before .before .before .before .before .before .args in

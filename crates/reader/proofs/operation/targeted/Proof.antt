@@ -1,37 +1,28 @@
-use Rattle.reader.proofs.Judging.{then-fail, then-ok, target-below}
-use Rattle.reader.specs.Answers.{op-res}
-use Rattle.text.specs.Fields.{indexRes}
-use Rattle.semantics.specs.Reading.{target-field}
+-- `reader::operation::targeted` meets its contract. Assumes nothing.
+use mathlib.Core.Path.{sym, ap, _∙_}
 use Prim.Native.Nat.{_<_, _≤_}
-use denote.Ref.{now}
 use native.Mathlib.Omega.{arith}
-use mathlib.Core.Path.{_≡_, refl, sym, ap, _∙_}
+use denote.Ref.{now}
 use borrow.Author.Needs.{needs}
+use Rattle.semantics.specs.Reading.{target-field}
+use Rattle.text.specs.Fields.{indexRes}
+use Rattle.reader.specs.Answers.{op-res}
+use Rattle.reader.proofs.Judging.{then-fail, then-ok, target-below}
 use Rattle.reader.proofs.operation.targeted.Statement.{statement}
 use Rattle.reader.proofs.operation.targeted.Tie as tie
-use Rattle.reader.proofs.operation.targeted.Reads as reads
-use Rattle.reader.proofs.operation.targeted.Lts as lts
-use Rattle.reader.proofs.operation.after_target.Reads as after-target-reads
-use Rattle.text.proofs.field.Reads as field-reads
-use Rattle.text.proofs.target_field.Reads as target-field-reads
 
--- src/operation.rt:217:36
 field-requires : tie.Need-field-requires
 field-requires c κs = search needs
 
--- src/operation.rt:217:11
 target-field-requires : tie.Need-target-field-requires
 target-field-requires c κs = search needs
 
--- src/operation.rt:218:30
 enum-known-k : tie.Need-enum-known-k
 enum-known-k c = search needs
 
--- src/operation.rt:219:25
 enum-known-v : tie.Need-enum-known-v
 enum-known-v c = search needs
 
--- src/operation.rt:219:31
 after-target-requires : tie.Need-after-target-requires
 unfolding indexRes
 after-target-requires c κs = let a = c .before .before .before .before .before .before .args in
@@ -39,12 +30,10 @@ after-target-requires c κs = let a = c .before .before .before .before .before 
     let g : (a .vars ≤ 8) × (c .before .v .given .0 .0 < 1000) = omega arith in
     g
 
--- src/operation.rt:213:1
 returns : tie.Need-returns
 unfolding op-res indexRes
 returns c = sym (then-fail _ (ap (target-field (c .before .before .before .before .before .before .args .vars)) (sym (c .before .before .before .before .field .ensures)) ∙ sym (c .before .before .before .target-field .ensures) ∙ ap indexRes (c .before .k .given .1)))
 
--- src/operation.rt:213:1
 returns-2 : tie.Need-returns-2
 unfolding indexRes
 returns-2 c = c .after-target .ensures ∙ sym (then-ok _ (ap (target-field (c .before .before .before .before .before .before .before .args .vars)) (sym (c .before .before .before .before .before .field .ensures)) ∙ sym (c .before .before .before .before .target-field .ensures) ∙ ap indexRes (c .before .before .v .given .1)))

@@ -1,53 +1,40 @@
-use Rattle.reader.proofs.Reading.{two-fail, two-ok}
-use Rattle.reader.specs.Lines.{argument-read}
-use Rattle.reader.specs.Answers.{argument-res, op-res}
-use Rattle.semantics.specs.Reading.{operand-field}
+-- `reader::operation::two_arguments` meets its contract. Assumes nothing.
+use mathlib.Core.List.{List}
+use mathlib.Core.Path.{_≡_, sym, ap, _∙_}
+use Prim.Native.Nat.{ℕ}
 use mir.Syntax.{w32}
 use mir.Val.{toZ, ofZ}
-use Prim.Native.Nat.{ℕ}
-use mathlib.Core.List.{List}
-use denote.Ref.{now}
-use mathlib.Core.Path.{_≡_, refl, sym, ap, _∙_}
 use borrow.Author.Needs.{needs}
+use Rattle.semantics.specs.Reading.{operand-field}
+use Rattle.reader.specs.Lines.{argument-read}
+use Rattle.reader.specs.Answers.{argument-res, op-res}
+use Rattle.reader.proofs.Reading.{two-fail, two-ok}
 use Rattle.reader.proofs.operation.two_arguments.Statement.{statement}
 use Rattle.reader.proofs.operation.two_arguments.Tie as tie
-use Rattle.reader.proofs.operation.two_arguments.Reads as reads
-use Rattle.reader.proofs.operation.two_arguments.Lts as lts
-use Rattle.reader.proofs.operation.argument_of.Reads as argument-of-reads
-use Rattle.reader.proofs.operation.second_argument.Reads as second-argument-reads
-use Rattle.text.proofs.field.Reads as field-reads
 
--- src/operation.rt:94:29
 field-requires : tie.Need-field-requires
 field-requires c κs = search needs
 
--- src/operation.rt:94:11
 argument-of-requires : tie.Need-argument-of-requires
 argument-of-requires c κs = search needs
 
--- src/operation.rt:95:27
 enum-known-k : tie.Need-enum-known-k
 enum-known-k c = search needs
 
--- src/operation.rt:96:22
 enum-known-t : tie.Need-enum-known-t
 enum-known-t c = search needs
 
--- src/operation.rt:96:68
 field-requires-2 : tie.Need-field-requires-2
 field-requires-2 c κs = search needs
 
--- src/operation.rt:96:31
 second-argument-requires : tie.Need-second-argument-requires
 second-argument-requires c κs = search needs
 
--- src/operation.rt:90:1
 returns : tie.Need-returns
 unfolding op-res argument-res
 returns c = let a = c .before .before .before .before .before .before .args in
     sym (two-fail _ _ _ _ (ap (λ (f : List ℕ). argument-read (operand-field (a .vars) f)) (sym (c .before .before .before .before .field .ensures)) ∙ sym (c .before .before .before .argument-of .ensures) ∙ ap argument-res (c .before .k .given .1)))
 
--- src/operation.rt:90:1
 returns-2 : tie.Need-returns-2
 unfolding argument-res
 returns-2 c = let a = c .before .before .before .before .before .before .before .before .args in

@@ -1,18 +1,14 @@
+-- `reader::operation::up_to` meets its contract. Assumes nothing.
+use mathlib.Core.Path.{_≡_}
 use mir.Syntax.{w32}
 use mir.Val.{toZ, ofZ}
-use mathlib.Core.Path.{_≡_, refl, sym, ap, _∙_}
 use borrow.Author.Needs.{needs}
 use Rattle.reader.proofs.operation.up_to.Statement.{statement}
 use Rattle.reader.proofs.operation.up_to.Tie as tie
-use Rattle.reader.proofs.operation.up_to.Reads as reads
-use Rattle.reader.proofs.operation.up_to.Lts as lts
-use Rattle.reader.proofs.operation.in_range.Reads as in-range-reads
 
--- src/operation.rt:120:5
 in-range-requires : tie.Need-in-range-requires
 in-range-requires c κs = search needs
 
--- src/operation.rt:116:1
 returns : tie.Need-returns
 returns c = let a = c .before .args in
     let p : toZ w32 (ofZ w32 (a .p)) ≡ a .p = search needs in

@@ -1,29 +1,24 @@
-use mir.Facts.{toZ-pos}
-use mir.Syntax.{w32}
+-- `reader::rows::byte_at` meets its contract. Assumes nothing.
+use mathlib.Core.Path.{sym, ap}
+use native.Mathlib.Omega.{arith}
 use lib.ListN.{List·getD-eq-default}
 use lib.IntN.{pos}
 use denote.Ref.{now}
-use native.Mathlib.Omega.{arith}
-use mathlib.Core.Path.{sym, ap}
+use mir.Facts.{toZ-pos}
+use mir.Syntax.{w32}
 use borrow.Author.Needs.{needs}
 use Rattle.reader.proofs.rows.byte_at.Statement.{statement}
 use Rattle.reader.proofs.rows.byte_at.Tie as tie
-use Rattle.reader.proofs.rows.byte_at.Reads as reads
-use Rattle.reader.proofs.rows.byte_at.Lts as lts
 
--- src/rows.rt:15:16
 shared-slice-read-result : tie.Need-shared-slice-read-result
 shared-slice-read-result c = search needs
 
--- src/rows.rt:15:16
 cast-result : tie.Need-cast-result
 cast-result c = record { sfits = omega (arith, c .shared-slice-known .given (c .before .before .args .i)) }
 
--- src/rows.rt:15:9
 returns : tie.Need-returns
 returns c = toZ-pos w32 (omega (arith, c .shared-slice-known .given (c .before .before .args .i)))
 
--- src/rows.rt:11:1
 returns-2 : tie.Need-returns-2
 returns-2 c = ap pos (sym (List·getD-eq-default (now (c .before .args .name)) 0 (c .if1 .left)))
 

@@ -1,21 +1,19 @@
+-- `reader::rows::fill_name` meets its contract. Assumes nothing.
+use mathlib.Core.List.{_++_}
+use mathlib.Core.Path.{_≡_, refl, sym, _∙_}
+use Prim.Native.Nat.{_-_, _≤_}
 use native.Mathlib.Nat.{sub-zero}
-use Rattle.reader.proofs.Storing.{name-turn, name-end}
-use Rattle.reader.specs.Rows.{name-row}
-use mir.Val.{toZ, ofZ}
-use mir.Syntax.{w32}
+use native.Mathlib.Omega.{arith}
 use lib.IntN.{pos}
 use lib.ListN.{length, getD, take, drop, length-set}
 use denote.Ref.{now}
-use native.Mathlib.Omega.{arith}
-use Prim.Native.Nat.{_+_, _-_, _≤_}
-use mathlib.Core.List.{_++_}
-use mathlib.Core.Path.{_≡_, refl, sym, ap, _∙_}
+use mir.Val.{toZ, ofZ}
+use mir.Syntax.{w32}
 use borrow.Author.Needs.{needs}
+use Rattle.reader.specs.Rows.{name-row}
+use Rattle.reader.proofs.Storing.{name-turn, name-end}
 use Rattle.reader.proofs.rows.fill_name.Statement.{statement}
 use Rattle.reader.proofs.rows.fill_name.Tie as tie
-use Rattle.reader.proofs.rows.fill_name.Reads as reads
-use Rattle.reader.proofs.rows.fill_name.Lts as lts
-use Rattle.reader.proofs.rows.byte_at.Reads as byte-at-reads
 
 abbrev Inv-loop : tie.InvT-loop
 Inv-loop row₀ name i₀ row i = (i ≤ length row₀) × (length row ≡ length row₀) × (take i row ++ name-row (length row₀ - i) (drop i name) ≡ name-row (length row₀) name)
@@ -23,31 +21,24 @@ Inv-loop row₀ name i₀ row i = (i ≤ length row₀) × (length row ≡ lengt
 abbrev μ-loop : tie.MeasureT-loop
 μ-loop row₀ name i₀ row i = length row₀ - i
 
--- src/rows.rt:25:5
 loop-holds : tie.Need-loop-holds Inv-loop μ-loop
 loop-holds c = (omega arith, refl, rw sub-zero)
 
--- src/rows.rt:26:18
 byte-at-requires : tie.Need-byte-at-requires Inv-loop μ-loop
 byte-at-requires c κs = search needs
 
--- src/rows.rt:26:9
 mul-t4 : tie.Need-mul-t4 Inv-loop μ-loop
 mul-t4 c = search needs
 
--- src/rows.rt:26:9
 slice-set-from-row : tie.Need-slice-set-from-row Inv-loop μ-loop
 slice-set-from-row c = search needs
 
--- src/rows.rt:27:9
 add-i : tie.Need-add-i Inv-loop μ-loop
 add-i c = search needs
 
--- src/rows.rt:25:5
 loop-less : tie.Need-loop-less Inv-loop μ-loop
 loop-less c = search needs
 
--- src/rows.rt:25:5
 loop-again : tie.Need-loop-again Inv-loop μ-loop
 loop-again c = let l = c .before .before in
     let a = l .before .before .args in
@@ -55,11 +46,9 @@ loop-again c = let l = c .before .before in
     let q : toZ w32 (ofZ w32 r) ≡ pos (getD (now (a .name)) (l .loop .i) 0) = (search needs) ∙ c .byte-at .ensures in
     (omega arith, simp length-set (l .loop .inv .1), rw q (name-turn _ _ _ _ (c .before .loop-test .taken) (l .loop .inv .1) ∙ l .loop .inv .2))
 
--- src/rows.rt:21:1
 same-length : tie.Need-same-length Inv-loop μ-loop
 same-length c = search needs
 
--- src/rows.rt:21:1
 returns : tie.Need-returns Inv-loop μ-loop
 returns c = let l = c .before in sym (sym (l .loop .inv .2) ∙ name-end _ _ _ _ (l .loop .inv .0) (c .loop-test .left) (l .loop .inv .1))
 

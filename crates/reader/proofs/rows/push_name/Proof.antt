@@ -1,47 +1,35 @@
-use Rattle.reader.specs.Rows.{name-row}
+-- `reader::rows::push_name` meets its contract. Assumes nothing.
+use mathlib.Core.Path.{_≡_}
 use Prim.Native.Nat.{_+_, _-_}
 use lib.ListN.{length, take, drop}
 use denote.Ref.{now}
-use Prim.Native.Nat.{ℕ}
-use Rattle.reader.specs.Rows.{stored}
-use Rattle.words.proofs.Rows.{span, part-length}
-use mathlib.Core.Path.{_≡_, refl, sym, ap, _∙_}
 use borrow.Author.Needs.{needs}
+use Rattle.words.proofs.Rows.{span, part-length}
+use Rattle.reader.specs.Rows.{name-row, stored}
 use Rattle.reader.proofs.rows.push_name.Statement.{statement}
 use Rattle.reader.proofs.rows.push_name.Tie as tie
-use Rattle.reader.proofs.rows.push_name.Reads as reads
-use Rattle.reader.proofs.rows.push_name.Lts as lts
-use Rattle.reader.proofs.rows.fill_name.Reads as fill-name-reads
 
--- src/rows.rt:77:15
 add-end : tie.Need-add-end
 add-end c = search needs
 
--- src/rows.rt:78:15
 mul-fill-name : tie.Need-mul-fill-name
 mul-fill-name c = search needs
 
--- src/rows.rt:78:15
 sub-fill-name : tie.Need-sub-fill-name
 sub-fill-name c = search needs
 
--- src/rows.rt:78:15
 part-fill-name-start : tie.Need-part-fill-name-start
 part-fill-name-start c = search needs
 
--- src/rows.rt:78:15
 part-fill-name-end : tie.Need-part-fill-name-end
 part-fill-name-end c = search needs
 
--- src/rows.rt:78:5
 fill-name-requires : tie.Need-fill-name-requires
 fill-name-requires c κs = search needs
 
--- src/rows.rt:73:1
 same-length : tie.Need-same-length
 same-length c = search needs
 
--- src/rows.rt:73:1
 returns : tie.Need-returns
 unfolding stored name-row
 returns c = let a = c .before .before .before .before .args in

@@ -1,24 +1,16 @@
-use native.Mathlib.Nat.{add-zero}
-use Rattle.reader.proofs.Storing.{names-turn, names-end}
-use Rattle.reader.specs.Rows.{names-it}
-use Rattle.words.proofs.Words.{bits-eq, bits-ne}
-use Rattle.semantics.specs.Chart.{eqZ}
-use borrow.Author.Needs.{sfits-of}
-use mir.Syntax.{w32}
-use lib.IntN.{pos}
-use lib.ListN.{length, getD, drop}
-use denote.Ref.{now}
-use native.Mathlib.Omega.{arith}
+-- `reader::rows::same_name` meets its contract. Assumes nothing.
+use mathlib.Core.Path.{_≡_, sym, _∙_}
 use Prim.Native.Nat.{_+_, _-_, _≤_}
-use mathlib.Core.Bool.{Bool, _&&_}
-use mathlib.Core.Path.{_≡_, refl, sym, ap, _∙_}
-use borrow.Author.Needs.{needs}
+use native.Mathlib.Nat.{add-zero}
+use native.Mathlib.Omega.{arith}
+use lib.ListN.{drop}
+use mir.Syntax.{w32}
+use borrow.Author.Needs.{sfits-of, needs}
+use Rattle.words.proofs.Words.{bits-eq, bits-ne}
+use Rattle.reader.specs.Rows.{names-it}
+use Rattle.reader.proofs.Storing.{names-turn, names-end}
 use Rattle.reader.proofs.rows.same_name.Statement.{statement}
 use Rattle.reader.proofs.rows.same_name.Tie as tie
-use Rattle.reader.proofs.rows.same_name.Reads as reads
-use Rattle.reader.proofs.rows.same_name.Lts as lts
-use Rattle.reader.proofs.rows.byte_at.Reads as byte-at-reads
-use Rattle.words.proofs.word_at.Reads as word-at-reads
 
 abbrev Inv-loop : tie.InvT-loop
 Inv-loop rows at name i₀ i = (i ≤ 16) × (names-it 16 (drop at rows) name ≡ names-it (16 - i) (drop (at + i) rows) (drop i name))
@@ -26,37 +18,29 @@ Inv-loop rows at name i₀ i = (i ≤ 16) × (names-it 16 (drop at rows) name �
 abbrev μ-loop : tie.MeasureT-loop
 μ-loop rows at name i₀ i = 16 - i
 
--- src/rows.rt:37:5
 loop-holds : tie.Need-loop-holds Inv-loop μ-loop
 loop-holds c = (omega arith, rw add-zero)
 
--- src/rows.rt:38:33
 add-word-at : tie.Need-add-word-at Inv-loop μ-loop
 add-word-at c = search needs
 
--- src/rows.rt:38:12
 word-at-requires : tie.Need-word-at-requires Inv-loop μ-loop
 word-at-requires c κs = search needs
 
--- src/rows.rt:38:44
 byte-at-requires : tie.Need-byte-at-requires Inv-loop μ-loop
 byte-at-requires c κs = search needs
 
--- src/rows.rt:39:13
 returns : tie.Need-returns Inv-loop μ-loop
 returns c = let l = c .before .before .before .before in
     sym (l .loop .inv .1 ∙ names-turn _ _ _ _ (c .before .before .before .loop-test .taken)
     ∙ rw (sym (c .before .before .word-at .ensures), sym (c .before .byte-at .ensures), bits-ne w32 {a = c .before .before .word-at .result} {b = c .before .byte-at .result} (sfits-of {z = c .before .before .word-at .result} (c .before .before .word-at .ok)) (sfits-of {z = c .before .byte-at .result} (c .before .byte-at .ok)) (c .if1 .taken)))
 
--- src/rows.rt:41:9
 add-i : tie.Need-add-i Inv-loop μ-loop
 add-i c = search needs
 
--- src/rows.rt:37:5
 loop-less : tie.Need-loop-less Inv-loop μ-loop
 loop-less c = search needs
 
--- src/rows.rt:37:5
 loop-again : tie.Need-loop-again Inv-loop μ-loop
 loop-again c = let l = c .before .before .before .before in (
   omega arith,
@@ -64,7 +48,6 @@ loop-again c = let l = c .before .before .before .before in (
       ∙ rw (sym (c .before .before .word-at .ensures), sym (c .before .byte-at .ensures), bits-eq w32 {a = c .before .before .word-at .result} {b = c .before .byte-at .result} (sfits-of {z = c .before .before .word-at .result} (c .before .before .word-at .ok)) (sfits-of {z = c .before .byte-at .result} (c .before .byte-at .ok)) (c .if1 .left)),
 )
 
--- src/rows.rt:32:1
 returns-2 : tie.Need-returns-2 Inv-loop μ-loop
 returns-2 c = sym (c .before .loop .inv .1 ∙ names-end _ _ _ (omega arith))
 

@@ -1,21 +1,18 @@
-use Rattle.reader.proofs.Scans.{bad-step, bad-stop, bad-end, line-near}
-use Rattle.reader.specs.Faults.{fault-line}
-use Rattle.semantics.specs.Reading.{bad-byte-line}
-use Rattle.semantics.specs.Lists.{pick}
-use borrow.Author.Tests.{not-true, not-false}
+-- `reader::scan::bad_byte` meets its contract. Assumes nothing.
+use mathlib.Core.Path.{_≡_, refl, sym, _∙_}
+use Prim.Native.Nat.{suc, _+_, _-_, _≤_}
+use native.Mathlib.Omega.{arith}
 use lib.ListN.{length, getD, drop}
 use lib.Dec.{eqb}
 use denote.Ref.{now}
-use native.Mathlib.Omega.{arith}
-use Prim.Native.Nat.{suc, _+_, _-_, _≤_}
-use mathlib.Core.Path.{_≡_, refl, sym, ap, _∙_}
+use borrow.Author.Tests.{not-true, not-false}
 use borrow.Author.Needs.{needs}
+use Rattle.semantics.specs.Reading.{bad-byte-line}
+use Rattle.semantics.specs.Lists.{pick}
+use Rattle.reader.specs.Answers.{fault-line}
+use Rattle.reader.proofs.Scans.{bad-step, bad-stop, bad-end, line-near}
 use Rattle.reader.proofs.scan.bad_byte.Statement.{statement}
 use Rattle.reader.proofs.scan.bad_byte.Tie as tie
-use Rattle.reader.proofs.scan.bad_byte.Reads as reads
-use Rattle.reader.proofs.scan.bad_byte.Lts as lts
-use Rattle.reader.proofs.scan.byte_ok.Reads as byte-ok-reads
-use Rattle.reader.proofs.scan.line_after.Reads as line-after-reads
 
 abbrev Inv-loop : tie.InvT-loop
 Inv-loop text n₀ i₀ n i = (i ≤ length text) × (n ≤ i + 1) × (bad-byte-line 1 text ≡ bad-byte-line n (drop i text))
@@ -23,37 +20,29 @@ Inv-loop text n₀ i₀ n i = (i ≤ length text) × (n ≤ i + 1) × (bad-byte-
 abbrev μ-loop : tie.MeasureT-loop
 μ-loop text n₀ i₀ n i = length text - i
 
--- src/scan.rt:38:5
 loop-holds : tie.Need-loop-holds Inv-loop μ-loop
 loop-holds c = (omega arith, omega arith, refl)
 
--- src/scan.rt:39:17
 shared-slice-read-b : tie.Need-shared-slice-read-b Inv-loop μ-loop
 shared-slice-read-b c = search needs
 
--- src/scan.rt:40:13
 byte-ok-requires : tie.Need-byte-ok-requires Inv-loop μ-loop
 byte-ok-requires c κs = search needs
 
--- src/scan.rt:41:13
 returns : tie.Need-returns Inv-loop μ-loop
 unfolding fault-line
 returns c = let k = c .before .before .before in
     sym (k .before .loop .inv .2 ∙ bad-stop _ _ _ (k .loop-test .taken) (sym (c .before .byte-ok .ensures) ∙ not-true _ (c .if1 .taken)))
 
--- src/scan.rt:43:9
 line-after-requires : tie.Need-line-after-requires Inv-loop μ-loop
 line-after-requires c κs = search needs
 
--- src/scan.rt:44:9
 add-i : tie.Need-add-i Inv-loop μ-loop
 add-i c = search needs
 
--- src/scan.rt:38:5
 loop-less : tie.Need-loop-less Inv-loop μ-loop
 loop-less c = search needs
 
--- src/scan.rt:38:5
 loop-again : tie.Need-loop-again Inv-loop μ-loop
 loop-again c = let k = c .before .before .before .before in
     let n = k .before .loop .n in
@@ -61,7 +50,6 @@ loop-again c = let k = c .before .before .before .before in
     let e : c .line-after .result ≡ pick (eqb b 10) (suc n) n = c .line-after .ensures in
     (omega arith, omega (arith, line-near (eqb b 10) n), k .before .loop .inv .2 ∙ bad-step _ _ _ (k .loop-test .taken) (sym (c .before .before .byte-ok .ensures) ∙ not-false _ (c .before .if1 .left)) ∙ rw e)
 
--- src/scan.rt:33:1
 returns-2 : tie.Need-returns-2 Inv-loop μ-loop
 unfolding fault-line
 returns-2 c = sym (c .before .loop .inv .2 ∙ bad-end _ _ _ (c .loop-test .left))

@@ -1,20 +1,17 @@
-use Rattle.reader.proofs.Scans.{open-step, open-end, line-near}
-use Rattle.reader.specs.Faults.{fault-line}
+-- `reader::scan::open_line` meets its contract. Assumes nothing.
+use mathlib.Core.Path.{_≡_, refl, sym, _∙_}
+use Prim.Native.Nat.{suc, _-_, _≤_}
+use native.Mathlib.Omega.{arith}
+use lib.ListN.{length, drop}
+use lib.Dec.{eqb}
+use borrow.Author.Tests.{eq-eqb, ne-eqb}
+use borrow.Author.Needs.{needs}
 use Rattle.semantics.specs.Reading.{open-line}
 use Rattle.semantics.specs.Lists.{pick}
-use borrow.Author.Tests.{eq-eqb, ne-eqb}
-use lib.ListN.{length, getD, drop}
-use lib.Dec.{eqb}
-use denote.Ref.{now}
-use native.Mathlib.Omega.{arith}
-use Prim.Native.Nat.{suc, _+_, _-_, _≤_}
-use mathlib.Core.Path.{_≡_, refl, sym, ap, _∙_}
-use borrow.Author.Needs.{needs}
+use Rattle.reader.specs.Answers.{fault-line}
+use Rattle.reader.proofs.Scans.{open-step, open-end, line-near}
 use Rattle.reader.proofs.scan.open_line.Statement.{statement}
 use Rattle.reader.proofs.scan.open_line.Tie as tie
-use Rattle.reader.proofs.scan.open_line.Reads as reads
-use Rattle.reader.proofs.scan.open_line.Lts as lts
-use Rattle.reader.proofs.scan.line_after.Reads as line-after-reads
 
 abbrev Inv-loop : tie.InvT-loop
 Inv-loop text n₀ last₀ i₀ n last i = (i ≤ length text) × (n ≤ i) × (open-line 0 10 text ≡ open-line n last (drop i text))
@@ -22,39 +19,31 @@ Inv-loop text n₀ last₀ i₀ n last i = (i ≤ length text) × (n ≤ i) × (
 abbrev μ-loop : tie.MeasureT-loop
 μ-loop text n₀ last₀ i₀ n last i = length text - i
 
--- src/scan.rt:56:5
 loop-holds : tie.Need-loop-holds Inv-loop μ-loop
 loop-holds c = (omega arith, omega arith, refl)
 
--- src/scan.rt:57:9
 line-after-requires : tie.Need-line-after-requires Inv-loop μ-loop
 line-after-requires c κs = search needs
 
--- src/scan.rt:58:16
 shared-slice-read-last : tie.Need-shared-slice-read-last Inv-loop μ-loop
 shared-slice-read-last c = search needs
 
--- src/scan.rt:59:9
 add-i : tie.Need-add-i Inv-loop μ-loop
 add-i c = search needs
 
--- src/scan.rt:56:5
 loop-less : tie.Need-loop-less Inv-loop μ-loop
 loop-less c = search needs
 
--- src/scan.rt:56:5
 loop-again : tie.Need-loop-again Inv-loop μ-loop
 loop-again c = let k = c .before .before .before in
     let n = k .loop .n in
     let e : c .before .line-after .result ≡ pick (eqb (k .loop .last) 10) (suc n) n = c .before .line-after .ensures in
     (omega arith, omega (arith, line-near (eqb (k .loop .last) 10) n), k .loop .inv .2 ∙ open-step _ _ _ _ (c .before .before .loop-test .taken) ∙ rw e)
 
--- src/scan.rt:62:9
 returns : tie.Need-returns Inv-loop μ-loop
 unfolding fault-line
 returns c = sym (c .before .before .loop .inv .2 ∙ open-end _ _ _ _ (c .before .loop-test .left) ∙ simp (eq-eqb _ _ (c .if1 .taken)))
 
--- src/scan.rt:50:1
 returns-2 : tie.Need-returns-2 Inv-loop μ-loop
 unfolding fault-line
 returns-2 c = sym (c .before .before .loop .inv .2 ∙ open-end _ _ _ _ (c .before .loop-test .left) ∙ simp (ne-eqb _ _ (c .if1 .left)))

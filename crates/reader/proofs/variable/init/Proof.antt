@@ -1,29 +1,23 @@
-use Rattle.reader.proofs.Judging.{then-fail, then-ok}
-use Rattle.reader.specs.Answers.{var-res}
-use Rattle.text.specs.Fields.{initRes}
+-- `reader::variable::init` meets its contract. Assumes nothing.
+use mathlib.Core.Path.{_≡_, sym, ap, _∙_}
 use mir.Syntax.{w32}
 use mir.Val.{toZ, ofZ}
-use mathlib.Core.Path.{_≡_, refl, sym, ap, _∙_}
 use borrow.Author.Needs.{needs}
+use Rattle.text.specs.Fields.{initRes}
+use Rattle.reader.specs.Answers.{var-res}
+use Rattle.reader.proofs.Judging.{then-fail, then-ok}
 use Rattle.reader.proofs.variable.init.Statement.{statement}
 use Rattle.reader.proofs.variable.init.Tie as tie
-use Rattle.reader.proofs.variable.init.Reads as reads
-use Rattle.reader.proofs.variable.init.Lts as lts
-use Rattle.text.proofs.init_field.Reads as init-field-reads
 
--- src/variable.rt:29:11
 init-field-requires : tie.Need-init-field-requires
 init-field-requires c κs = search needs
 
--- src/variable.rt:30:29
 enum-known-k : tie.Need-enum-known-k
 enum-known-k c = search needs
 
--- src/variable.rt:31:24
 enum-known-x : tie.Need-enum-known-x
 enum-known-x c = search needs
 
--- src/variable.rt:26:1
 returns : tie.Need-returns
 unfolding var-res initRes
 returns c = let a = c .before .before .before .before .before .args in
@@ -31,7 +25,6 @@ returns c = let a = c .before .before .before .before .before .args in
     let q : toZ w32 (ofZ w32 (a .hi)) ≡ a .hi = search needs in
     sym (then-fail _ (sym (rw (p, q) at (c .before .before .before .init-field .ensures)) ∙ ap initRes (c .before .k .given .1)))
 
--- src/variable.rt:26:1
 returns-2 : tie.Need-returns-2
 unfolding var-res initRes
 returns-2 c = let a = c .before .before .before .before .before .args in

@@ -1,46 +1,34 @@
-use Rattle.reader.proofs.Judging.{check-no, check-yes}
+-- `reader::variable::judged` meets its contract. Assumes nothing.
+use mathlib.Core.Path.{sym, ap, _∙_}
+use borrow.Author.Tests.{not-true, not-false}
+use borrow.Author.Needs.{needs}
+use Rattle.semantics.specs.Text.{name-ok}
 use Rattle.reader.specs.Lines.{var-fields}
 use Rattle.reader.specs.Answers.{var-res}
-use Rattle.semantics.specs.Text.{name-ok}
-use borrow.Author.Tests.{not-true, not-false}
-use mathlib.Core.Path.{_≡_, refl, sym, ap, _∙_}
-use borrow.Author.Needs.{needs}
+use Rattle.reader.proofs.Judging.{check-no, check-yes}
 use Rattle.reader.proofs.variable.judged.Statement.{statement}
 use Rattle.reader.proofs.variable.judged.Tie as tie
-use Rattle.reader.proofs.variable.judged.Reads as reads
-use Rattle.reader.proofs.variable.judged.Lts as lts
-use Rattle.reader.proofs.tally.filled.Reads as filled-reads
-use Rattle.reader.proofs.variable.low.Reads as low-reads
-use Rattle.text.proofs.field.Reads as field-reads
-use Rattle.text.proofs.name_ok.Reads as name-ok-reads
 
--- src/variable.rt:71:9
 filled-requires : tie.Need-filled-requires
 filled-requires c κs = search needs
 
--- src/variable.rt:72:9
 returns : tie.Need-returns
 unfolding var-res var-fields
 returns c = sym (check-no _ _ (sym (c .before .filled .ensures) ∙ not-true _ (c .if1 .taken)))
 
--- src/variable.rt:74:23
 field-requires : tie.Need-field-requires
 field-requires c κs = search needs
 
--- src/variable.rt:74:9
 name-ok-requires : tie.Need-name-ok-requires
 name-ok-requires c κs = search needs
 
--- src/variable.rt:75:9
 returns-2 : tie.Need-returns-2
 unfolding var-res var-fields
 returns-2 c = sym (check-yes _ _ (sym (c .before .before .before .before .filled .ensures) ∙ not-false _ (c .before .before .before .if1 .left)) ∙ check-no _ _ (ap name-ok (sym (c .before .before .field .ensures)) ∙ sym (c .before .name-ok .ensures) ∙ not-true _ (c .if2 .taken)))
 
--- src/variable.rt:77:5
 low-requires : tie.Need-low-requires
 low-requires c κs = search needs
 
--- src/variable.rt:68:1
 returns-3 : tie.Need-returns-3
 unfolding var-fields
 returns-3 c = c .low .ensures ∙ sym (check-yes _ _ (sym (c .before .before .before .before .before .filled .ensures) ∙ not-false _ (c .before .before .before .before .if1 .left)) ∙ check-yes _ _ (ap name-ok (sym (c .before .before .before .field .ensures)) ∙ sym (c .before .before .name-ok .ensures) ∙ not-false _ (c .before .if2 .left)))

@@ -1,73 +1,52 @@
+-- `reader::variable::named` meets its contract. Assumes nothing.
+use mathlib.Core.Path.{_≡_, sym, _∙_}
+use native.Mathlib.Omega.{arith}
+use denote.Ref.{now}
 use mir.Syntax.{w32}
 use mir.Val.{toZ, ofZ}
-use Rattle.reader.specs.Rows.{name-row}
-use Rattle.semantics.specs.Encoding.{var-words}
-use lib.IntN.{ℤ}
-use mathlib.Core.List.{List, _∷_, []}
+use borrow.Author.Needs.{needs}
+use Rattle.semantics.specs.Reading.{with-var}
+use Rattle.text.proofs.Judged.{word-val}
+use Rattle.reader.specs.Answers.{var-of}
 use Rattle.reader.proofs.Growing.{rows-var, names-more}
 use Rattle.reader.proofs.Naming.{names-seen}
 use Rattle.reader.proofs.Judging.{check-no, check-yes, not-no, not-yes}
-use Rattle.reader.specs.Held.{Few, Rows, Gone}
-use Rattle.reader.specs.Answers.{var-of}
-use Rattle.semantics.specs.Reading.{with-var}
-use denote.Ref.{now}
-use native.Mathlib.Omega.{arith}
-use Rattle.text.proofs.Judged.{word-val}
-use mathlib.Core.Path.{_≡_, refl, sym, ap, _∙_}
-use borrow.Author.Needs.{needs}
 use Rattle.reader.proofs.variable.named.Statement.{statement}
 use Rattle.reader.proofs.variable.named.Tie as tie
-use Rattle.reader.proofs.variable.named.Reads as reads
-use Rattle.reader.proofs.variable.named.Lts as lts
-use Rattle.reader.proofs.rows.name_seen.Reads as name-seen-reads
-use Rattle.reader.proofs.rows.push_name.Reads as push-name-reads
-use Rattle.reader.proofs.rows.push_row.Reads as push-row-reads
 
--- src/variable.rt:25:8
 name-seen-requires : tie.Need-name-seen-requires
 name-seen-requires c κs = search needs
 
--- src/variable.rt:26:9
 same-length : tie.Need-same-length
 same-length c = search needs
 
--- src/variable.rt:26:9
 returns : tie.Need-returns
 returns c = λ s h g o. check-no _ _ (not-no (sym (names-seen (now (c .before .before .before .before .args .name)) g o) ∙ sym (c .before .name-seen .ensures) ∙ c .if1 .taken))
 
--- src/variable.rt:29:27
 mul-push-row : tie.Need-mul-push-row
 mul-push-row c = search needs
 
--- src/variable.rt:29:39
 slice-aggregate-push-row : tie.Need-slice-aggregate-push-row
 slice-aggregate-push-row c = search needs
 
--- src/variable.rt:29:5
 push-row-requires : tie.Need-push-row-requires
 push-row-requires c κs = search needs
 
--- src/variable.rt:30:28
 mul-push-name : tie.Need-mul-push-name
 mul-push-name c = search needs
 
--- src/variable.rt:30:5
 push-name-requires : tie.Need-push-name-requires
 push-name-requires c κs = search needs
 
--- src/variable.rt:32:15
 add-t13 : tie.Need-add-t13
 add-t13 c = search needs
 
--- src/variable.rt:21:1
 same-length-2 : tie.Need-same-length-2
 same-length-2 c = search needs
 
--- src/variable.rt:21:1
 same-length-3 : tie.Need-same-length-3
 same-length-3 c = search needs
 
--- src/variable.rt:21:1
 returns-2 : tie.Need-returns-2
 returns-2 c = λ s h g o.
     let a = c .before .before .before .before .before .before .before .before .before .before .before .before .before .before .before .args in
@@ -76,7 +55,7 @@ returns-2 c = λ s h g o.
     let q : toZ w32 (ofZ w32 (v .hi)) ≡ v .hi = search needs in
     let r : toZ w32 (ofZ w32 (v .init)) ≡ v .init = search needs in
     record {
-      nothing-read = with-var s (now (a .name)) (var-of v);
+      read = with-var s (now (a .name)) (var-of v);
       is = check-yes _ _ (not-yes (sym (names-seen (now (a .name)) g o) ∙ sym (c .before .before .before .before .before .before .before .before .before .before .before .before .name-seen .ensures) ∙ c .before .before .before .before .before .before .before .before .before .before .before .if1 .left));
       few = record { vars = omega arith; locs = omega arith; edges = omega arith };
       held = rw (c .before .before .before .before .before .before .push-row .ensures) (rows-var s h (now (a .name)) (var-of v) _ (rw (p, q, r, word-val (v .init))) (omega arith) (omega arith) (omega arith));

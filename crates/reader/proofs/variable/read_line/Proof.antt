@@ -1,69 +1,52 @@
+-- `reader::variable::read_line` meets its contract. Assumes nothing.
+use mathlib.Core.Path.{sym, ap, _∙_}
+use native.Mathlib.Omega.{arith}
+use denote.Ref.{now}
+use borrow.Author.Needs.{needs}
+use Rattle.semantics.specs.Text.{name-ok, fields}
+use Rattle.reader.specs.Answers.{var-res}
 use Rattle.reader.proofs.Reading.{var-late, var-full, var-read, var-name-ok}
 use Rattle.reader.proofs.Holding.{none-empty-list, some-list}
 use Rattle.reader.proofs.Judging.{then-fail, then-ok}
-use Rattle.reader.specs.Held.{Rows}
-use Rattle.reader.specs.Answers.{var-res}
-use Rattle.semantics.specs.Text.{name-ok, fields}
-use denote.Ref.{now}
-use native.Mathlib.Omega.{arith}
-use mathlib.Core.Path.{_≡_, refl, sym, ap, _∙_}
-use borrow.Author.Needs.{needs}
 use Rattle.reader.proofs.variable.read_line.Statement.{statement}
 use Rattle.reader.proofs.variable.read_line.Tie as tie
-use Rattle.reader.proofs.variable.read_line.Reads as reads
-use Rattle.reader.proofs.variable.read_line.Lts as lts
-use Rattle.reader.proofs.variable.judged.Reads as judged-reads
-use Rattle.reader.proofs.variable.named.Reads as named-reads
-use Rattle.text.proofs.field.Reads as field-reads
 
--- src/variable.rt:103:9
 returns : tie.Need-returns
 returns c = λ s h g. var-late s _ (rw (some-list (s .chart .locs) (omega (arith, h .locs, c .if1 .taken))))
 
--- src/variable.rt:106:9
 returns-2 : tie.Need-returns-2
 returns-2 c = λ s h g. var-late s _ (rw (none-empty-list (s .chart .locs) (omega (arith, h .locs, c .before .before .if1 .left)), some-list (s .chart .edges) (omega (arith, h .edges, c .if2 .taken))))
 
--- src/variable.rt:109:9
 returns-3 : tie.Need-returns-3
 returns-3 c = λ s h g. var-full s _ (rw (none-empty-list (s .chart .locs) (omega (arith, h .locs, c .before .before .before .before .if1 .left)), none-empty-list (s .chart .edges) (omega (arith, h .edges, c .before .before .if2 .left)))) (omega (arith, h .vars, c .if3 .taken))
 
--- src/variable.rt:111:11
 judged-requires : tie.Need-judged-requires
 judged-requires c κs = search needs
 
--- src/variable.rt:112:26
 enum-known-k : tie.Need-enum-known-k
 enum-known-k c = search needs
 
--- src/variable.rt:113:21
 enum-known-v : tie.Need-enum-known-v
 enum-known-v c = search needs
 
--- src/variable.rt:113:53
 field-requires : tie.Need-field-requires
 field-requires c κs = search needs
 
--- src/variable.rt:113:27
 named-requires : tie.Need-named-requires
 named-requires c κs = search needs
 
--- src/variable.rt:98:1
 returns-4 : tie.Need-returns-4
 unfolding var-res
 returns-4 c = λ s h g.
     var-read s _ (rw (none-empty-list (s .chart .locs) (omega (arith, h .locs, c .before .before .before .before .before .before .before .before .if1 .left)), none-empty-list (s .chart .edges) (omega (arith, h .edges, c .before .before .before .before .before .before .if2 .left)))) (omega (arith, h .vars, c .before .before .before .before .if3 .left))
     ∙ then-fail _ (sym (c .before .before .before .judged .ensures) ∙ ap var-res (c .before .k .given .1))
 
--- src/variable.rt:98:1
 same-length : tie.Need-same-length
 same-length c = search needs
 
--- src/variable.rt:98:1
 same-length-2 : tie.Need-same-length-2
 same-length-2 c = search needs
 
--- src/variable.rt:98:1
 returns-5 : tie.Need-returns-5
 unfolding var-res
 returns-5 c = λ s h g.
