@@ -1,0 +1,58 @@
+-- `listing::listing` meets its contract. Assumes nothing.
+use mathlib.Core.Path.{sym, ap, _∙_}
+use mathlib.Core.List.{List, _++_}
+use Prim.Native.Nat.{ℕ, _+_, _≤_}
+use native.Mathlib.Nat.{zero-add}
+use native.Mathlib.Omega.{arith}
+use borrow.Author.Needs.{needs}
+use lib.IntN.{ℤ}
+use lib.ListN.{length, drop}
+use Rattle.semantics.specs.Encoding.{decode}
+use Rattle.semantics.specs.Memory.{Memory}
+use Rattle.semantics.specs.Outcomes.{Outcome, fine}
+use Rattle.form.specs.Form.{lent}
+use Rattle.writing.proofs.Written.{put-fits}
+use Rattle.listing.specs.Refused.{text-of}
+use Rattle.listing.proofs.Refusals.{Passed, listing-passed, listing-refused, listing-through}
+use Rattle.listing.proofs.listing.Statement.{statement}
+use Rattle.listing.proofs.listing.Tie as tie
+
+module _ (s : tie.Start) where
+  abbrev words : List ℤ
+  words = s .args .chart .now
+
+  abbrev memory : Memory
+  memory = lent (s .args .table .now) (s .args .list .now) (s .args .a)
+
+-- nothing refuses
+through : (c : tie.Else1) → let s = c .before .before .before in Passed (words s) (memory s) (length (s .args .space .now))
+through c =
+    let s = c .before .before .before in
+    listing-passed (words s) (memory s) (length (s .args .space .now)) (sym (c .before .listing-refusal .ensures) ∙ c .if1 .left)
+
+returns : tie.Need-returns
+returns c =
+    let s = c .before .before .before in
+    let o = listing-refused (words s) (memory s) (s .args .space .now) (c .before .listing-refusal .result) (c .before .listing-refusal .ensures) (c .if1 .taken) in
+    (ap (λ (x : Outcome). x .answer) o, ap (λ (x : Outcome). x .space) o)
+
+write-listing-requires : tie.Need-write-listing-requires
+write-listing-requires c κs = let h = through (c .before) in (h .formed, h .enough .0, h .enough .1, h .ok)
+
+returns-2 : tie.Need-returns-2
+returns-2 c =
+    let b = c .before .before .before .before in
+    let s = b .before .before .before in
+    let space = s .args .space .now in
+    let text = text-of (decode (words s)) (memory s) in
+    let o = listing-through (words s) (memory s) space (b .before .listing-refusal .ensures) (b .if1 .left) in
+    let long : 0 + length text ≤ length space = omega (arith, through b .fits) in
+    let f = put-fits (c .before .before .write-listing .ensures) long in (
+      ap fine (f .1 ∙ zero-add (length text)) ∙ ap (λ (x : Outcome). x .answer) o,
+      f .0 ∙ ap (λ (n : ℕ). text ++ drop n space) (zero-add (length text)) ∙ ap (λ (x : Outcome). x .space) o,
+    )
+
+pub listing-spec : {M : Type 1} → statement M
+listing-spec =
+    tie.close
+    (tie.spec (λ c κs. search needs) returns write-listing-requires (λ c. search needs) returns-2)

@@ -1,0 +1,21 @@
+-- `listing::put_counts` meets its contract. Assumes nothing.
+use borrow.Author.Needs.{needs}
+use Rattle.writing.proofs.Written.{put-then}
+use Rattle.listing.specs.Pieces.{counts-text}
+use Rattle.listing.proofs.put_counts.Statement.{statement}
+use Rattle.listing.proofs.put_counts.Tie as tie
+
+returns : tie.Need-returns
+unfolding counts-text
+returns c = put-then (c .before .before .before .before .before .before .before .before .before .before .put-number .ensures) (put-then (c .before .before .before .before .before .before .put-number2 .ensures) (c .before .before .put-number3 .ensures))
+
+pub put-counts-spec : {M : Type 1} → statement M
+put-counts-spec =
+    tie.close
+    (tie.spec
+    (λ c. search needs)
+    (λ c κs. search needs)
+    (λ c κs. search needs)
+    (λ c κs. search needs)
+    (λ c. search needs)
+    returns)

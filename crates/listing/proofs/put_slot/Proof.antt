@@ -1,0 +1,44 @@
+-- `listing::put_slot` meets its contract. Assumes nothing.
+use mathlib.Core.Path.{_≡_}
+use mathlib.Core.List.{map}
+use borrow.Author.Needs.{needs, sfits-of}
+use lib.IntN.{pos, natAbs}
+use lib.ListN.{getD}
+use mir.Syntax.{w32}
+use mir.ValLaws.{toZ-ofZ}
+use Rattle.semantics.specs.Encoding.{decode}
+use Rattle.writing.proofs.Written.{put-then, put-same}
+use Rattle.listing.proofs.Facts.{slot-is}
+use Rattle.listing.proofs.put_slot.Statement.{statement}
+use Rattle.listing.proofs.put_slot.Tie as tie
+
+returns : tie.Need-returns
+returns c =
+    let s = c .before .before .before .before .before .before .before .before .before .before .before .before .before .before .before .before .before .before .before .before .before .before .before .before .before in
+    let a = s .args in
+    let n : c .before .before .before .before .before .before .before .before .before .before .before .before .before .before .before .before .before .before .before .before .before .before .magnitude .result ≡ natAbs (getD (a .row .now) 0 (pos 0)) = rw (toZ-ofZ w32 _ (sfits-of (c .before .before .before .before .before .before .before .before .before .before .before .before .before .before .before .before .before .before .before .before .before .before .before .w .given))) at (c .before .before .before .before .before .before .before .before .before .before .before .before .before .before .before .before .before .before .before .before .before .before .magnitude .ensures .0) in
+    put-same
+    (slot-is (decode (a .chart .now)) (map natAbs (a .list .now)) (a .s) (a .row .now) _ _ (s .pre .1) n (c .before .before .before .before .before .before .before .waits .ensures))
+    (put-then (c .before .before .before .before .before .before .before .before .before .before .before .before .before .before .before .before .before .before .before .before .put-decimal .ensures) (
+    put-then (c .before .before .before .before .before .before .before .before .before .before .before .before .before .before .before .before .put-name .ensures) (
+    put-then (c .before .before .before .before .before .before .before .before .before .before .before .put-values .ensures) (
+    put-then (c .before .before .before .before .before .before .put-mark .ensures) (c .before .before .put-byte .ensures)
+    ))))
+
+pub put-slot-spec : {M : Type 1} → statement M
+put-slot-spec =
+    tie.close
+    (tie.spec
+    (λ c. search needs)
+    (λ c κs. search needs)
+    (λ c κs. search needs)
+    (λ c κs. search needs)
+    (λ c. search needs)
+    (λ c. search needs)
+    (λ c. search needs)
+    (λ c κs. search needs)
+    (λ c κs. search needs)
+    (λ c κs. search needs)
+    (λ c κs. search needs)
+    (λ c. search needs)
+    returns)

@@ -1,0 +1,40 @@
+-- `listing::write_listing` meets its contract. Assumes nothing.
+use mathlib.Core.Path.{sym}
+use Prim.Native.Nat.{_≤_}
+use native.Mathlib.Omega.{arith}
+use native.Mathlib.Nat.{mul-le-mul-right}
+use borrow.Author.Needs.{needs}
+use lib.Seq.{length-take-le}
+use Rattle.semantics.specs.Encoding.{decode}
+use Rattle.semantics.specs.Memory.{width}
+use Rattle.form.specs.Form.{lent}
+use Rattle.writing.proofs.Written.{put-then, put-same}
+use Rattle.listing.proofs.Facts.{counts-in-order, listing-is}
+use Rattle.listing.proofs.write_listing.Statement.{statement}
+use Rattle.listing.proofs.write_listing.Tie as tie
+
+order : (s : tie.Start) → (s .args .a .used ≤ s .args .a .capacity) × (s .args .a .waiting ≤ s .args .a .used)
+order s = counts-in-order (decode (s .args .chart .now)) (lent (s .args .table .now) (s .args .list .now) (s .args .a)) (s .pre .3)
+
+slice-aggregate-put-slots : tie.Need-slice-aggregate-put-slots
+slice-aggregate-put-slots c =
+    let s = c .before .before .before .before .before .before .before in
+    let o = order s in
+    sym (length-take-le (s .args .a .waiting) (s .args .list .now) (omega (arith, s .pre .2, o .0, o .1)))
+
+put-slots-requires : tie.Need-put-slots-requires
+put-slots-requires c κs =
+    let s = c .before .before .before .before .before .before .before in
+    let o = order s in
+    let w = width (decode (s .args .chart .now)) in
+    (s .pre .0, omega (arith, s .pre .1, mul-le-mul-right w (o .0)))
+
+returns : tie.Need-returns
+returns c =
+    let a = c .before .before .before .before .before .before .before .before .before .before .args in
+    put-same (listing-is (decode (a .chart .now)) (a .table .now) (a .list .now) (a .a)) (put-then (c .before .before .before .before .before .before .before .put-header .ensures) (c .before .before .put-slots .ensures))
+
+pub write-listing-spec : {M : Type 1} → statement M
+write-listing-spec =
+    tie.close
+    (tie.spec (λ c κs. search needs) slice-aggregate-put-slots put-slots-requires (λ c. search needs) returns)

@@ -1,0 +1,32 @@
+-- The pieces of a listing as the code writes them: each field of a line with the tab before it. Assumes nothing.
+use mathlib.Core.List.{List, [], _∷_, _++_, map}
+use Prim.Native.Nat.{ℕ}
+use lib.IntN.{ℤ}
+use Rattle.semantics.specs.Lists.{each}
+use Rattle.semantics.specs.Text.{bytes, decimal, line-of}
+use Rattle.semantics.specs.Encoding.{val}
+use Rattle.semantics.specs.Listing.{mode-text, order-text, verdict-text, val-text}
+use Rattle.semantics.specs.declared.Analysis.{Analysis}
+
+-- a field that is not a line's first
+abbrev pub tabbed : List ℕ → List ℕ
+tabbed f = 9 ∷ f
+
+-- the values in the words of a row
+unfoldable pub values-text : List ℤ → List ℕ
+values-text vs = each tabbed (map val-text (map val vs))
+
+-- of the first line, the settings and the verdict, and the counts
+unfoldable pub words-text : Analysis → List ℕ
+words-text a = tabbed (mode-text (a .settings .merge)) ++ (tabbed (mode-text (a .settings .stop)) ++ (tabbed (order-text (a .settings .order)) ++ tabbed (verdict-text (a .verdict))))
+
+unfoldable pub counts-text : Analysis → List ℕ
+counts-text a = tabbed (decimal (a .iterations)) ++ (tabbed (decimal (a .used)) ++ tabbed (decimal (a .edge .0)))
+
+-- the first line, from the record
+unfoldable pub header-text : Analysis → List ℕ
+header-text a =
+    line-of (bytes "walk") (
+    mode-text (a .settings .merge) ∷ mode-text (a .settings .stop) ∷ order-text (a .settings .order) ∷ verdict-text (a .verdict)
+    ∷ decimal (a .iterations) ∷ decimal (a .used) ∷ decimal (a .edge .0) ∷ []
+    )

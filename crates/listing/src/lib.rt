@@ -1,0 +1,289 @@
+// The listing of an analysis: its text written into lent bytes, and the public call. A piece is written as far as it fits and counted
+// whole, so that one function measures the text and writes it.
+use semantics::Analysis;
+use semantics::Answer;
+use semantics::LocationId;
+use semantics::Mode;
+use semantics::Order;
+use semantics::Verdict;
+ghost use mathlib.Core.Path.{_≡_};
+ghost use mathlib.Core.List.{map};
+ghost use Prim.Native.Nat.{_*_, _≤_, _<_, min};
+ghost use lib.Dec.{T, eqb};
+ghost use lib.IntN.{natAbs};
+ghost use lib.ListN.{length};
+ghost use Rattle.semantics.specs.Lists.{some-of};
+ghost use Rattle.semantics.specs.Text.{decimal};
+ghost use Rattle.semantics.specs.Encoding.{val, decode, well-formed};
+ghost use Rattle.semantics.specs.Memory.{width, state-in, states-in, load, analysis-ok};
+ghost use Rattle.semantics.specs.Listing.{mode-text, order-text, verdict-text, loc-text, val-text, mark, slot-text, slots-text, listing-text};
+ghost use Rattle.semantics.specs.Outcomes.{short, listing-outcome};
+ghost use Rattle.form.specs.Form.{lent};
+ghost use Rattle.writing.specs.Writing.{Put, limit};
+ghost use Rattle.listing.specs.Pieces.{tabbed, values-text, words-text, counts-text, header-text};
+ghost use Rattle.listing.specs.Refused.{text-of, listing-refusal};
+
+const TAB: u8 = 9;
+
+const LF: u8 = 10;
+
+// ---- the fields of the first line, each after its tab
+
+fn put_mode(out: &mut [u8], at: usize, m: Mode) -> usize
+    ensures { λ r. ⌜ Put at (tabbed (mode-text m)) (now (out .entry)) (now (out .exit)) r ⌝ }
+{
+    let place = writing::put_byte(out, at, TAB);
+    match m {
+        Mode::Sep => writing::put_bytes(out, place, b"sep"),
+        Mode::Join => writing::put_bytes(out, place, b"join"),
+    }
+}
+
+fn put_order(out: &mut [u8], at: usize, o: Order) -> usize
+    ensures { λ r. ⌜ Put at (tabbed (order-text o)) (now (out .entry)) (now (out .exit)) r ⌝ }
+{
+    let place = writing::put_byte(out, at, TAB);
+    match o {
+        Order::Old => writing::put_bytes(out, place, b"old"),
+        Order::New => writing::put_bytes(out, place, b"new"),
+    }
+}
+
+fn put_verdict(out: &mut [u8], at: usize, v: Verdict) -> usize
+    ensures { λ r. ⌜ Put at (tabbed (verdict-text v)) (now (out .entry)) (now (out .exit)) r ⌝ }
+{
+    let place = writing::put_byte(out, at, TAB);
+    match v {
+        Verdict::Open => writing::put_bytes(out, place, b"open"),
+        Verdict::Safe => writing::put_bytes(out, place, b"safe"),
+        Verdict::Alarm => writing::put_bytes(out, place, b"alarm"),
+        Verdict::Full => writing::put_bytes(out, place, b"room"),
+    }
+}
+
+fn put_number(out: &mut [u8], at: usize, n: usize) -> usize
+    ensures { λ r. ⌜ Put at (tabbed (decimal n)) (now (out .entry)) (now (out .exit)) r ⌝ }
+{
+    let place = writing::put_byte(out, at, TAB);
+    writing::put_decimal(out, place, n)
+}
+
+// The settings and the verdict.
+fn put_words(out: &mut [u8], at: usize, a: Analysis) -> usize
+    ensures { λ r. ⌜ Put at (words-text a) (now (out .entry)) (now (out .exit)) r ⌝ }
+{
+    let settings = a.settings;
+    let merge = settings.merge;
+    let stop = settings.stop;
+    let order = settings.order;
+    let verdict = a.verdict;
+    let second = put_mode(out, at, merge);
+    let third = put_mode(out, second, stop);
+    let fourth = put_order(out, third, order);
+    put_verdict(out, fourth, verdict)
+}
+
+// The iterations, the used slots and the edge.
+fn put_counts(out: &mut [u8], at: usize, a: Analysis) -> usize
+    ensures { λ r. ⌜ Put at (counts-text a) (now (out .entry)) (now (out .exit)) r ⌝ }
+{
+    let iterations = a.iterations as usize;
+    let edge = a.edge.0;
+    let second = put_number(out, at, iterations);
+    let third = put_number(out, second, a.used);
+    put_number(out, third, edge)
+}
+
+// The first line.
+fn put_header(out: &mut [u8], a: Analysis) -> usize
+    ensures { λ r. ⌜ Put 0 (header-text a) (now (out .entry)) (now (out .exit)) r ⌝ }
+{
+    let words = writing::put_bytes(out, 0, b"walk");
+    let counts = put_words(out, words, a);
+    let end = put_counts(out, counts, a);
+    writing::put_byte(out, end, LF)
+}
+
+// ---- a slot's line
+
+fn put_name(out: &mut [u8], at: usize, chart: &[i32], l: LocationId) -> usize
+    requires { ⌜ T (well-formed (now chart)) ⌝ }
+    ensures { λ r. ⌜ Put at (tabbed (loc-text (decode (now (chart .entry)) .locs) (l .0))) (now (out .entry)) (now (out .exit)) r ⌝ }
+{
+    let n = encoded::name_length(chart, l);
+    let mut place = writing::put_byte(out, at, TAB);
+    let mut i = 0;
+    while i < n {
+        let b = encoded::name_byte(chart, l, i);
+        place = writing::put_byte(out, place, b);
+        i += 1;
+    }
+    place
+}
+
+fn put_value(out: &mut [u8], at: usize, w: i32) -> usize
+    ensures { λ r. ⌜ Put at (tabbed (val-text (val w))) (now (out .entry)) (now (out .exit)) r ⌝ }
+{
+    let place = writing::put_byte(out, at, TAB);
+    if w == words::TOP {
+        return writing::put_byte(out, place, b'*');
+    }
+    writing::put_signed(out, place, w)
+}
+
+fn put_values(out: &mut [u8], at: usize, values: &[i32]) -> usize
+    ensures { λ r. ⌜ Put at (values-text (now (values .entry))) (now (out .entry)) (now (out .exit)) r ⌝ }
+{
+    let mut place = writing::put_bytes(out, at, b"");
+    let mut i = 0;
+    while i < values.len() {
+        let w = values[i];
+        place = put_value(out, place, w);
+        i += 1;
+    }
+    place
+}
+
+// Whether the slot is one of the list.
+fn waits(list: &[i32], s: usize) -> bool
+    ensures { λ r. ⌜ r ≡ some-of (eqb s) (map natAbs (now (list .entry))) ⌝ }
+{
+    let mut i = 0;
+    while i < list.len() {
+        let w = list[i];
+        if s == words::magnitude(w) {
+            return true;
+        }
+        i += 1;
+    }
+    false
+}
+
+fn put_mark(out: &mut [u8], at: usize, waiting: bool) -> usize
+    ensures { λ r. ⌜ Put at (tabbed (mark waiting)) (now (out .entry)) (now (out .exit)) r ⌝ }
+{
+    let place = writing::put_byte(out, at, TAB);
+    if waiting {
+        return writing::put_byte(out, place, b'w');
+    }
+    writing::put_byte(out, place, b'-')
+}
+
+// The line of slot s, whose words are the row, with the slots that wait.
+fn put_slot(out: &mut [u8], at: usize, chart: &[i32], list: &[i32], s: usize, row: &[i32]) -> usize
+    requires { ⌜ T (well-formed (now chart)) × (1 ≤ length (now row)) ⌝ }
+    ensures { λ r. ⌜ Put at (slot-text (decode (now (chart .entry))) (map natAbs (now (list .entry))) s (state-in (now (row .entry)))) (now (out .entry)) (now (out .exit)) r ⌝ }
+{
+    let w = row[0];
+    let location = LocationId(words::magnitude(w));
+    let name = writing::put_decimal(out, at, s);
+    let values = put_name(out, name, chart, location);
+    let last = put_values(out, values, &row[1..]);
+    let end = put_mark(out, last, waits(list, s));
+    writing::put_byte(out, end, LF)
+}
+
+// The lines of the slots in use. Slot and word offset go together.
+fn put_slots(
+    out: &mut [u8],
+    at: usize,
+    chart: &[i32],
+    table: &[i32],
+    list: &[i32],
+    used: usize,
+) -> usize
+    requires { ⌜ T (well-formed (now chart)) × (used * width (decode (now chart)) ≤ length (now table)) ⌝ }
+    ensures { λ r. ⌜ Put at (slots-text (decode (now (chart .entry))) (map natAbs (now (list .entry))) 0 (states-in (width (decode (now (chart .entry)))) used (now (table .entry)))) (now (out .entry)) (now (out .exit)) r ⌝ }
+{
+    let w = encoded::width(chart);
+    let mut place = writing::put_bytes(out, at, b"");
+    let mut from = 0;
+    let mut s = 0;
+    while s < used {
+        let to = from + w;
+        place = put_slot(out, place, chart, list, s, &table[from..to]);
+        from = to;
+        s += 1;
+    }
+    place
+}
+
+// ---- the text
+
+// Writes the listing as far as it fits, and answers how long it is.
+pub fn write_listing(
+    chart: &[i32],
+    table: &[i32],
+    list: &[i32],
+    a: Analysis,
+    out: &mut [u8],
+) -> usize
+    requires { ⌜ T (well-formed (now chart)) × (a .capacity * width (decode (now chart)) ≤ length (now table)) × (a .capacity ≤ length (now list)) × T (analysis-ok (decode (now chart)) (lent (now table) (now list) a)) ⌝ }
+    ensures { λ r. ⌜ Put 0 (listing-text (decode (now (chart .entry))) (load (decode (now (chart .entry))) (lent (now (table .entry)) (now (list .entry)) a))) (now (out .entry)) (now (out .exit)) r ⌝ }
+{
+    let used = a.used;
+    let waiting = a.waiting;
+    let place = put_header(out, a);
+    put_slots(out, place, chart, table, &list[..waiting], used)
+}
+
+// How long the listing is; it is written nowhere.
+fn listing_length(chart: &[i32], table: &[i32], list: &[i32], a: Analysis) -> usize
+    requires { ⌜ T (well-formed (now chart)) × (a .capacity * width (decode (now chart)) ≤ length (now table)) × (a .capacity ≤ length (now list)) × T (analysis-ok (decode (now chart)) (lent (now table) (now list) a)) ⌝ }
+    ensures { λ r. ⌜ r ≡ min (length (text-of (decode (now (chart .entry))) (lent (now (table .entry)) (now (list .entry)) a))) limit ⌝ }
+{
+    let mut none = [0u8; 1];
+    write_listing(chart, table, list, a, &mut none[..0])
+}
+
+// ---- the public call
+
+// Fewer words are lent than the capacity takes.
+fn is_short(chart: &[i32], capacity: u32, table: usize, list: usize) -> bool
+    ensures { λ r. ⌜ r ≡ short (decode (now (chart .entry))) capacity table list ⌝ }
+{
+    let width = encoded::width(chart);
+    let places = capacity as usize;
+    (table < places * width) | (list < places)
+}
+
+// 20, 14, 21, 15: the first that refuses a listing into so many bytes, or 0.
+fn listing_refusal(chart: &[i32], a: Analysis, table: &[i32], list: &[i32], space: usize) -> u32
+    requires { ⌜ space < limit ⌝ }
+    ensures { λ r. ⌜ r ≡ listing-refusal (now (chart .entry)) (lent (now (table .entry)) (now (list .entry)) a) space ⌝ }
+{
+    if !encoded::well_formed(chart) {
+        return 20;
+    }
+    if is_short(chart, a.capacity, table.len(), list.len()) {
+        return 14;
+    }
+    if !form::analysis_ok(chart, table, list, a) {
+        return 21;
+    }
+    if space < listing_length(chart, table, list, a) {
+        return 15;
+    }
+    0
+}
+
+// Writes the listing of an analysis and answers its length, or refuses and writes nothing.
+pub fn listing(chart: &[i32], a: Analysis, table: &[i32], list: &[i32], space: &mut [u8]) -> Answer
+    ensures { λ r. ⌜ r ≡ listing-outcome (now (chart .entry)) (lent (now (table .entry)) (now (list .entry)) a) (now (space .entry)) .answer ⌝ }
+    ensures { λ _. ⌜ now (space .exit) ≡ listing-outcome (now (chart .entry)) (lent (now (table .entry)) (now (list .entry)) a) (now (space .entry)) .space ⌝ }
+{
+    let number = listing_refusal(chart, a, table, list, space.len());
+    if number != 0 {
+        return Answer {
+            number,
+            line: 0,
+            length: 0,
+        };
+    }
+    let length = write_listing(chart, table, list, a, space);
+    Answer {
+        number: 0,
+        line: 0,
+        length,
+    }
+}
