@@ -1,12 +1,13 @@
-// The encoded chart: its check, and where its counts, names and edges stand.
+// The encoded chart: its check, and what stands where in its words. No other crate reads them by place.
 use semantics::LocationId;
 ghost use mathlib.Core.Path.{_≡_};
 ghost use mathlib.Core.Bool.{not};
 ghost use Prim.Native.Nat.{suc, _+_, _*_, _<_, _≤_};
+ghost use lib.IntN.{pos};
 ghost use lib.ListN.{length, getD};
 ghost use Rattle.semantics.specs.Lists.{all};
 ghost use Rattle.semantics.specs.Text.{same-bytes};
-ghost use Rattle.semantics.specs.Chart.{within, small};
+ghost use Rattle.semantics.specs.Chart.{eqZ, within, small};
 ghost use Rattle.semantics.specs.Encoding.{val, init-ok, var-in, var-ok, loc-in, several, distinct-names, count, decode, well-formed};
 ghost use Rattle.semantics.specs.Memory.{below};
 ghost use Rattle.semantics.specs.Listing.{loc-text};
@@ -382,6 +383,112 @@ pub fn well_formed(words: &[i32]) -> bool
         }
     }
     false
+}
+
+// ---- what the words say of a variable, a location and an edge, for those who use the chart
+
+// A variable's range, and its initial value.
+pub fn variable_low(words: &[i32], k: usize) -> i32
+    requires { ⌜ k < 2305843009213693952 ⌝ }
+    ensures { λ r. ⌜ r ≡ getD (now (words .entry)) (3 + 3 * k) (pos 0) ⌝ }
+{
+    words::word_at(words, 3 + 3 * k)
+}
+
+pub fn variable_high(words: &[i32], k: usize) -> i32
+    requires { ⌜ k < 2305843009213693952 ⌝ }
+    ensures { λ r. ⌜ r ≡ getD (now (words .entry)) (3 + 3 * k + 1) (pos 0) ⌝ }
+{
+    words::word_at(words, 3 + 3 * k + 1)
+}
+
+pub fn variable_init(words: &[i32], k: usize) -> i32
+    requires { ⌜ k < 2305843009213693952 ⌝ }
+    ensures { λ r. ⌜ r ≡ getD (now (words .entry)) (3 + 3 * k + 2) (pos 0) ⌝ }
+{
+    words::word_at(words, 3 + 3 * k + 2)
+}
+
+// Whether the location's kind is that of an error location.
+pub fn is_error_location(words: &[i32], l: LocationId) -> bool
+    requires { ⌜ l .0 < 2147483649 ⌝ }
+    ensures { λ r. ⌜ r ≡ eqZ (getD (now (words .entry)) (locations-at (now (words .entry)) + 17 * l .0) (pos 0)) (pos 1) ⌝ }
+{
+    let k = l.0;
+    let kind = words::word_at(words, locations_at(words) + 17 * k);
+    kind == 1
+}
+
+// The words of the edge at `at`, where `edge_at` says that an edge's words stand: from, to, operation, target.
+pub fn edge_from(words: &[i32], at: usize) -> i32
+    ensures { λ r. ⌜ r ≡ getD (now (words .entry)) at (pos 0) ⌝ }
+{
+    words::word_at(words, at)
+}
+
+pub fn edge_to(words: &[i32], at: usize) -> i32
+    requires { ⌜ at < 68719476736 ⌝ }
+    ensures { λ r. ⌜ r ≡ getD (now (words .entry)) (at + 1) (pos 0) ⌝ }
+{
+    words::word_at(words, at + 1)
+}
+
+pub fn edge_operation(words: &[i32], at: usize) -> usize
+    requires { ⌜ at < 68719476736 ⌝ }
+    ensures { λ r. ⌜ (r ≡ count (now (words .entry)) (at + 2)) × (r < 2147483649) ⌝ }
+{
+    number_at(words, at + 2)
+}
+
+pub fn edge_target(words: &[i32], at: usize) -> usize
+    requires { ⌜ at < 68719476736 ⌝ }
+    ensures { λ r. ⌜ (r ≡ count (now (words .entry)) (at + 3)) × (r < 2147483649) ⌝ }
+{
+    number_at(words, at + 3)
+}
+
+// Its two operands: what each is, and the word that it holds; the first as the number of a variable.
+pub fn first_tag(words: &[i32], at: usize) -> i32
+    requires { ⌜ at < 68719476736 ⌝ }
+    ensures { λ r. ⌜ r ≡ getD (now (words .entry)) (at + 4) (pos 0) ⌝ }
+{
+    words::word_at(words, at + 4)
+}
+
+pub fn first_value(words: &[i32], at: usize) -> i32
+    requires { ⌜ at < 68719476736 ⌝ }
+    ensures { λ r. ⌜ r ≡ getD (now (words .entry)) (at + 5) (pos 0) ⌝ }
+{
+    words::word_at(words, at + 5)
+}
+
+pub fn first_variable(words: &[i32], at: usize) -> usize
+    requires { ⌜ at < 68719476736 ⌝ }
+    ensures { λ r. ⌜ (r ≡ count (now (words .entry)) (at + 5)) × (r < 2147483649) ⌝ }
+{
+    number_at(words, at + 5)
+}
+
+pub fn second_tag(words: &[i32], at: usize) -> i32
+    requires { ⌜ at < 68719476736 ⌝ }
+    ensures { λ r. ⌜ r ≡ getD (now (words .entry)) (at + 6) (pos 0) ⌝ }
+{
+    words::word_at(words, at + 6)
+}
+
+pub fn second_value(words: &[i32], at: usize) -> i32
+    requires { ⌜ at < 68719476736 ⌝ }
+    ensures { λ r. ⌜ r ≡ getD (now (words .entry)) (at + 7) (pos 0) ⌝ }
+{
+    words::word_at(words, at + 7)
+}
+
+// Where the words of the edge after it stand.
+pub fn next_edge(at: usize) -> usize
+    requires { ⌜ at < 68719476736 ⌝ }
+    ensures { λ r. ⌜ r ≡ at + 8 ⌝ }
+{
+    at + 8
 }
 
 // ---- names
