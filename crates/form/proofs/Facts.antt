@@ -38,8 +38,8 @@ module _ (ws : List ℤ) where
   unfolding decode
   edges-count = several-length _ 8 _ _
 
-  pub width-is : width (decode ws) ≡ count ws 0 + 1
-  width-is = ap suc vars-count ∙ sym (add-one _)
+  pub width-is : suc (count ws 0) ≡ width (decode ws)
+  width-is = sym (ap suc vars-count)
 
 -- ---- a word and a bound
 

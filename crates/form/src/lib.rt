@@ -12,25 +12,9 @@ ghost use lib.ListN.{length, drop};
 ghost use Rattle.semantics.specs.Lists.{some-of, all, all-pairs, all-of};
 ghost use Rattle.semantics.specs.Chart.{eqZ, within};
 ghost use Rattle.semantics.specs.Coverage.{allowed};
-ghost use Rattle.semantics.specs.Encoding.{count, several, var-in, decode};
+ghost use Rattle.semantics.specs.Encoding.{several, var-in, decode};
 ghost use Rattle.semantics.specs.Memory.{width, value-ok, below, row-ok, rows-ok, each-once, is-alarm, empty-if-safe, analysis-ok};
 ghost use Rattle.form.specs.Form.{lent, lent-tests, record-tests};
-
-// ---- the chart's counts
-
-// The number at a place of the chart.
-fn count_at(chart: &[i32], i: usize) -> usize
-    ensures { λ r. ⌜ (r ≡ count (now (chart .entry)) i) × (r < 2147483649) ⌝ }
-{
-    words::magnitude(words::word_at(chart, i))
-}
-
-// The words of a slot.
-fn slot_width(chart: &[i32]) -> usize
-    ensures { λ r. ⌜ r ≡ width (decode (now (chart .entry))) ⌝ }
-{
-    count_at(chart, 0) + 1
-}
 
 // ---- the reached table
 
@@ -51,20 +35,18 @@ fn value_ok(lo: i32, hi: i32, x: i32) -> bool
     (x == words::TOP) | ((lo <= x) & (x <= hi))
 }
 
-// Whether each value is one of its variable, the variables' words beginning at word 3 of the chart.
+// Whether each value is one of its variable.
 fn values_ok(chart: &[i32], values: &[i32]) -> bool
     ensures { λ r. ⌜ r ≡ all-pairs value-ok (several var-in 3 (length (now (values .entry))) (drop 3 (now (chart .entry)))) (now (values .entry)) ⌝ }
 {
-    let mut at = 3;
     let mut i = 0;
     while i < values.len() {
-        let lo = words::word_at(chart, at);
-        let hi = words::word_at(chart, at + 1);
+        let lo = encoded::variable_low(chart, i);
+        let hi = encoded::variable_high(chart, i);
         let x = values[i];
         if !value_ok(lo, hi, x) {
             return false;
         }
-        at += 3;
         i += 1;
     }
     true
@@ -76,7 +58,7 @@ fn row_ok(chart: &[i32], row: &[i32]) -> bool
     ensures { λ r. ⌜ r ≡ row-ok (decode (now (chart .entry))) (now (row .entry)) ⌝ }
 {
     let location = row[0];
-    if is_below(count_at(chart, 1), location) {
+    if is_below(encoded::location_count(chart), location) {
         return values_ok(chart, &row[1..]);
     }
     false
@@ -87,7 +69,7 @@ fn rows_ok(chart: &[i32], table: &[i32], used: usize) -> bool
     requires { ⌜ used * width (decode (now chart)) ≤ length (now table) ⌝ }
     ensures { λ r. ⌜ r ≡ rows-ok (decode (now (chart .entry))) used (now (table .entry)) ⌝ }
 {
-    let w = slot_width(chart);
+    let w = encoded::width(chart);
     let mut from = 0;
     let mut s = 0;
     while s < used {
@@ -184,7 +166,7 @@ fn lent_ok(
     if !waits_ok(&list[..waiting], used) {
         return false;
     }
-    let w = slot_width(chart);
+    let w = encoded::width(chart);
     let from = used * w;
     let to = capacity * w;
     if !words::all_zero(&table[from..to]) {
@@ -265,7 +247,7 @@ pub fn analysis_ok(chart: &[i32], table: &[i32], list: &[i32], a: Analysis) -> b
     let used = a.used;
     let waiting = a.waiting;
     if lent_ok(chart, table, list, capacity, used, waiting) {
-        let edges = count_at(chart, 2);
+        let edges = encoded::edge_count(chart);
         return record_ok(a, edges);
     }
     false

@@ -15,8 +15,8 @@ cast-capacity c = search needs
 lent-ok-requires : tie.Need-lent-ok-requires
 lent-ok-requires c κs = search needs
 
-count-at-requires : tie.Need-count-at-requires
-count-at-requires c κs = search needs
+edge-count-requires : tie.Need-edge-count-requires
+edge-count-requires c κs = search needs
 
 record-ok-requires : tie.Need-record-ok-requires
 record-ok-requires c κs = search needs
@@ -25,7 +25,7 @@ returns : tie.Need-returns
 returns c =
     let p = c .before .before .before in
     let s = p .before .before .args in
-    c .record-ok .ensures ∙ ap (λ (n : ℕ). all-of (record-tests n (s .a))) (c .before .count-at .ensures .0)
+    c .record-ok .ensures ∙ ap (λ (n : ℕ). all-of (record-tests n (s .a))) (c .before .edge-count .ensures .0)
     ∙ passed (p .lent-ok .ensures) (c .before .before .if1 .taken) (all-of (record-tests (count (s .chart .now) 2) (s .a)))
     ∙ both-parts (s .chart .now) (s .table .now) (s .list .now) (s .a)
 
@@ -42,7 +42,7 @@ analysis-ok-spec =
     (tie.spec
     cast-capacity
     lent-ok-requires
-    count-at-requires
+    edge-count-requires
     record-ok-requires
     returns
     returns-2)

@@ -16,7 +16,7 @@ use Rattle.semantics.specs.Chart.{Chart}
 use Rattle.semantics.specs.Encoding.{decode}
 use Rattle.semantics.specs.Memory.{width, below, rows-ok, each-once, zeros}
 use Rattle.form.specs.Form.{lent-tests}
-use Rattle.form.proofs.Facts.{passed, failed, drop-take, lent-grouped}
+use Rattle.form.proofs.Facts.{width-is, passed, failed, drop-take, lent-grouped}
 use Rattle.form.proofs.lent_ok.Statement.{statement}
 use Rattle.form.proofs.lent_ok.Tie as tie
 
@@ -123,22 +123,25 @@ after-four c =
     let s = p .before .before .before .before .before .before in
     passed (p .waits-ok .ensures) (not-false (p .waits-ok .result) (c .if4 .left)) (slots s && rest s) ∙ after-three (p .before .before)
 
-slot-width-requires : tie.Need-slot-width-requires
-slot-width-requires c κs = search needs
+width-requires : tie.Need-width-requires
+width-requires c κs = search needs
 
 -- the words of the slots in use, and of the capacity, are in the table
-module _ (c : tie.After-slot-width) where
+module _ (c : tie.After-width) where
   abbrev start : tie.Start
   start = c .before .before .before .before .before .before .before .before
 
   abbrev w : ℕ
-  w = c .slot-width .result
+  w = c .width .result
+
+  wide : w ≡ width (chart start)
+  wide = c .width .ensures .0 ∙ width-is (start .args .chart .now)
 
   below-room : used start * w ≤ capacity start * w
   below-room = mul-le-mul-right w (c .before .before .before .before .before .before .before .if1 .left)
 
   room : capacity start * w ≤ length (table start)
-  room = subst (λ (n : ℕ). capacity start * n ≤ length (table start)) (sym (c .slot-width .ensures)) (start .pre .0)
+  room = subst (λ (n : ℕ). capacity start * n ≤ length (table start)) (sym wide) (start .pre .0)
 
 mul-from : tie.Need-mul-from
 mul-from c = omega (arith, below-room c, room c, start c .good)
@@ -165,7 +168,7 @@ slots-tested : (c : tie.After-all-zero) → c .all-zero .result ≡ slots (start
 slots-tested c =
     let p = c .before .before in
     let s = start p in
-    let e = p .slot-width .ensures in
+    let e = wide p in
     c .all-zero .ensures ∙ ap zeros (sym (drop-take (used s * w p) (capacity s * w p) (table s)))
     ∙ (λ j. zeros (drop (used s * e j) (take (capacity s * e j) (table s))))
 
@@ -209,7 +212,7 @@ lent-ok-spec =
     slice-aggregate-waits-ok
     waits-ok-requires
     returns-4
-    slot-width-requires
+    width-requires
     mul-from
     mul-to
     mul-all-zero

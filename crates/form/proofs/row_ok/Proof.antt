@@ -17,8 +17,8 @@ use Rattle.form.proofs.row_ok.Tie as tie
 shared-slice-copy-out-location : tie.Need-shared-slice-copy-out-location
 shared-slice-copy-out-location c = search needs
 
-count-at-requires : tie.Need-count-at-requires
-count-at-requires c κs = search needs
+location-count-requires : tie.Need-location-count-requires
+location-count-requires c κs = search needs
 
 is-below-requires : tie.Need-is-below-requires
 is-below-requires c κs = search needs
@@ -36,7 +36,7 @@ module _ (c : tie.After-is-below) where
   tested : c .is-below .result ≡ below (count chart 1) location
   tested =
       let x = toZ-ofZ w32 location (sfits-of {z = location} (c .before .before .location .given)) in
-      c .is-below .ensures ∙ (λ j. below (c .before .count-at .ensures .0 j) (x j))
+      c .is-below .ensures ∙ (λ j. below (c .before .location-count .ensures .0 j) (x j))
 
 sub-values-ok : tie.Need-sub-values-ok
 sub-values-ok c = search needs
@@ -67,7 +67,7 @@ row-ok-spec =
     tie.close
     (tie.spec
     shared-slice-copy-out-location
-    count-at-requires
+    location-count-requires
     is-below-requires
     sub-values-ok
     part-values-ok-start

@@ -12,9 +12,9 @@ use borrow.Author.Tests.{not-true, not-false}
 use lib.IntN.{ℤ}
 use lib.ListN.{length, take, drop}
 use Rattle.semantics.specs.Encoding.{decode}
-use Rattle.semantics.specs.Memory.{row-ok, rows-ok}
+use Rattle.semantics.specs.Memory.{width, row-ok, rows-ok}
 use Rattle.words.proofs.Rows.{span, part-length, row-in}
-use Rattle.form.proofs.Facts.{rows-turn}
+use Rattle.form.proofs.Facts.{width-is, rows-turn}
 use Rattle.form.proofs.rows_ok.Statement.{statement}
 use Rattle.form.proofs.rows_ok.Tie as tie
 
@@ -25,16 +25,16 @@ Inv-loop chart table used w from₀ s₀ from s =
 abbrev μ-loop : tie.MeasureT-loop
 μ-loop chart table used w from₀ s₀ from s = used - s
 
-slot-width-requires : tie.Need-slot-width-requires Inv-loop μ-loop
-slot-width-requires c κs = search needs
+width-requires : tie.Need-width-requires Inv-loop μ-loop
+width-requires c κs = search needs
 
 loop-holds : tie.Need-loop-holds Inv-loop μ-loop
-loop-holds c = (omega arith, sym (zero-mul (c .slot-width .result)), rw (sub-zero (c .before .args .used)))
+loop-holds c = (omega arith, sym (zero-mul (c .width .result)), rw (sub-zero (c .before .args .used)))
 
 -- the row at `from` is in the table
 module _ (c : tie.In-loop Inv-loop μ-loop) where
   abbrev w : ℕ
-  w = c .before .before .slot-width .result
+  w = c .before .before .width .result
 
   abbrev used : ℕ
   used = c .before .before .before .args .used
@@ -42,9 +42,12 @@ module _ (c : tie.In-loop Inv-loop μ-loop) where
   abbrev table : List ℤ
   table = c .before .before .before .args .table .now
 
+  wide : w ≡ width (decode (c .before .before .before .args .chart .now))
+  wide = c .before .before .width .ensures .0 ∙ width-is (c .before .before .before .args .chart .now)
+
   room : c .before .loop .from + w ≤ length table
   room =
-      let all : used * w ≤ length table = subst (λ (n : ℕ). used * n ≤ length table) (sym (c .before .before .slot-width .ensures)) (c .before .before .before .pre) in
+      let all : used * w ≤ length table = subst (λ (n : ℕ). used * n ≤ length table) (sym wide) (c .before .before .before .pre) in
       omega (arith, all, c .before .loop .inv .1, row-in (c .before .loop .s) used w (c .loop-test .taken))
 
 add-to : tie.Need-add-to Inv-loop μ-loop
@@ -65,7 +68,7 @@ part-row-ok-end c = room c
 row-ok-requires : tie.Need-row-ok-requires Inv-loop μ-loop
 row-ok-requires c κs =
     let p = c .before in
-    rw span (part-length (table p) (p .before .loop .from) (w p) (room p)) ∙ p .before .before .slot-width .ensures
+    rw span (part-length (table p) (p .before .loop .from) (w p) (room p)) ∙ wide p
 
 turn : (c : tie.After-row-ok Inv-loop μ-loop) (b : Bool) → c .row-ok .result ≡ b →
     let p = c .before .before in
@@ -78,7 +81,7 @@ turn c b h =
     let n : used p - l .s ≡ suc (used p - (l .s + 1)) = omega (arith, p .loop-test .taken) in
     let q : row-ok (decode chart) (take (w p) (drop (l .from) (table p))) ≡ b = sym (rw span at (c .row-ok .ensures)) ∙ h in
     l .inv .2 ∙ ap (λ (n : ℕ). rows-ok (decode chart) n (drop (l .from) (table p))) n
-    ∙ rows-turn chart (table p) (l .from) (w p) (used p - (l .s + 1)) (p .before .before .slot-width .ensures) b q
+    ∙ rows-turn chart (table p) (l .from) (w p) (used p - (l .s + 1)) (wide p) b q
 
 returns : tie.Need-returns Inv-loop μ-loop
 returns c = sym (turn (c .before) false (not-true (c .before .row-ok .result) (c .if1 .taken)))
@@ -106,7 +109,7 @@ rows-ok-spec =
     (tie.spec
     Inv-loop
     μ-loop
-    slot-width-requires
+    width-requires
     loop-holds
     add-to
     mul-row-ok

@@ -1,5 +1,4 @@
--- `form::values_ok` meets its contract. The invariant: `at` is the place of variable i, and the values pass exactly when what is left passes.
--- Assumes nothing.
+-- `form::values_ok` meets its contract. The invariant: the values pass exactly when what is left passes. Assumes nothing.
 use mathlib.Core.Path.{_≡_, sym, ap, _∙_}
 use mathlib.Core.Bool.{Bool, true, false, _&&_, _||_}
 use mathlib.Core.List.{List}
@@ -21,24 +20,21 @@ use Rattle.form.proofs.values_ok.Statement.{statement}
 use Rattle.form.proofs.values_ok.Tie as tie
 
 abbrev Inv-loop : tie.InvT-loop
-Inv-loop chart values at₀ i₀ at i =
-    (i ≤ length values) × (at ≡ 3 + 3 * i)
-    × (all-pairs value-ok (several var-in 3 (length values) (drop 3 chart)) values ≡ all-pairs value-ok (several var-in 3 (length values - i) (drop at chart)) (drop i values))
+Inv-loop chart values i₀ i =
+    (i ≤ length values)
+    × (all-pairs value-ok (several var-in 3 (length values) (drop 3 chart)) values ≡ all-pairs value-ok (several var-in 3 (length values - i) (drop (3 + 3 * i) chart)) (drop i values))
 
 abbrev μ-loop : tie.MeasureT-loop
-μ-loop chart values at₀ i₀ at i = length values - i
+μ-loop chart values i₀ i = length values - i
 
 loop-holds : tie.Need-loop-holds Inv-loop μ-loop
-loop-holds c = (omega arith, omega arith, rw (sub-zero (length (c .args .values .now))))
+loop-holds c = (omega arith, rw (sub-zero (length (c .args .values .now))))
 
-word-at-requires : tie.Need-word-at-requires Inv-loop μ-loop
-word-at-requires c κs = search needs
+variable-low-requires : tie.Need-variable-low-requires Inv-loop μ-loop
+variable-low-requires c κs = omega arith
 
-add-word-at : tie.Need-add-word-at Inv-loop μ-loop
-add-word-at c = omega arith
-
-word-at-requires-2 : tie.Need-word-at-requires-2 Inv-loop μ-loop
-word-at-requires-2 c κs = search needs
+variable-high-requires : tie.Need-variable-high-requires Inv-loop μ-loop
+variable-high-requires c κs = omega arith
 
 mul-x : tie.Need-mul-x Inv-loop μ-loop
 mul-x c = omega arith
@@ -60,15 +56,15 @@ module _ (c : tie.After-value-ok Inv-loop μ-loop) where
   i = c .before .before .before .before .before .loop .i
 
   abbrev at : ℕ
-  at = c .before .before .before .before .before .loop .at
+  at = 3 + 3 * i
 
   abbrev x : ℤ
   x = getD values i (pos 0)
 
   tested : c .value-ok .result ≡ (eqZ x (pos 32768) || within (getD chart at (pos 0)) (getD chart (at + 1) (pos 0)) x)
   tested =
-      let p = c .before .before .before .word-at in
-      let q = c .before .before .word-at2 in
+      let p = c .before .before .before .variable-low in
+      let q = c .before .before .variable-high in
       let lo = toZ-ofZ w32 (p .result) (sfits-of {z = p .result} (p .ok)) ∙ p .ensures in
       let hi = toZ-ofZ w32 (q .result) (sfits-of {z = q .result} (q .ok)) ∙ q .ensures in
       let y = toZ-ofZ w32 x (sfits-of {z = x} (c .before .x .given)) in
@@ -76,19 +72,18 @@ module _ (c : tie.After-value-ok Inv-loop μ-loop) where
 
   turn : (b : Bool) → c .value-ok .result ≡ b →
       all-pairs value-ok (several var-in 3 (length values) (drop 3 chart)) values
-      ≡ b && all-pairs value-ok (several var-in 3 (length values - (i + 1)) (drop (at + 3) chart)) (drop (i + 1) values)
+      ≡ b && all-pairs value-ok (several var-in 3 (length values - (i + 1)) (drop (3 + 3 * (i + 1)) chart)) (drop (i + 1) values)
   turn b e =
       let h = c .before .before .before .before .loop-test .taken in
       let n : length values - i ≡ suc (length values - (i + 1)) = omega (arith, h) in
-      c .before .before .before .before .before .loop .inv .2
+      let next : 3 + 3 * i + 3 ≡ 3 + 3 * (i + 1) = omega arith in
+      c .before .before .before .before .before .loop .inv .1
       ∙ ap (λ (n : ℕ). all-pairs value-ok (several var-in 3 n (drop at chart)) (drop i values)) n
       ∙ values-turn values i h b chart at (length values - (i + 1)) (sym tested ∙ e)
+      ∙ ap (λ (n : ℕ). b && all-pairs value-ok (several var-in 3 (length values - (i + 1)) (drop n chart)) (drop (i + 1) values)) next
 
 returns : tie.Need-returns Inv-loop μ-loop
 returns c = sym (turn (c .before) false (not-true (c .before .value-ok .result) (c .if1 .taken)))
-
-add-at : tie.Need-add-at Inv-loop μ-loop
-add-at c = omega arith
 
 add-i : tie.Need-add-i Inv-loop μ-loop
 add-i c = omega arith
@@ -97,13 +92,13 @@ loop-less : tie.Need-loop-less Inv-loop μ-loop
 loop-less c = omega arith
 
 loop-again : tie.Need-loop-again Inv-loop μ-loop
-loop-again c = (omega arith, omega arith, turn (c .before) true (not-false (c .before .value-ok .result) (c .if1 .left)))
+loop-again c = (omega arith, turn (c .before) true (not-false (c .before .value-ok .result) (c .if1 .left)))
 
 returns-2 : tie.Need-returns-2 Inv-loop μ-loop
 returns-2 c =
     let b = c .before in
     let z : length (b .before .args .values .now) - b .loop .i ≡ 0 = omega arith in
-    sym (b .loop .inv .2 ∙ rw (z, drop-of-length-le (b .before .args .values .now) (c .loop-test .left)))
+    sym (b .loop .inv .1 ∙ rw (z, drop-of-length-le (b .before .args .values .now) (c .loop-test .left)))
 
 pub values-ok-spec : {M : Type 1} → statement M
 values-ok-spec =
@@ -112,14 +107,12 @@ values-ok-spec =
     Inv-loop
     μ-loop
     loop-holds
-    word-at-requires
-    add-word-at
-    word-at-requires-2
+    variable-low-requires
+    variable-high-requires
     mul-x
     shared-slice-copy-out-x
     value-ok-requires
     returns
-    add-at
     add-i
     loop-less
     loop-again
