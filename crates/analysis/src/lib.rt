@@ -188,7 +188,7 @@ fn leave(
         }
         slots = p.used;
         count = p.waiting;
-        at += 8;
+        at = encoded::next_edge(at);
         g = number;
     }
     Progress {
@@ -334,15 +334,6 @@ fn has_verdict(verdict: Verdict) -> bool
     }
 }
 
-// Where the words of the first edge stand.
-fn first_edge(chart: &[i32]) -> usize
-    ensures { λ r. ⌜ r ≡ edge-at (now (chart .entry)) 0 ⌝ }
-{
-    let variables = words::magnitude(words::word_at(chart, 0));
-    let locations = words::magnitude(words::word_at(chart, 1));
-    3 + 3 * variables + 17 * locations
-}
-
 // How many iterations the budget still allows.
 fn allowance(budget: u32, iterations: u32) -> u32
     requires { ⌜ iterations ≤ 60000 ⌝ }
@@ -368,7 +359,7 @@ pub fn run_core(
     requires { ⌜ Held width edges a (now table) (now list) × (a .iterations ≤ 60000) × (width ≤ 9) × (edge-at (now chart) edges < 4294967296) ⌝ }
     ensures { λ r. ⌜ Loaded width edges r (now (table .exit)) (now (list .exit)) (run (domain-of (now (chart .entry))) (edges-from 0 edges) (min budget (60000 - a .iterations)) (load-of width a (now (table .entry)) (now (list .entry)))) ⌝ }
 {
-    let first = first_edge(chart);
+    let first = encoded::edge_at(chart, 0);
     let mut left = allowance(budget, a.iterations);
     let mut at = a;
     while 0 < left {

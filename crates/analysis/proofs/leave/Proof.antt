@@ -89,24 +89,24 @@ returns c =
     let over = sym (d .has-ended .ensures) ∙ c .if1 .taken in
     record { out = sym (turn d ∙ then-ended _ _ _ _ (m .result .exit) over); kept = m .ensures .kept }
 
-add-at : tie.Need-add-at Inv-loop μ-loop
-add-at c =
+next-edge-requires : tie.Need-next-edge-requires Inv-loop μ-loop
+next-edge-requires c κs =
     let b = c .before .before .before .before .before .before .before .before .before .before in
     omega (arith, b .loop .inv .3, b .before .pre .4, c .before .before .before .before .before .before .before .before .before .loop-test .taken)
 
 loop-less : tie.Need-loop-less Inv-loop μ-loop
-loop-less c = omega (arith, c .before .before .before .before .before .before .before .before .before .loop-test .taken)
+loop-less c = omega (arith, c .before .before .before .before .before .before .before .before .before .before .loop-test .taken)
 
 loop-again : tie.Need-loop-again Inv-loop μ-loop
 loop-again c =
-    let d = c .before in
+    let d = c .before .before in
     let m = d .before .before .before .before .visit in
     let b = d .before .before .before .before .before .before .before .before .before in
-    let going = sym (d .has-ended .ensures) ∙ c .if1 .left in (
+    let going = sym (d .has-ended .ensures) ∙ c .before .if1 .left in (
       m .ensures .kept,
       m .kept .1 .1 .1 .1 .1 .1 .1 .1 .0 ∙ b .loop .inv .1,
       omega (arith, d .before .before .before .before .before .before .before .before .loop-test .taken),
-      omega (arith, b .loop .inv .3),
+      omega (arith, b .loop .inv .3, c .next-edge .ensures),
       turn d ∙ then-on _ _ _ _ (m .result .exit) going,
     )
 
@@ -138,7 +138,7 @@ leave-spec =
     same-length-2
     same-length-3
     returns
-    add-at
+    next-edge-requires
     loop-less
     loop-again
     same-length-4
