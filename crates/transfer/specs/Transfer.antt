@@ -4,7 +4,7 @@ use mathlib.Core.Bool.{Bool, true, false, _||_, not}
 use mathlib.Core.List.{List, [], _∷_}
 use Prim.Native.Nat.{ℕ, zero, suc, _+_, _*_}
 use lib.Dec.{eqb}
-use lib.IntN.{ℤ, pos, _+ℤ_, _-ℤ_}
+use lib.IntN.{ℤ, pos, natAbs, _+ℤ_, _-ℤ_}
 use lib.ListN.{getD, set}
 use lib.Signed.{leZ, ltZ}
 use Rattle.semantics.specs.Lists.{pick}
@@ -31,7 +31,11 @@ edges-from g (suc n) = g ∷ edges-from (suc g) n
 
 -- ---- values
 
--- an operand at i, a tag and what it holds: a number, or the word of a variable
+-- an operand by its tag and its own word: a number, or the word of a variable
+abbrev pub operand-by : ℤ → ℤ → List ℤ → ℤ
+operand-by tag z e = pick (eqZ tag (pos 0)) z (getD e (natAbs z + 1) (pos 0))
+
+-- an operand at i, a tag and what it holds
 abbrev pub operand-at : List ℤ → ℕ → List ℤ → ℤ
 operand-at c i e = pick (eqZ (getD c i (pos 0)) (pos 0)) (getD c (i + 1) (pos 0)) (getD e (count c (i + 1) + 1) (pos 0))
 

@@ -1,4 +1,5 @@
 // The transfer of an edge of the encoded chart on a row of words, the test of an error location, and the initial row.
+use semantics::LocationId;
 ghost use mathlib.Core.Path.{_≡_};
 ghost use Prim.Native.Nat.{_+_, _<_};
 ghost use lib.IntN.{_+ℤ_, _-ℤ_};
@@ -6,7 +7,7 @@ ghost use lib.ListN.{length, set};
 ghost use Rattle.semantics.specs.Chart.{within};
 ghost use Rattle.semantics.specs.Encoding.{count};
 ghost use Rattle.semantics.specs.Algorithm.{to};
-ghost use Rattle.transfer.specs.Transfer.{step-of, operand-at, set-ranged, set-value, assign-at, add-at, sub-at, input-at, holds-by, refine-by, assume-at, op-by, post-at, error-row, initial-row};
+ghost use Rattle.transfer.specs.Transfer.{step-of, operand-by, operand-at, set-ranged, set-value, assign-at, add-at, sub-at, input-at, holds-by, refine-by, assume-at, op-by, post-at, error-row, initial-row};
 
 // ---- values
 
@@ -28,24 +29,34 @@ fn lies_within(lo: i32, hi: i32, z: i64) -> bool
     (words::wide(lo) <= z) & (z <= words::wide(hi))
 }
 
-// The number at a place of the chart.
-fn number_at(chart: &[i32], i: usize) -> usize
-    ensures { λ r. ⌜ (r ≡ count (now (chart .entry)) i) × (r < 2147483649) ⌝ }
+// The word of an operand by its tag and its own word: a number, or a variable's word.
+fn operand(tag: i32, w: i32, row: &[i32]) -> i32
+    ensures { λ r. ⌜ r ≡ operand-by tag w (now (row .entry)) ⌝ }
 {
-    words::magnitude(words::word_at(chart, i))
+    if tag == 0 {
+        return w;
+    }
+    let k = words::magnitude(w);
+    words::word_at(row, k + 1)
 }
 
-// The word of an operand: its own number, or a variable's word.
-fn operand(chart: &[i32], i: usize, row: &[i32]) -> i32
-    requires { ⌜ i < 4294967303 ⌝ }
-    ensures { λ r. ⌜ r ≡ operand-at (now (chart .entry)) i (now (row .entry)) ⌝ }
+// The words of the two operands of the edge at i.
+fn first_operand(chart: &[i32], i: usize, row: &[i32]) -> i32
+    requires { ⌜ i < 4294967296 ⌝ }
+    ensures { λ r. ⌜ r ≡ operand-at (now (chart .entry)) (i + 4) (now (row .entry)) ⌝ }
 {
-    let tag = words::word_at(chart, i);
-    if tag == 0 {
-        return words::word_at(chart, i + 1);
-    }
-    let k = number_at(chart, i + 1);
-    words::word_at(row, k + 1)
+    let tag = encoded::first_tag(chart, i);
+    let w = encoded::first_value(chart, i);
+    operand(tag, w, row)
+}
+
+fn second_operand(chart: &[i32], i: usize, row: &[i32]) -> i32
+    requires { ⌜ i < 4294967296 ⌝ }
+    ensures { λ r. ⌜ r ≡ operand-at (now (chart .entry)) (i + 6) (now (row .entry)) ⌝ }
+{
+    let tag = encoded::second_tag(chart, i);
+    let w = encoded::second_value(chart, i);
+    operand(tag, w, row)
 }
 
 // Variable k becomes x.
@@ -64,9 +75,8 @@ fn put_ranged(chart: &[i32], k: usize, z: i64, row: &mut [i32]) -> bool
     requires { ⌜ k < 2147483649 ⌝ }
     ensures { λ r. ⌜ step-of r (now (row .exit)) ≡ set-ranged (now (chart .entry)) k z (now (row .entry)) ⌝ }
 {
-    let at = 3 + 3 * k;
-    let lo = words::word_at(chart, at);
-    let hi = words::word_at(chart, at + 1);
+    let lo = encoded::variable_low(chart, k);
+    let hi = encoded::variable_high(chart, k);
     if lies_within(lo, hi, z) {
         let x = z as i32;
         put(row, k, x);
@@ -93,8 +103,8 @@ fn assign(chart: &[i32], i: usize, row: &mut [i32]) -> bool
     requires { ⌜ i < 4294967296 ⌝ }
     ensures { λ r. ⌜ step-of r (now (row .exit)) ≡ assign-at (now (chart .entry)) i (now (row .entry)) ⌝ }
 {
-    let k = number_at(chart, i + 3);
-    let a = operand(chart, i + 4, row);
+    let k = encoded::edge_target(chart, i);
+    let a = first_operand(chart, i, row);
     put_value(chart, k, a == words::TOP, words::wide(a), row)
 }
 
@@ -102,9 +112,9 @@ fn add(chart: &[i32], i: usize, row: &mut [i32]) -> bool
     requires { ⌜ i < 4294967296 ⌝ }
     ensures { λ r. ⌜ step-of r (now (row .exit)) ≡ add-at (now (chart .entry)) i (now (row .entry)) ⌝ }
 {
-    let k = number_at(chart, i + 3);
-    let a = operand(chart, i + 4, row);
-    let b = operand(chart, i + 6, row);
+    let k = encoded::edge_target(chart, i);
+    let a = first_operand(chart, i, row);
+    let b = second_operand(chart, i, row);
     put_value(
         chart,
         k,
@@ -118,9 +128,9 @@ fn sub(chart: &[i32], i: usize, row: &mut [i32]) -> bool
     requires { ⌜ i < 4294967296 ⌝ }
     ensures { λ r. ⌜ step-of r (now (row .exit)) ≡ sub-at (now (chart .entry)) i (now (row .entry)) ⌝ }
 {
-    let k = number_at(chart, i + 3);
-    let a = operand(chart, i + 4, row);
-    let b = operand(chart, i + 6, row);
+    let k = encoded::edge_target(chart, i);
+    let a = first_operand(chart, i, row);
+    let b = second_operand(chart, i, row);
     put_value(
         chart,
         k,
@@ -134,9 +144,9 @@ fn input(chart: &[i32], i: usize, row: &mut [i32]) -> bool
     requires { ⌜ i < 4294967296 ⌝ }
     ensures { λ r. ⌜ step-of r (now (row .exit)) ≡ input-at (now (chart .entry)) i (now (row .entry)) ⌝ }
 {
-    let k = number_at(chart, i + 3);
-    let p = words::word_at(chart, i + 5);
-    let q = words::word_at(chart, i + 7);
+    let k = encoded::edge_target(chart, i);
+    let p = encoded::first_value(chart, i);
+    let q = encoded::second_value(chart, i);
     let x = rows::join_word(p, q);
     put(row, k, x);
     true
@@ -174,14 +184,14 @@ fn assume(chart: &[i32], n: usize, i: usize, row: &mut [i32]) -> bool
     requires { ⌜ i < 4294967296 ⌝ }
     ensures { λ r. ⌜ step-of r (now (row .exit)) ≡ assume-at (now (chart .entry)) n i (now (row .entry)) ⌝ }
 {
-    let k = number_at(chart, i + 3);
+    let k = encoded::edge_target(chart, i);
     let x = words::word_at(row, k + 1);
-    let y = operand(chart, i + 4, row);
+    let y = first_operand(chart, i, row);
     if x == words::TOP {
         return refine(chart, n, k, y, row);
     }
     if y == words::TOP {
-        let j = number_at(chart, i + 5);
+        let j = encoded::first_variable(chart, i);
         return refine(chart, n, j, x, row);
     }
     holds(n, x, y)
@@ -191,7 +201,7 @@ fn apply(chart: &[i32], i: usize, row: &mut [i32]) -> bool
     requires { ⌜ i < 4294967296 ⌝ }
     ensures { λ r. ⌜ step-of r (now (row .exit)) ≡ op-by (count (now (chart .entry)) (i + 2)) (now (chart .entry)) i (now (row .entry)) ⌝ }
 {
-    let n = number_at(chart, i + 2);
+    let n = encoded::edge_operation(chart, i);
     match n {
         0 => true,
         1 => assign(chart, i, row),
@@ -209,11 +219,11 @@ pub fn successor(chart: &[i32], at: usize, row: &[i32], out: &mut [i32]) -> bool
     requires { ⌜ (0 < length (now row)) × (length (now out) ≡ length (now row)) × (at < 4294967296) ⌝ }
     ensures { λ r. ⌜ step-of r (now (out .exit)) ≡ post-at (now (chart .entry)) at (now (row .entry)) ⌝ }
 {
-    let from = words::word_at(chart, at);
+    let from = encoded::edge_from(chart, at);
     let place = row[0];
     if from == place {
         words::copy_words(out, row);
-        let to = words::word_at(chart, at + 1);
+        let to = encoded::edge_to(chart, at);
         out[0] = to;
         return apply(chart, at, out);
     }
@@ -224,10 +234,8 @@ pub fn successor(chart: &[i32], at: usize, row: &[i32], out: &mut [i32]) -> bool
 pub fn is_error(chart: &[i32], row: &[i32]) -> bool
     ensures { λ r. ⌜ r ≡ error-row (now (chart .entry)) (now (row .entry)) ⌝ }
 {
-    let n = number_at(chart, 0);
-    let l = number_at(row, 0);
-    let kind = words::word_at(chart, 3 + 3 * n + 17 * l);
-    kind == 1
+    let l = words::magnitude(words::word_at(row, 0));
+    encoded::is_error_location(chart, LocationId(l))
 }
 
 // The row of the initial abstract state.
@@ -235,14 +243,12 @@ pub fn initial(chart: &[i32], out: &mut [i32])
     requires { ⌜ length (now out) ≡ 1 + count (now chart) 0 ⌝ }
     ensures { λ _. ⌜ now (out .exit) ≡ initial-row (now (chart .entry)) ⌝ }
 {
-    let n = number_at(chart, 0);
+    let n = encoded::var_count(chart);
     out[0] = 0;
-    let mut i = 1;
-    let mut at = 5;
-    while i <= n {
-        let x = words::word_at(chart, at);
-        out[i] = x;
-        i += 1;
-        at += 3;
+    let mut k = 0;
+    while k < n {
+        let x = encoded::variable_init(chart, k);
+        k += 1;
+        out[k] = x;
     }
 }

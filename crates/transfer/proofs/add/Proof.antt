@@ -10,23 +10,14 @@ use Rattle.transfer.specs.Transfer.{add-at}
 use Rattle.transfer.proofs.add.Statement.{statement}
 use Rattle.transfer.proofs.add.Tie as tie
 
-add-number-at : tie.Need-add-number-at
-add-number-at c = search needs
+edge-target-requires : tie.Need-edge-target-requires
+edge-target-requires c κs = search needs
 
-number-at-requires : tie.Need-number-at-requires
-number-at-requires c κs = search needs
+first-operand-requires : tie.Need-first-operand-requires
+first-operand-requires c κs = search needs
 
-add-operand : tie.Need-add-operand
-add-operand c = search needs
-
-operand-requires : tie.Need-operand-requires
-operand-requires c κs = search needs
-
-add-operand-2 : tie.Need-add-operand-2
-add-operand-2 c = search needs
-
-operand-requires-2 : tie.Need-operand-requires-2
-operand-requires-2 c κs = search needs
+second-operand-requires : tie.Need-second-operand-requires
+second-operand-requires c κs = search needs
 
 sum-requires : tie.Need-sum-requires
 sum-requires c κs = search needs
@@ -43,10 +34,10 @@ returns c =
     let r = c .before .before .before in
     let q = r .before in
     let p = q .before .before in
-    let a = p .operand .result in
-    let b = q .operand2 .result in
-    let fa = sfits-of {z = a} (p .operand .ok) in
-    let fb = sfits-of {z = b} (q .operand2 .ok) in
+    let a = p .first-operand .result in
+    let b = q .second-operand .result in
+    let fa = sfits-of {z = a} (p .first-operand .ok) in
+    let fb = sfits-of {z = b} (q .second-operand .ok) in
     let w = r .sum .result in
     c .before .put-value .ensures
     ∙ rw (
@@ -56,21 +47,18 @@ returns c =
       r .sum .ensures,
       toZ-ofZ w32 a fa,
       toZ-ofZ w32 b fb,
-      p .operand .ensures,
-      q .operand2 .ensures,
-      p .before .before .number-at .ensures .0,
+      p .first-operand .ensures,
+      q .second-operand .ensures,
+      p .before .before .edge-target .ensures .0,
     )
 
 pub add-spec : {M : Type 1} → statement M
 add-spec =
     tie.close
     (tie.spec
-    add-number-at
-    number-at-requires
-    add-operand
-    operand-requires
-    add-operand-2
-    operand-requires-2
+    edge-target-requires
+    first-operand-requires
+    second-operand-requires
     sum-requires
     put-value-requires
     same-length

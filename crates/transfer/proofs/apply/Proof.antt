@@ -9,21 +9,18 @@ use Rattle.transfer.proofs.apply.Statement.{statement}
 use Rattle.transfer.proofs.apply.Tie as tie
 
 -- the operation's code, as the chart has it
-module _ (c : tie.After-number-at) where
+module _ (c : tie.After-edge-operation) where
   abbrev op : ℕ
   op = count (c .before .args .chart .now) (c .before .args .i + 2)
 
-  code : (n : ℕ) → c .number-at .result ≡ n → op ≡ n
-  code n e = sym (c .number-at .ensures .0) ∙ e
+  code : (n : ℕ) → c .edge-operation .result ≡ n → op ≡ n
+  code n e = sym (c .edge-operation .ensures .0) ∙ e
 
-  not-code : (n : ℕ) → (c .number-at .result ≡ n → ⊥) → op ≡ n → ⊥
-  not-code n h e = h (c .number-at .ensures .0 ∙ e)
+  not-code : (n : ℕ) → (c .edge-operation .result ≡ n → ⊥) → op ≡ n → ⊥
+  not-code n h e = h (c .edge-operation .ensures .0 ∙ e)
 
-add-number-at : tie.Need-add-number-at
-add-number-at c = search needs
-
-number-at-requires : tie.Need-number-at-requires
-number-at-requires c κs = search needs
+edge-operation-requires : tie.Need-edge-operation-requires
+edge-operation-requires c κs = search needs
 
 assign-requires : tie.Need-assign-requires
 assign-requires c κs = search needs
@@ -88,14 +85,13 @@ returns-6 c =
       ne-eqb (op p) 3 (not-code p 3 (r .0 .1)),
       ne-eqb (op p) 4 (not-code p 4 (r .1)),
     )
-    (c .before .assume .ensures ∙ ap (λ (n : ℕ). assume-at (p .before .args .chart .now) n (p .before .args .i) (p .before .args .row .now)) (p .number-at .ensures .0))
+    (c .before .assume .ensures ∙ ap (λ (n : ℕ). assume-at (p .before .args .chart .now) n (p .before .args .i) (p .before .args .row .now)) (p .edge-operation .ensures .0))
 
 pub apply-spec : {M : Type 1} → statement M
 apply-spec =
     tie.close
     (tie.spec
-    add-number-at
-    number-at-requires
+    edge-operation-requires
     assign-requires
     add-requires
     sub-requires

@@ -10,17 +10,11 @@ use Rattle.transfer.specs.Transfer.{assign-at}
 use Rattle.transfer.proofs.assign.Statement.{statement}
 use Rattle.transfer.proofs.assign.Tie as tie
 
-add-number-at : tie.Need-add-number-at
-add-number-at c = search needs
+edge-target-requires : tie.Need-edge-target-requires
+edge-target-requires c κs = search needs
 
-number-at-requires : tie.Need-number-at-requires
-number-at-requires c κs = search needs
-
-add-operand : tie.Need-add-operand
-add-operand c = search needs
-
-operand-requires : tie.Need-operand-requires
-operand-requires c κs = search needs
+first-operand-requires : tie.Need-first-operand-requires
+first-operand-requires c κs = search needs
 
 wide-requires : tie.Need-wide-requires
 wide-requires c κs = search needs
@@ -35,8 +29,8 @@ returns : tie.Need-returns
 unfolding assign-at
 returns c =
     let o = c .before .before .before .before in
-    let a = o .operand .result in
-    let fa = sfits-of {z = a} (o .operand .ok) in
+    let a = o .first-operand .result in
+    let fa = sfits-of {z = a} (o .first-operand .ok) in
     let w = c .before .before .before .wide .result in
     c .before .put-value .ensures
     ∙ rw (
@@ -44,18 +38,16 @@ returns c =
       toZ-ofZ w64 w (sfits-of {z = w} (c .before .before .before .wide .ok)),
       c .before .before .before .wide .ensures,
       toZ-ofZ w32 a fa,
-      o .operand .ensures,
-      o .before .before .number-at .ensures .0,
+      o .first-operand .ensures,
+      o .before .before .edge-target .ensures .0,
     )
 
 pub assign-spec : {M : Type 1} → statement M
 assign-spec =
     tie.close
     (tie.spec
-    add-number-at
-    number-at-requires
-    add-operand
-    operand-requires
+    edge-target-requires
+    first-operand-requires
     wide-requires
     put-value-requires
     same-length

@@ -16,7 +16,7 @@ use Rattle.transfer.proofs.assume.Statement.{statement}
 use Rattle.transfer.proofs.assume.Tie as tie
 
 -- the sides of the relation, read
-module _ (c : tie.After-operand) where
+module _ (c : tie.After-first-operand) where
   abbrev start : tie.Start
   start = c .before .before .before .before .before
 
@@ -24,10 +24,10 @@ module _ (c : tie.After-operand) where
   left = c .before .before .word-at .result
 
   abbrev right : ℤ
-  right = c .operand .result
+  right = c .first-operand .result
 
   left-is : left ≡ getD (start .args .row .now) (target-at (start .args .chart .now) (start .args .i) + 1) (pos 0)
-  left-is = c .before .before .word-at .ensures ∙ ap (λ (n : ℕ). getD (start .args .row .now) (n + 1) (pos 0)) (c .before .before .before .before .number-at .ensures .0)
+  left-is = c .before .before .word-at .ensures ∙ ap (λ (n : ℕ). getD (start .args .row .now) (n + 1) (pos 0)) (c .before .before .before .before .edge-target .ensures .0)
 
   left-top : ofZ w32 left ≡ ofZ w32 (pos 32768) → eqZ (getD (start .args .row .now) (target-at (start .args .chart .now) (start .args .i) + 1) (pos 0)) (pos 32768) ≡ true
   left-top e = rw left-is at (bits-eq w32 {a = left} {b = pos 32768} (sfits-of {z = left} (c .before .before .word-at .ok)) (sfits-lit tt) e)
@@ -36,16 +36,13 @@ module _ (c : tie.After-operand) where
   left-known e = rw left-is at (bits-ne w32 {a = left} {b = pos 32768} (sfits-of {z = left} (c .before .before .word-at .ok)) (sfits-lit tt) e)
 
   right-top : ofZ w32 right ≡ ofZ w32 (pos 32768) → eqZ (operand-at (start .args .chart .now) (start .args .i + 4) (start .args .row .now)) (pos 32768) ≡ true
-  right-top e = rw (c .operand .ensures) at (bits-eq w32 {a = right} {b = pos 32768} (sfits-of {z = right} (c .operand .ok)) (sfits-lit tt) e)
+  right-top e = rw (c .first-operand .ensures) at (bits-eq w32 {a = right} {b = pos 32768} (sfits-of {z = right} (c .first-operand .ok)) (sfits-lit tt) e)
 
   right-known : (ofZ w32 right ≡ ofZ w32 (pos 32768) → ⊥) → eqZ (operand-at (start .args .chart .now) (start .args .i + 4) (start .args .row .now)) (pos 32768) ≡ false
-  right-known e = rw (c .operand .ensures) at (bits-ne w32 {a = right} {b = pos 32768} (sfits-of {z = right} (c .operand .ok)) (sfits-lit tt) e)
+  right-known e = rw (c .first-operand .ensures) at (bits-ne w32 {a = right} {b = pos 32768} (sfits-of {z = right} (c .first-operand .ok)) (sfits-lit tt) e)
 
-add-number-at : tie.Need-add-number-at
-add-number-at c = search needs
-
-number-at-requires : tie.Need-number-at-requires
-number-at-requires c κs = search needs
+edge-target-requires : tie.Need-edge-target-requires
+edge-target-requires c κs = search needs
 
 add-word-at : tie.Need-add-word-at
 add-word-at c = search needs
@@ -53,11 +50,8 @@ add-word-at c = search needs
 word-at-requires : tie.Need-word-at-requires
 word-at-requires c κs = search needs
 
-add-operand : tie.Need-add-operand
-add-operand c = search needs
-
-operand-requires : tie.Need-operand-requires
-operand-requires c κs = search needs
+first-operand-requires : tie.Need-first-operand-requires
+first-operand-requires c κs = search needs
 
 refine-requires : tie.Need-refine-requires
 refine-requires c κs = search needs
@@ -72,15 +66,12 @@ returns c =
     let o = h .before in
     let a = start o .args in
     let y = right o in
-    let p = o .before .before .before .before .number-at .ensures .0 in
-    let q = toZ-ofZ w32 y (sfits-of {z = y} (o .operand .ok)) ∙ o .operand .ensures in
+    let p = o .before .before .before .before .edge-target .ensures .0 in
+    let q = toZ-ofZ w32 y (sfits-of {z = y} (o .first-operand .ok)) ∙ o .first-operand .ensures in
     rw (left-top o (h .if1 .taken)) (c .before .refine .ensures ∙ λ i. refine-by (a .chart .now) (a .n) (p i) (q i) (a .row .now))
 
-add-number-at-2 : tie.Need-add-number-at-2
-add-number-at-2 c = search needs
-
-number-at-requires-2 : tie.Need-number-at-requires-2
-number-at-requires-2 c κs = search needs
+first-variable-requires : tie.Need-first-variable-requires
+first-variable-requires c κs = search needs
 
 refine-requires-2 : tie.Need-refine-requires-2
 refine-requires-2 c κs = search needs
@@ -95,7 +86,7 @@ returns-2 c =
     let o = m .before .before .before in
     let a = start o .args in
     let x = left o in
-    let p = m .number-at2 .ensures .0 in
+    let p = m .first-variable .ensures .0 in
     let q = toZ-ofZ w32 x (sfits-of {z = x} (o .before .before .word-at .ok)) ∙ left-is o in
     rw (left-known o (m .before .before .if1 .left), right-top o (m .before .if2 .taken)) (c .before .refine2 .ensures ∙ λ i. refine-by (a .chart .now) (a .n) (p i) (q i) (a .row .now))
 
@@ -113,7 +104,7 @@ returns-3 c =
     let x = left o in
     let y = right o in
     let p = toZ-ofZ w32 x (sfits-of {z = x} (o .before .before .word-at .ok)) ∙ left-is o in
-    let q = toZ-ofZ w32 y (sfits-of {z = y} (o .operand .ok)) ∙ o .operand .ensures in
+    let q = toZ-ofZ w32 y (sfits-of {z = y} (o .first-operand .ok)) ∙ o .first-operand .ensures in
     let h = c .holds .ensures ∙ λ i. holds-by (a .n) (p i) (q i) in
     rw (left-known o (c .before .before .if1 .left), right-known o (c .before .if2 .left)) (ap (λ (b : Bool). step-of b (a .row .now)) h)
 
@@ -121,17 +112,14 @@ pub assume-spec : {M : Type 1} → statement M
 assume-spec =
     tie.close
     (tie.spec
-    add-number-at
-    number-at-requires
+    edge-target-requires
     add-word-at
     word-at-requires
-    add-operand
-    operand-requires
+    first-operand-requires
     refine-requires
     same-length
     returns
-    add-number-at-2
-    number-at-requires-2
+    first-variable-requires
     refine-requires-2
     same-length-2
     returns-2

@@ -6,23 +6,14 @@ use Rattle.transfer.specs.Transfer.{input-at}
 use Rattle.transfer.proofs.input.Statement.{statement}
 use Rattle.transfer.proofs.input.Tie as tie
 
-add-number-at : tie.Need-add-number-at
-add-number-at c = search needs
+edge-target-requires : tie.Need-edge-target-requires
+edge-target-requires c κs = search needs
 
-number-at-requires : tie.Need-number-at-requires
-number-at-requires c κs = search needs
+first-value-requires : tie.Need-first-value-requires
+first-value-requires c κs = search needs
 
-add-word-at : tie.Need-add-word-at
-add-word-at c = search needs
-
-word-at-requires : tie.Need-word-at-requires
-word-at-requires c κs = search needs
-
-add-word-at-2 : tie.Need-add-word-at-2
-add-word-at-2 c = search needs
-
-word-at-requires-2 : tie.Need-word-at-requires-2
-word-at-requires-2 c κs = search needs
+second-value-requires : tie.Need-second-value-requires
+second-value-requires c κs = search needs
 
 join-word-requires : tie.Need-join-word-requires
 join-word-requires c κs = search needs
@@ -40,29 +31,26 @@ returns c =
     let q = j .before in
     let p = q .before in
     let x = j .join-word .result in
-    let a = p .word-at .result in
-    let b = q .word-at2 .result in
+    let a = p .first-value .result in
+    let b = q .second-value .result in
     rw (
       c .before .put .ensures,
       toZ-ofZ w32 x (sfits-of {z = x} (j .join-word .ok)),
       j .join-word .ensures,
-      toZ-ofZ w32 a (sfits-of {z = a} (p .word-at .ok)),
-      toZ-ofZ w32 b (sfits-of {z = b} (q .word-at2 .ok)),
-      p .word-at .ensures,
-      q .word-at2 .ensures,
-      p .before .number-at .ensures .0,
+      toZ-ofZ w32 a (sfits-of {z = a} (p .first-value .ok)),
+      toZ-ofZ w32 b (sfits-of {z = b} (q .second-value .ok)),
+      p .first-value .ensures,
+      q .second-value .ensures,
+      p .before .edge-target .ensures .0,
     )
 
 pub input-spec : {M : Type 1} → statement M
 input-spec =
     tie.close
     (tie.spec
-    add-number-at
-    number-at-requires
-    add-word-at
-    word-at-requires
-    add-word-at-2
-    word-at-requires-2
+    edge-target-requires
+    first-value-requires
+    second-value-requires
     join-word-requires
     put-requires
     same-length

@@ -15,10 +15,10 @@ use Rattle.transfer.proofs.put_ranged.Tie as tie
 
 module _ (c : tie.After-lies-within) where
   abbrev lo : ℤ
-  lo = c .before .before .word-at .result
+  lo = c .before .before .variable-low .result
 
   abbrev hi : ℤ
-  hi = c .before .word-at2 .result
+  hi = c .before .variable-high .result
 
   abbrev start : tie.Start
   start = c .before .before .before
@@ -27,36 +27,27 @@ module _ (c : tie.After-lies-within) where
   told =
       c .lies-within .ensures
       ∙ rw (
-        toZ-ofZ w32 lo (sfits-of {z = lo} (c .before .before .word-at .ok)),
-        toZ-ofZ w32 hi (sfits-of {z = hi} (c .before .word-at2 .ok)),
+        toZ-ofZ w32 lo (sfits-of {z = lo} (c .before .before .variable-low .ok)),
+        toZ-ofZ w32 hi (sfits-of {z = hi} (c .before .variable-high .ok)),
         toZ-ofZ w64 (start .args .z) (start .fits .z),
       )
 
   is-within : c .lies-within .result ≡ within (getD (start .args .chart .now) (3 + 3 * start .args .k) (pos 0)) (getD (start .args .chart .now) (3 + 3 * start .args .k + 1) (pos 0)) (start .args .z)
   is-within =
-      let p = c .before .before .word-at .ensures in
-      let q = c .before .word-at2 .ensures in
+      let p = c .before .before .variable-low .ensures in
+      let q = c .before .variable-high .ensures in
       told ∙ λ i. within (p i) (q i) (start .args .z)
 
 fits : (c : tie.Then1) → SFits w32 (c .before .before .before .before .args .z)
 fits c =
     let b = c .before in
-    within-fits (lo b) (hi b) (start b .args .z) (sfits-of {z = lo b} (b .before .before .word-at .ok)) (sfits-of {z = hi b} (b .before .word-at2 .ok)) (sym (told b) ∙ c .if1 .taken)
+    within-fits (lo b) (hi b) (start b .args .z) (sfits-of {z = lo b} (b .before .before .variable-low .ok)) (sfits-of {z = hi b} (b .before .variable-high .ok)) (sym (told b) ∙ c .if1 .taken)
 
-mul-at : tie.Need-mul-at
-mul-at c = search needs
+variable-low-requires : tie.Need-variable-low-requires
+variable-low-requires c κs = search needs
 
-add-at : tie.Need-add-at
-add-at c = search needs
-
-word-at-requires : tie.Need-word-at-requires
-word-at-requires c κs = search needs
-
-add-word-at : tie.Need-add-word-at
-add-word-at c = search needs
-
-word-at-requires-2 : tie.Need-word-at-requires-2
-word-at-requires-2 c κs = search needs
+variable-high-requires : tie.Need-variable-high-requires
+variable-high-requires c κs = search needs
 
 lies-within-requires : tie.Need-lies-within-requires
 lies-within-requires c κs = search needs
@@ -88,11 +79,8 @@ pub put-ranged-spec : {M : Type 1} → statement M
 put-ranged-spec =
     tie.close
     (tie.spec
-    mul-at
-    add-at
-    word-at-requires
-    add-word-at
-    word-at-requires-2
+    variable-low-requires
+    variable-high-requires
     lies-within-requires
     cast-x
     put-requires

@@ -10,8 +10,8 @@ use Rattle.transfer.specs.Transfer.{post-at}
 use Rattle.transfer.proofs.successor.Statement.{statement}
 use Rattle.transfer.proofs.successor.Tie as tie
 
-word-at-requires : tie.Need-word-at-requires
-word-at-requires c κs = search needs
+edge-from-requires : tie.Need-edge-from-requires
+edge-from-requires c κs = search needs
 
 shared-slice-copy-out-place : tie.Need-shared-slice-copy-out-place
 shared-slice-copy-out-place c = search needs
@@ -19,11 +19,8 @@ shared-slice-copy-out-place c = search needs
 copy-words-requires : tie.Need-copy-words-requires
 copy-words-requires c κs = search needs
 
-add-word-at : tie.Need-add-word-at
-add-word-at c = search needs
-
-word-at-requires-2 : tie.Need-word-at-requires-2
-word-at-requires-2 c κs = search needs
+edge-to-requires : tie.Need-edge-to-requires
+edge-to-requires c κs = search needs
 
 slice-set-from-to : tie.Need-slice-set-from-to
 slice-set-from-to c = search needs
@@ -44,30 +41,29 @@ returns c =
     let i = k .before .before in
     let w = i .before .before in
     let s = w .before in
-    let f = w .word-at .result in
+    let f = w .edge-from .result in
     let l = getD (s .args .row .now) 0 (pos 0) in
-    let q = rw (w .word-at .ensures) at (bits-eq w32 {a = f} {b = l} (sfits-of {z = f} (w .word-at .ok)) (sfits-of (i .before .place .given)) (i .if1 .taken)) in
-    let t = m .word-at2 .result in
-    rw q (c .before .apply .ensures ∙ rw (toZ-ofZ w32 t (sfits-of {z = t} (m .word-at2 .ok)), m .word-at2 .ensures, k .copy-words .ensures))
+    let q = rw (w .edge-from .ensures) at (bits-eq w32 {a = f} {b = l} (sfits-of {z = f} (w .edge-from .ok)) (sfits-of (i .before .place .given)) (i .if1 .taken)) in
+    let t = m .edge-to .result in
+    rw q (c .before .apply .ensures ∙ rw (toZ-ofZ w32 t (sfits-of {z = t} (m .edge-to .ok)), m .edge-to .ensures, k .copy-words .ensures))
 
 returns-2 : tie.Need-returns-2
 unfolding post-at
 returns-2 c =
     let w = c .before .before in
     let s = w .before in
-    let f = w .word-at .result in
+    let f = w .edge-from .result in
     let l = getD (s .args .row .now) 0 (pos 0) in
-    rw (rw (w .word-at .ensures) at (bits-ne w32 {a = f} {b = l} (sfits-of {z = f} (w .word-at .ok)) (sfits-of (c .before .place .given)) (c .if1 .left)))
+    rw (rw (w .edge-from .ensures) at (bits-ne w32 {a = f} {b = l} (sfits-of {z = f} (w .edge-from .ok)) (sfits-of (c .before .place .given)) (c .if1 .left)))
 
 pub successor-spec : {M : Type 1} → statement M
 successor-spec =
     tie.close
     (tie.spec
-    word-at-requires
+    edge-from-requires
     shared-slice-copy-out-place
     copy-words-requires
-    add-word-at
-    word-at-requires-2
+    edge-to-requires
     slice-set-from-to
     apply-requires
     same-length
