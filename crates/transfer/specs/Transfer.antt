@@ -37,7 +37,7 @@ operand-by tag z e = pick (eqZ tag (pos 0)) z (getD e (natAbs z + 1) (pos 0))
 
 -- an operand at i, a tag and what it holds
 abbrev pub operand-at : List ℤ → ℕ → List ℤ → ℤ
-operand-at c i e = pick (eqZ (getD c i (pos 0)) (pos 0)) (getD c (i + 1) (pos 0)) (getD e (count c (i + 1) + 1) (pos 0))
+operand-at c i e = operand-by (getD c i (pos 0)) (getD c (i + 1) (pos 0)) e
 
 -- variable k becomes z if that lies in its range
 unfoldable pub set-ranged : List ℤ → ℕ → ℤ → List ℤ → Step (List ℤ)

@@ -63,7 +63,7 @@ loop-again c =
       omega arith,
       simp length-set (b .loop .inv .1),
       b .loop .inv .2 ∙ initial-turn ws o (k + 1) (3 + 3 * k + 2) n y v h l
-      ∙ ap (λ (at : ℕ). take (k + 1 + 1) (set o (k + 1) y) ++ initial-words ws at (n + 1 - (k + 1 + 1))) next,
+          ∙ ap (λ (at : ℕ). take (k + 1 + 1) (set o (k + 1) y) ++ initial-words ws at (n + 1 - (k + 1 + 1))) next,
     )
 
 same-length : tie.Need-same-length Inv-loop μ-loop

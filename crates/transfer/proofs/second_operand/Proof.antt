@@ -1,14 +1,12 @@
 -- `transfer::second_operand` meets its contract. Assumes nothing.
-use mathlib.Core.Path.{_≡_, ap, _∙_}
-use Prim.Native.Nat.{ℕ, _+_}
+use mathlib.Core.Path.{_∙_}
+use Prim.Native.Nat.{_+_}
 use native.Mathlib.Omega.{arith}
 use borrow.Author.Needs.{needs, sfits-of}
-use lib.IntN.{pos}
-use lib.ListN.{getD}
 use mir.Syntax.{w32}
 use mir.ValLaws.{toZ-ofZ}
 use Rattle.encoded.proofs.Facts.{told}
-use Rattle.transfer.specs.Transfer.{operand-by}
+use Rattle.transfer.proofs.Turns.{operand-read}
 use Rattle.transfer.proofs.second_operand.Statement.{statement}
 use Rattle.transfer.proofs.second_operand.Tie as tie
 
@@ -18,10 +16,9 @@ returns c =
     let t = c .before .before .second-tag in
     let a = c .before .before .before .args in
     let r = c .operand .result in
-    let next : a .i + 7 ≡ a .i + 6 + 1 = omega arith in
     let p = told (sfits-of {z = t .result} (t .ok)) (t .ensures) in
-    let q = told (sfits-of {z = v .result} (v .ok)) (v .ensures) ∙ ap (λ (n : ℕ). getD (a .chart .now) n (pos 0)) next in
-    toZ-ofZ w32 r (sfits-of {z = r} (c .operand .ok)) ∙ c .operand .ensures ∙ λ j. operand-by (p j) (q j) (a .row .now)
+    let q = told (sfits-of {z = v .result} (v .ok)) (v .ensures) in
+    toZ-ofZ w32 r (sfits-of {z = r} (c .operand .ok)) ∙ c .operand .ensures ∙ operand-read (a .chart .now) (a .row .now) (a .i + 6) (a .i + 7) p q (omega arith)
 
 pub second-operand-spec : {M : Type 1} → statement M
 second-operand-spec = tie.close (tie.spec (λ c κs. search needs) (λ c κs. search needs) (λ c κs. search needs) returns)
