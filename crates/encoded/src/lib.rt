@@ -1,4 +1,4 @@
-// The encoded chart: its check, and what stands where in its words. No other crate reads them by place.
+// The encoded chart: its check, and what stands where in its words. Crates that use a chart ask here, and read no word by place.
 use semantics::LocationId;
 ghost use mathlib.Core.Path.{_≡_};
 ghost use mathlib.Core.Bool.{not};
