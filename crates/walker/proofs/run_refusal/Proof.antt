@@ -1,0 +1,124 @@
+-- `walker::run_refusal` meets its contract: each test that passed leaves the rest of the list. Assumes nothing.
+use mathlib.Core.Path.{_≡_, refl, sym, ap, _∙_}
+use mathlib.Core.Bool.{true, false}
+use borrow.Author.Needs.{needs}
+use borrow.Author.Tests.{not-true, not-false, eq-eqb, ne-eqb}
+use denote.Ref.{now}
+use lib.ListN.{length}
+use mir.Syntax.{w32}
+use mir.ValLaws.{toZ-ofZ}
+use Rattle.semantics.specs.Encoding.{decode, well-formed}
+use Rattle.semantics.specs.Memory.{analysis-ok}
+use Rattle.semantics.specs.Outcomes.{short, budget-ok, has-verdict}
+use Rattle.semantics.proofs.ListFacts.{from-true}
+use Rattle.form.specs.Form.{lent}
+use Rattle.walker.proofs.Sized.{enough}
+use Rattle.walker.proofs.run_refusal.Statement.{statement}
+use Rattle.walker.proofs.run_refusal.Tie as tie
+
+budget-ok-requires : tie.Need-budget-ok-requires
+budget-ok-requires c κs = search needs
+
+-- what the tests say
+budget-said : (c : tie.After-budget-ok) → budget-ok (c .before .args .budget) ≡ c .budget-ok .result
+budget-said c = sym (c .budget-ok .ensures ∙ ap budget-ok (toZ-ofZ w32 (c .before .args .budget) (c .before .fits .budget)))
+
+budget-passed : (c : tie.Else1) → budget-ok (c .before .before .args .budget) ≡ true
+budget-passed c = budget-said (c .before) ∙ not-false (c .before .budget-ok .result) (c .if1 .left)
+
+chart-passed : (c : tie.Else2) → well-formed (now (c .before .before .before .before .args .chart)) ≡ true
+chart-passed c = sym (c .before .well-formed .ensures) ∙ not-false (c .before .well-formed .result) (c .if2 .left)
+
+lent-enough : (c : tie.Else3) → let s = c .before .before .before .before .before .before .args in
+    short (decode (now (s .chart))) (s .a .capacity) (length (now (s .table))) (length (now (s .list))) ≡ false
+lent-enough c = sym (c .before .is-short .ensures) ∙ c .if3 .left
+
+form-passed : (c : tie.Else4) → let s = c .before .before .before .before .before .before .before .before .args in
+    analysis-ok (decode (now (s .chart))) (lent (now (s .table)) (now (s .list)) (s .a)) ≡ true
+form-passed c = sym (c .before .analysis-ok .ensures) ∙ not-false (c .before .analysis-ok .result) (c .if4 .left)
+
+still-open : (c : tie.Else5) → has-verdict (c .before .before .before .before .before .before .before .before .before .before .args .a .verdict) ≡ false
+still-open c = sym (c .before .has-verdict .ensures) ∙ c .if5 .left
+
+returns : tie.Need-returns
+returns c = rw (budget-said (c .before) ∙ not-true (c .before .budget-ok .result) (c .if1 .taken)) refl
+
+well-formed-requires : tie.Need-well-formed-requires
+well-formed-requires c κs = search needs
+
+returns-2 : tie.Need-returns-2
+returns-2 c = rw (budget-passed (c .before .before), sym (c .before .well-formed .ensures) ∙ not-true (c .before .well-formed .result) (c .if2 .taken)) refl
+
+is-short-requires : tie.Need-is-short-requires
+is-short-requires c κs = from-true (chart-passed c)
+
+returns-3 : tie.Need-returns-3
+returns-3 c = rw (budget-passed (c .before .before .before .before), chart-passed (c .before .before), sym (c .before .is-short .ensures) ∙ c .if3 .taken) refl
+
+analysis-ok-requires : tie.Need-analysis-ok-requires
+analysis-ok-requires c κs =
+    let s = c .before .before .before .before .before .before .args in
+    enough (decode (now (s .chart))) (s .a .capacity) (length (now (s .table))) (length (now (s .list))) (lent-enough c)
+
+returns-4 : tie.Need-returns-4
+returns-4 c =
+    rw (
+      budget-passed (c .before .before .before .before .before .before),
+      chart-passed (c .before .before .before .before),
+      lent-enough (c .before .before),
+      sym (c .before .analysis-ok .ensures) ∙ not-true (c .before .analysis-ok .result) (c .if4 .taken),
+    ) refl
+
+has-verdict-requires : tie.Need-has-verdict-requires
+has-verdict-requires c κs = search needs
+
+returns-5 : tie.Need-returns-5
+returns-5 c =
+    rw (
+      budget-passed (c .before .before .before .before .before .before .before .before),
+      chart-passed (c .before .before .before .before .before .before),
+      lent-enough (c .before .before .before .before),
+      form-passed (c .before .before),
+      sym (c .before .has-verdict .ensures) ∙ c .if5 .taken,
+    ) refl
+
+returns-6 : tie.Need-returns-6
+returns-6 c =
+    let o = c .before .before in
+    rw (
+      budget-passed (o .before .before .before .before .before .before .before .before),
+      chart-passed (o .before .before .before .before .before .before),
+      lent-enough (o .before .before .before .before),
+      form-passed (o .before .before),
+      still-open o,
+      eq-eqb (o .before .before .before .before .before .before .before .before .before .before .args .a .iterations) 60000 (c .if6 .taken),
+    ) refl
+
+returns-7 : tie.Need-returns-7
+returns-7 c =
+    let o = c .before .before in
+    rw (
+      budget-passed (o .before .before .before .before .before .before .before .before),
+      chart-passed (o .before .before .before .before .before .before),
+      lent-enough (o .before .before .before .before),
+      form-passed (o .before .before),
+      still-open o,
+      ne-eqb (o .before .before .before .before .before .before .before .before .before .before .args .a .iterations) 60000 (c .if6 .left),
+    ) refl
+
+pub run-refusal-spec : {M : Type 1} → statement M
+run-refusal-spec =
+    tie.close
+    (tie.spec
+    budget-ok-requires
+    returns
+    well-formed-requires
+    returns-2
+    is-short-requires
+    returns-3
+    analysis-ok-requires
+    returns-4
+    has-verdict-requires
+    returns-5
+    returns-6
+    returns-7)

@@ -1,0 +1,93 @@
+-- `walker::start_refusal` meets its contract: each test that passed leaves the rest of the list. Assumes nothing.
+use mathlib.Core.Path.{_≡_, refl, sym, ap, _∙_}
+use mathlib.Core.Bool.{true}
+use native.Mathlib.Omega.{arith}
+use borrow.Author.Needs.{needs}
+use borrow.Author.Tests.{not-true, not-false}
+use denote.Ref.{now}
+use mir.Syntax.{w32}
+use mir.ValLaws.{toZ-ofZ}
+use Rattle.semantics.specs.Coverage.{allowed}
+use Rattle.semantics.specs.Encoding.{well-formed}
+use Rattle.semantics.specs.Memory.{capacity-ok}
+use Rattle.semantics.proofs.ListFacts.{from-true}
+use Rattle.walker.proofs.Sized.{counted}
+use Rattle.walker.proofs.start_refusal.Statement.{statement}
+use Rattle.walker.proofs.start_refusal.Tie as tie
+
+capacity-ok-requires : tie.Need-capacity-ok-requires
+capacity-ok-requires c κs = search needs
+
+-- what the tests say
+capacity-said : (c : tie.After-capacity-ok) → capacity-ok (c .before .args .capacity) ≡ c .capacity-ok .result
+capacity-said c = sym (c .capacity-ok .ensures ∙ ap capacity-ok (toZ-ofZ w32 (c .before .args .capacity) (c .before .fits .capacity)))
+
+capacity-passed : (c : tie.Else1) → capacity-ok (c .before .before .args .capacity) ≡ true
+capacity-passed c = capacity-said (c .before) ∙ not-false (c .before .capacity-ok .result) (c .if1 .left)
+
+settings-passed : (c : tie.Else2) → allowed (c .before .before .before .before .args .settings .merge) (c .before .before .before .before .args .settings .stop) ≡ true
+settings-passed c = sym (c .before .is-allowed .ensures) ∙ not-false (c .before .is-allowed .result) (c .if2 .left)
+
+chart-passed : (c : tie.Else3) → well-formed (now (c .before .before .before .before .before .before .args .chart)) ≡ true
+chart-passed c = sym (c .before .well-formed .ensures) ∙ not-false (c .before .well-formed .result) (c .if3 .left)
+
+returns : tie.Need-returns
+returns c = rw (capacity-said (c .before) ∙ not-true (c .before .capacity-ok .result) (c .if1 .taken)) refl
+
+is-allowed-requires : tie.Need-is-allowed-requires
+is-allowed-requires c κs = search needs
+
+returns-2 : tie.Need-returns-2
+returns-2 c = rw (capacity-passed (c .before .before), sym (c .before .is-allowed .ensures) ∙ not-true (c .before .is-allowed .result) (c .if2 .taken)) refl
+
+well-formed-requires : tie.Need-well-formed-requires
+well-formed-requires c κs = search needs
+
+returns-3 : tie.Need-returns-3
+returns-3 c = rw (capacity-passed (c .before .before .before .before), settings-passed (c .before .before), sym (c .before .well-formed .ensures) ∙ not-true (c .before .well-formed .result) (c .if3 .taken)) refl
+
+cast-is-short : tie.Need-cast-is-short
+cast-is-short c =
+    let s = c .before .before .before .before .before .before in
+    let k = counted (s .args .capacity) (from-true (capacity-passed (c .before .before .before .before))) in
+    rw (toZ-ofZ w32 (s .args .capacity) (s .fits .capacity)) (k .sign, omega (arith, k .few))
+
+is-short-requires : tie.Need-is-short-requires
+is-short-requires c κs = from-true (chart-passed c)
+
+returns-4 : tie.Need-returns-4
+returns-4 c =
+    let s = c .before .before .before .before .before .before .before .before in
+    rw (
+      capacity-passed (c .before .before .before .before .before .before),
+      settings-passed (c .before .before .before .before),
+      chart-passed (c .before .before),
+      ← toZ-ofZ w32 (s .args .capacity) (s .fits .capacity),
+      sym (c .before .is-short .ensures) ∙ c .if4 .taken,
+    ) refl
+
+returns-5 : tie.Need-returns-5
+returns-5 c =
+    let s = c .before .before .before .before .before .before .before .before in
+    rw (
+      capacity-passed (c .before .before .before .before .before .before),
+      settings-passed (c .before .before .before .before),
+      chart-passed (c .before .before),
+      ← toZ-ofZ w32 (s .args .capacity) (s .fits .capacity),
+      sym (c .before .is-short .ensures) ∙ c .if4 .left,
+    ) refl
+
+pub start-refusal-spec : {M : Type 1} → statement M
+start-refusal-spec =
+    tie.close
+    (tie.spec
+    capacity-ok-requires
+    returns
+    is-allowed-requires
+    returns-2
+    well-formed-requires
+    returns-3
+    cast-is-short
+    is-short-requires
+    returns-4
+    returns-5)

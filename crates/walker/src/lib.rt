@@ -1,0 +1,255 @@
+// The public calls. Each judges all that it is given in document 01's order; a refused call has written nothing.
+use semantics::Analysis;
+use semantics::Answer;
+use semantics::Mode;
+use semantics::Settings;
+use semantics::Verdict;
+ghost use mathlib.Core.Path.{_≡_};
+ghost use mathlib.Core.Bool.{_||_, not};
+ghost use mathlib.Core.List.{_∷_, []};
+ghost use Prim.Native.Nat.{ℕ, _*_, _<_, _≤_};
+ghost use lib.Dec.{T, ltb, eqb};
+ghost use lib.IntN.{pos, natAbs};
+ghost use lib.ListN.{length};
+ghost use Rattle.semantics.specs.declared.Analysis.{Analysis};
+ghost use Rattle.semantics.specs.Algorithm.{start};
+ghost use Rattle.semantics.specs.Coverage.{allowed};
+ghost use Rattle.semantics.specs.Encoding.{decode, well-formed};
+ghost use Rattle.semantics.specs.Memory.{width, load, capacity-ok, analysis-ok};
+ghost use Rattle.form.specs.Form.{lent};
+ghost use Rattle.analysis.specs.Loaded.{domain-of, Loaded};
+ghost use Rattle.transfer.specs.Transfer.{initial-row};
+ghost use Rattle.walker.specs.Calls.{start-cases, run-cases, Begins, Ends};
+ghost use Rattle.semantics.specs.Outcomes.{case, refusal, fine, refused-by, short, budget-ok, has-verdict, put-in, started, resumed, start-outcome, run-outcome};
+
+// What a call answers, and the record as it leaves it.
+pub struct Called {
+    pub answer: Answer,
+    pub analysis: Analysis,
+}
+
+fn capacity_ok(capacity: i32) -> bool
+    ensures { λ r. ⌜ r ≡ capacity-ok capacity ⌝ }
+{
+    (1 <= capacity) & (capacity <= 256)
+}
+
+fn budget_ok(budget: i32) -> bool
+    ensures { λ r. ⌜ r ≡ budget-ok budget ⌝ }
+{
+    (0 <= budget) & (budget <= 60000)
+}
+
+// Fewer words are lent than the capacity takes.
+fn is_short(chart: &[i32], capacity: u32, table: usize, list: usize) -> bool
+    requires { ⌜ T (well-formed (now chart)) ⌝ }
+    ensures { λ r. ⌜ r ≡ short (decode (now (chart .entry))) capacity table list ⌝ }
+{
+    let width = encoded::width(chart);
+    let places = capacity as usize;
+    (table < places * width) | (list < places)
+}
+
+// 11, 12, 20, 14: the first that refuses a start, or 0.
+fn start_refusal(chart: &[i32], settings: Settings, capacity: i32, table: usize, list: usize) -> u32
+    ensures { λ r. ⌜ r ≡ refusal (start-cases (now (chart .entry)) settings capacity table list) ⌝ }
+{
+    if !capacity_ok(capacity) {
+        return 11;
+    }
+    let merge = settings.merge;
+    let stop = settings.stop;
+    if !form::is_allowed(merge, stop) {
+        return 12;
+    }
+    if !encoded::well_formed(chart) {
+        return 20;
+    }
+    if is_short(chart, capacity as u32, table, list) {
+        return 14;
+    }
+    0
+}
+
+fn has_verdict(verdict: Verdict) -> bool
+    ensures { λ r. ⌜ r ≡ has-verdict verdict ⌝ }
+{
+    match verdict {
+        Verdict::Open => false,
+        Verdict::Safe => true,
+        Verdict::Alarm => true,
+        Verdict::Full => true,
+    }
+}
+
+// 13, 20, 14, 21, 22, 23: the first that refuses a run, or 0.
+fn run_refusal(chart: &[i32], budget: i32, a: Analysis, table: &[i32], list: &[i32]) -> u32
+    ensures { λ r. ⌜ r ≡ refusal (run-cases (now (chart .entry)) budget (lent (now (table .entry)) (now (list .entry)) a)) ⌝ }
+{
+    if !budget_ok(budget) {
+        return 13;
+    }
+    if !encoded::well_formed(chart) {
+        return 20;
+    }
+    if is_short(chart, a.capacity, table.len(), list.len()) {
+        return 14;
+    }
+    if !form::analysis_ok(chart, table, list, a) {
+        return 21;
+    }
+    let verdict = a.verdict;
+    if has_verdict(verdict) {
+        return 22;
+    }
+    if a.iterations == 60000 {
+        return 23;
+    }
+    0
+}
+
+// A call that goes through answers 0 and line 0.
+fn gone_through() -> Answer
+    ensures { λ r. ⌜ r ≡ fine 0 ⌝ }
+{
+    Answer {
+        number: 0,
+        line: 0,
+        length: 0,
+    }
+}
+
+fn refused(number: u32) -> Answer
+    ensures { λ r. ⌜ r ≡ refused-by number 0 ⌝ }
+{
+    Answer {
+        number,
+        line: 0,
+        length: 0,
+    }
+}
+
+// The initial state's row is made in the row lent, and put into slot 0.
+fn begin_with(
+    chart: &[i32],
+    settings: Settings,
+    capacity: u32,
+    table: &mut [i32],
+    list: &mut [i32],
+    row: &mut [i32],
+) -> Analysis
+    requires { ⌜ Begins (now chart) settings capacity (length (now row)) (now table) (now list) ⌝ }
+    ensures { λ r. ⌜ ((last : ℕ) → Loaded (length (now (row .entry))) last r (now (table .exit)) (now (list .exit)) (start (domain-of (now (chart .entry))) settings capacity (initial-row (now (chart .entry))))) ⌝ }
+{
+    transfer::initial(chart, row);
+    analysis::start_core(chart, settings, capacity, table, list, row)
+}
+
+// An analysis in the words of its capacity.
+fn begin(
+    chart: &[i32],
+    settings: Settings,
+    capacity: u32,
+    width: usize,
+    table: &mut [i32],
+    list: &mut [i32],
+) -> Analysis
+    requires { ⌜ Begins (now chart) settings capacity width (now table) (now list) × (width ≤ 9) ⌝ }
+    ensures { λ r. ⌜ ((last : ℕ) → Loaded width last r (now (table .exit)) (now (list .exit)) (start (domain-of (now (chart .entry))) settings capacity (initial-row (now (chart .entry))))) ⌝ }
+{
+    let mut row = [0i32; 9];
+    begin_with(chart, settings, capacity, table, list, &mut row[..width])
+}
+
+// A start that no refusal stopped.
+fn start_through(
+    chart: &[i32],
+    settings: Settings,
+    capacity: u32,
+    table: &mut [i32],
+    list: &mut [i32],
+) -> Analysis
+    requires { ⌜ T (well-formed (now chart)) × T (allowed (settings .merge) (settings .stop)) × (1 ≤ capacity) × (capacity ≤ 256) × (capacity * width (decode (now chart)) ≤ length (now table)) × (capacity ≤ length (now list)) ⌝ }
+    ensures { λ r. ⌜ ((a : Analysis) → put-in (decode (now (chart .entry))) (started (decode (now (chart .entry))) settings (pos capacity)) (lent (now (table .entry)) (now (list .entry)) a) ≡ lent (now (table .exit)) (now (list .exit)) r) ⌝ }
+{
+    let width = encoded::width(chart);
+    let places = capacity as usize;
+    let size = places * width;
+    begin(
+        chart,
+        settings,
+        capacity,
+        width,
+        &mut table[..size],
+        &mut list[..places],
+    )
+}
+
+// A run that no refusal stopped.
+fn run_through(
+    chart: &[i32],
+    budget: u32,
+    a: Analysis,
+    table: &mut [i32],
+    list: &mut [i32],
+) -> Analysis
+    requires { ⌜ T (well-formed (now chart)) × (a .capacity * width (decode (now chart)) ≤ length (now table)) × (a .capacity ≤ length (now list)) × T (analysis-ok (decode (now chart)) (lent (now table) (now list) a)) ⌝ }
+    ensures { λ r. ⌜ put-in (decode (now (chart .entry))) (resumed (decode (now (chart .entry))) (pos budget) (load (decode (now (chart .entry))) (lent (now (table .entry)) (now (list .entry)) a))) (lent (now (table .entry)) (now (list .entry)) a) ≡ lent (now (table .exit)) (now (list .exit)) r ⌝ }
+{
+    let width = encoded::width(chart);
+    let edges = encoded::edge_count(chart);
+    let places = a.capacity as usize;
+    let size = places * width;
+    analysis::run_core(
+        chart,
+        edges,
+        width,
+        a,
+        budget,
+        &mut table[..size],
+        &mut list[..places],
+    )
+}
+
+// Begins an analysis: the initial state in slot 0, waiting. `a` is the record before, which a refused start leaves.
+pub fn start(
+    chart: &[i32],
+    settings: Settings,
+    capacity: i32,
+    a: Analysis,
+    table: &mut [i32],
+    list: &mut [i32],
+) -> Called
+    ensures { λ r. ⌜ Ends (start-outcome (now (chart .entry)) settings capacity (lent (now (table .entry)) (now (list .entry)) a)) r (now (table .exit)) (now (list .exit)) ⌝ }
+{
+    let number = start_refusal(chart, settings, capacity, table.len(), list.len());
+    if number != 0 {
+        return Called {
+            answer: refused(number),
+            analysis: a,
+        };
+    }
+    let begun = start_through(chart, settings, capacity as u32, table, list);
+    Called {
+        answer: gone_through(),
+        analysis: begun,
+    }
+}
+
+// Plays iterations until a verdict, until the budget is spent, or until 60,000 were played.
+pub fn run(chart: &[i32], budget: i32, a: Analysis, table: &mut [i32], list: &mut [i32]) -> Called
+    ensures { λ r. ⌜ Ends (run-outcome (now (chart .entry)) budget (lent (now (table .entry)) (now (list .entry)) a)) r (now (table .exit)) (now (list .exit)) ⌝ }
+{
+    let number = run_refusal(chart, budget, a, table, list);
+    if number != 0 {
+        return Called {
+            answer: refused(number),
+            analysis: a,
+        };
+    }
+    let played = run_through(chart, budget as u32, a, table, list);
+    Called {
+        answer: gone_through(),
+        analysis: played,
+    }
+}
