@@ -23,7 +23,7 @@ fn every_case_prints_what_is_expected() {
 }
 
 fn case_inputs() -> Vec<PathBuf> {
-    let directory = Path::new(env!("CARGO_MANIFEST_DIR")).join("tests/cases");
+    let directory = Path::new(env!("CARGO_MANIFEST_DIR")).join("cases");
     let mut inputs: Vec<PathBuf> = fs::read_dir(directory)
         .expect("the directory of cases is readable")
         .map(|entry| entry.expect("its entries are readable").path())

@@ -9,7 +9,7 @@ pub const LARGEST: usize = 9_088;
 
 /// Document 01's case A.
 pub fn case_a() -> &'static [u8] {
-    chart_part(include_bytes!("../../tests/cases/dagger-a-sep.in"))
+    chart_part(include_bytes!("../../cases/dagger-a-sep.in"))
 }
 
 /// A program input without its go line.

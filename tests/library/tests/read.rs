@@ -87,7 +87,7 @@ fn random_files_are_read_alike() {
 fn every_case_is_read_alike() {
     const FEWEST_CASES: usize = 250;
     let mut random = Random::new(seed() ^ 1);
-    let directory = Path::new(env!("CARGO_MANIFEST_DIR")).join("../tests/cases");
+    let directory = Path::new(env!("CARGO_MANIFEST_DIR")).join("../cases");
     let mut cases = 0;
     for entry in fs::read_dir(directory).expect("the directory of cases is readable") {
         let path = entry.expect("its entries are readable").path();
