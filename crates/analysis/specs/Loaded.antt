@@ -13,7 +13,8 @@ use Rattle.semantics.specs.Coverage.{Allowed, Tidy}
 use Rattle.rows.specs.Rows.{rows-of, row-domain}
 use Rattle.waitlist.specs.Waits.{waits, Put}
 use Rattle.reached.specs.Reached.{Kept}
-use Rattle.transfer.specs.Transfer.{post-words, error-row}
+use Rattle.encoded.specs.declared.Edge.{Edge}
+use Rattle.transfer.specs.Transfer.{edge-at, post-words, error-row}
 use Rattle.analysis.specs.declared.Exit.{Exit}
 use Rattle.analysis.specs.declared.Exit.the-variants.{On, Alarm, Full}
 use Rattle.analysis.specs.declared.Progress.{Progress}
@@ -27,6 +28,11 @@ abbrev pub rows-only : Domain (List ℤ) ℕ
 rows-only = row-domain (λ g e. halt) (λ e. false)
 
 -- ---- between the edges of an iteration
+
+-- edge g, counted from 0: its number counts from 1, and its words stand where the chart has them
+pub record Is-edge (c : List ℤ) (g : ℕ) (e : Edge) : Type 0 where
+  pub id : e .id .0 ≡ g + 1
+  pub at : e .at ≡ edge-at c g
 
 abbrev pub out-by : Exit → ℕ → List (List ℤ) → List ℕ → Out (List ℤ)
 out-by On n en wa = on en wa

@@ -1,5 +1,6 @@
 // The algorithm over lent words: a successor's arrival, the edges of an iteration in file order, the iteration, the run of
 // iterations and the start. Record and counts go by value.
+use encoded::Edge;
 use semantics::Analysis;
 use semantics::EdgeId;
 use semantics::Mode;
@@ -16,7 +17,7 @@ ghost use Rattle.rows.specs.Rows.{rows-of};
 ghost use Rattle.waitlist.specs.Waits.{waits, Put};
 ghost use Rattle.reached.specs.Reached.{Kept};
 ghost use Rattle.transfer.specs.Transfer.{edge-at, edges-from, post-at};
-ghost use Rattle.analysis.specs.Loaded.{rows-only, domain-of, has-ended, Played, load-of, Held, Loaded, Ended, Finished};
+ghost use Rattle.analysis.specs.Loaded.{Is-edge, rows-only, domain-of, has-ended, Played, load-of, Held, Loaded, Ended, Finished};
 
 // The most iterations that an analysis plays.
 pub const MOST_ITERATIONS: u32 = 60000;
@@ -99,11 +100,10 @@ fn arrive(
     }
 }
 
-// One edge, whose words stand at `at`, with the copy of the taken state. `next` is room for the successor.
+// One edge, with the copy of the taken state. `next` is room for the successor.
 fn visit(
     chart: &[i32],
-    edge: EdgeId,
-    at: usize,
+    edge: Edge,
     settings: Settings,
     capacity: usize,
     table: &mut [i32],
@@ -113,10 +113,10 @@ fn visit(
     list: &mut [i32],
     waiting: usize,
 ) -> Progress
-    requires { ⌜ Kept (length (now copy)) capacity (now table) (now list) used waiting × Allowed settings × (length (now next) ≡ length (now copy)) × (at < 4294967296) ⌝ }
-    ensures { λ p. ⌜ Played (length (now (copy .entry))) capacity (now (table .exit)) (now (list .exit)) p (visit (domain-of (now (chart .entry))) settings capacity (edge .0) (post-at (now (chart .entry)) at (now (copy .entry))) (rows-of (length (now (copy .entry))) used (now (table .entry))) (waits waiting (now (list .entry)))) ⌝ }
+    requires { ⌜ Kept (length (now copy)) capacity (now table) (now list) used waiting × Allowed settings × (length (now next) ≡ length (now copy)) × (edge .at < 4294967296) ⌝ }
+    ensures { λ p. ⌜ Played (length (now (copy .entry))) capacity (now (table .exit)) (now (list .exit)) p (visit (domain-of (now (chart .entry))) settings capacity (edge .id .0) (post-at (now (chart .entry)) (edge .at) (now (copy .entry))) (rows-of (length (now (copy .entry))) used (now (table .entry))) (waits waiting (now (list .entry)))) ⌝ }
 {
-    let moved = transfer::successor(chart, at, copy, next);
+    let moved = transfer::successor(chart, edge, copy, next);
     if !moved {
         return Progress {
             exit: Exit::On,
@@ -126,9 +126,10 @@ fn visit(
         };
     }
     if transfer::is_error(chart, next) {
+        let id = edge.id;
         return Progress {
             exit: Exit::Alarm,
-            edge,
+            edge: id,
             used,
             waiting,
         };
@@ -146,10 +147,10 @@ fn has_ended(exit: Exit) -> bool
     }
 }
 
-// The edges in file order, each with the copy. The words of the first stand at `first`.
+// The edges in file order, each with the copy.
 fn leave(
     chart: &[i32],
-    first: usize,
+    first: Edge,
     edges: usize,
     settings: Settings,
     capacity: usize,
@@ -160,19 +161,17 @@ fn leave(
     list: &mut [i32],
     waiting: usize,
 ) -> Progress
-    requires { ⌜ Kept (length (now copy)) capacity (now table) (now list) used waiting × Allowed settings × (length (now next) ≡ length (now copy)) × (first ≡ edge-at (now chart) 0) × (edge-at (now chart) edges < 4294967296) ⌝ }
+    requires { ⌜ Kept (length (now copy)) capacity (now table) (now list) used waiting × Allowed settings × (length (now next) ≡ length (now copy)) × Is-edge (now chart) 0 first × (edge-at (now chart) edges < 4294967296) ⌝ }
     ensures { λ p. ⌜ Played (length (now (copy .entry))) capacity (now (table .exit)) (now (list .exit)) p (leave (domain-of (now (chart .entry))) settings capacity (now (copy .entry)) (edges-from 0 edges) (rows-of (length (now (copy .entry))) used (now (table .entry))) (waits waiting (now (list .entry)))) ⌝ }
 {
     let mut slots = used;
     let mut count = waiting;
-    let mut at = first;
+    let mut edge = first;
     let mut g = 0;
     while g < edges {
-        let number = g + 1;
         let p = visit(
             chart,
-            EdgeId(number),
-            at,
+            edge,
             settings,
             capacity,
             table,
@@ -188,8 +187,8 @@ fn leave(
         }
         slots = p.used;
         count = p.waiting;
-        at = encoded::next_edge(at);
-        g = number;
+        edge = encoded::next_edge(edge);
+        g += 1;
     }
     Progress {
         exit: Exit::On,
@@ -262,7 +261,7 @@ fn finish(a: Analysis, slot: SlotId, p: Progress, list: &mut [i32]) -> Analysis
 // One iteration, with room lent for the copy of the taken state and for its successors.
 fn iterate(
     chart: &[i32],
-    first: usize,
+    first: Edge,
     edges: usize,
     a: Analysis,
     table: &mut [i32],
@@ -270,7 +269,7 @@ fn iterate(
     copy: &mut [i32],
     next: &mut [i32],
 ) -> Analysis
-    requires { ⌜ Held (length (now copy)) edges a (now table) (now list) × (a .iterations < 60000) × (0 < a .waiting) × (length (now next) ≡ length (now copy)) × (first ≡ edge-at (now chart) 0) × (edge-at (now chart) edges < 4294967296) ⌝ }
+    requires { ⌜ Held (length (now copy)) edges a (now table) (now list) × (a .iterations < 60000) × (0 < a .waiting) × (length (now next) ≡ length (now copy)) × Is-edge (now chart) 0 first × (edge-at (now chart) edges < 4294967296) ⌝ }
     ensures { λ r. ⌜ Loaded (length (now (copy .entry))) edges r (now (table .exit)) (now (list .exit)) (iteration (domain-of (now (chart .entry))) (edges-from 0 edges) (load-of (length (now (copy .entry))) a (now (table .entry)) (now (list .entry)))) × (r .iterations ≡ a .iterations + 1) ⌝ }
 {
     let settings = a.settings;
@@ -299,14 +298,14 @@ fn iterate(
 // One iteration, over rows of `width` words.
 fn iteration(
     chart: &[i32],
-    first: usize,
+    first: Edge,
     edges: usize,
     width: usize,
     a: Analysis,
     table: &mut [i32],
     list: &mut [i32],
 ) -> Analysis
-    requires { ⌜ Held width edges a (now table) (now list) × (a .iterations < 60000) × (0 < a .waiting) × (width ≤ 9) × (first ≡ edge-at (now chart) 0) × (edge-at (now chart) edges < 4294967296) ⌝ }
+    requires { ⌜ Held width edges a (now table) (now list) × (a .iterations < 60000) × (0 < a .waiting) × (width ≤ 9) × Is-edge (now chart) 0 first × (edge-at (now chart) edges < 4294967296) ⌝ }
     ensures { λ r. ⌜ Loaded width edges r (now (table .exit)) (now (list .exit)) (iteration (domain-of (now (chart .entry))) (edges-from 0 edges) (load-of width a (now (table .entry)) (now (list .entry)))) × (r .iterations ≡ a .iterations + 1) ⌝ }
 {
     let mut copy = [0i32; 9];
@@ -359,7 +358,7 @@ pub fn run_core(
     requires { ⌜ Held width edges a (now table) (now list) × (a .iterations ≤ 60000) × (width ≤ 9) × (edge-at (now chart) edges < 4294967296) ⌝ }
     ensures { λ r. ⌜ Loaded width edges r (now (table .exit)) (now (list .exit)) (run (domain-of (now (chart .entry))) (edges-from 0 edges) (min budget (60000 - a .iterations)) (load-of width a (now (table .entry)) (now (list .entry)))) ⌝ }
 {
-    let first = encoded::edge_at(chart, 0);
+    let first = encoded::first_edge(chart);
     let mut left = allowance(budget, a.iterations);
     let mut at = a;
     while 0 < left {

@@ -1,4 +1,4 @@
--- What a read word and a test of it tell, and the turn and the end of a loop over rows. Assumes nothing.
+-- Facts on Bools and on parts of a slice, and the turn and the end of a loop over rows. Assumes nothing.
 use mathlib.Core.Path.{_≡_, refl, ap, _∙_}
 use mathlib.Core.Bool.{Bool, true, false, _&&_}
 use mathlib.Core.List.{List}
@@ -6,26 +6,12 @@ use Prim.Native.Nat.{ℕ, suc, _+_, _-_, _≤_, _<_}
 use native.Mathlib.Nat.{sub-zero}
 use native.Mathlib.Omega.{arith}
 use borrow.Author.Tests.{le-leb}
-use lib.Dec.{eqb}
 use lib.IntN.{ℤ, pos, negsuc}
 use lib.Signed.{nonNeg, leZ}
 use lib.ListN.{length, take, drop, length-drop}
 use lib.Seq.{take-all, drop-drop}
-use mir.Syntax.{w32}
-use mir.Val.{SFits, ofZ, toZ}
-use mir.ValLaws.{toZ-ofZ}
 use Rattle.semantics.specs.Lists.{all}
-use Rattle.semantics.specs.Chart.{eqZ}
 use Rattle.semantics.specs.Encoding.{several}
-use Rattle.words.proofs.Words.{bits-eqb}
-
-module _ {z x : ℤ} (fits : SFits w32 z) (same : z ≡ x) where
-  -- a word that a call answered, and its test
-  pub told : toZ w32 (ofZ w32 z) ≡ x
-  told = toZ-ofZ w32 z fits ∙ same
-
-  pub tested : {n : ℤ} → SFits w32 n → eqb (ofZ w32 z) (ofZ w32 n) ≡ eqZ x n
-  tested {n} f = bits-eqb w32 {a = z} {b = n} fits f ∙ ap (λ (y : ℤ). eqZ y n) same
 
 -- the test for a sign
 pub from-zero : (z : ℤ) → leZ (pos 0) z ≡ nonNeg z

@@ -1,4 +1,5 @@
 // The encoded chart: its check, and what stands where in its words. Crates that use a chart ask here, and read no word by place.
+use semantics::EdgeId;
 use semantics::LocationId;
 ghost use mathlib.Core.Path.{_≡_};
 ghost use mathlib.Core.Bool.{not};
@@ -45,59 +46,51 @@ fn is_name_byte(w: i32) -> bool
     lies_within(65, 90, w) | lies_within(97, 122, w) | lies_within(48, 57, w) | (w == 45)
 }
 
-// The number at a place.
-fn number_at(words: &[i32], i: usize) -> usize
-    ensures { λ r. ⌜ (r ≡ count (now (words .entry)) i) × (r < 2147483649) ⌝ }
-{
-    words::magnitude(words::word_at(words, i))
-}
-
 // ---- the counts, and where the rows stand
 
 pub fn var_count(words: &[i32]) -> usize
     ensures { λ r. ⌜ (r ≡ count (now (words .entry)) 0) × (r < 2147483649) ⌝ }
 {
-    number_at(words, 0)
+    words::number_at(words, 0)
 }
 
 pub fn location_count(words: &[i32]) -> usize
     ensures { λ r. ⌜ (r ≡ count (now (words .entry)) 1) × (r < 2147483649) ⌝ }
 {
-    number_at(words, 1)
+    words::number_at(words, 1)
 }
 
 pub fn edge_count(words: &[i32]) -> usize
     ensures { λ r. ⌜ (r ≡ count (now (words .entry)) 2) × (r < 2147483649) ⌝ }
 {
-    number_at(words, 2)
+    words::number_at(words, 2)
 }
 
 // The words of a slot of the reached table.
 pub fn width(words: &[i32]) -> usize
     ensures { λ r. ⌜ (r ≡ suc (count (now (words .entry)) 0)) × (r < 2147483650) ⌝ }
 {
-    number_at(words, 0) + 1
+    words::number_at(words, 0) + 1
 }
 
 // Where the words of the locations begin, and those of the edges.
 fn locations_at(words: &[i32]) -> usize
     ensures { λ r. ⌜ (r ≡ locations-at (now (words .entry))) × (r < 8589934592) ⌝ }
 {
-    3 + 3 * number_at(words, 0)
+    3 + 3 * words::number_at(words, 0)
 }
 
 fn edges_at(words: &[i32]) -> usize
     ensures { λ r. ⌜ (r ≡ edges-at (now (words .entry))) × (r < 51539607552) ⌝ }
 {
-    locations_at(words) + 17 * number_at(words, 1)
+    locations_at(words) + 17 * words::number_at(words, 1)
 }
 
-// Where the words of an edge stand; edges are counted from 0 here.
-pub fn edge_at(words: &[i32], g: usize) -> usize
-    requires { ⌜ g < 2147483649 ⌝ }
-    ensures { λ r. ⌜ (r ≡ edges-at (now (words .entry)) + 8 * g) × (r < 68719476736) ⌝ }
+// How many words the chart takes.
+fn end_of(words: &[i32]) -> usize
+    ensures { λ r. ⌜ r ≡ edges-at (now (words .entry)) + 8 * count (now (words .entry)) 2 ⌝ }
 {
-    edges_at(words) + 8 * g
+    edges_at(words) + 8 * words::number_at(words, 2)
 }
 
 fn counts_ok(words: &[i32]) -> bool
@@ -209,8 +202,8 @@ fn same_name(a: &[i32], b: &[i32]) -> bool
 {
     let mut i = 0;
     while i < 16 {
-        let x = number_at(a, i + 1);
-        let y = number_at(b, i + 1);
+        let x = words::number_at(a, i + 1);
+        let y = words::number_at(b, i + 1);
         if x != y {
             return false;
         }
@@ -294,7 +287,7 @@ fn one_operand_ok(v: usize, row: &[i32]) -> bool
 fn input_ok(vars: &[i32], row: &[i32]) -> bool
     ensures { λ r. ⌜ r ≡ input-fine (now (vars .entry)) (now (row .entry)) ⌝ }
 {
-    let k = number_at(row, 3);
+    let k = words::number_at(row, 3);
     let p = words::word_at(row, 5);
     let q = words::word_at(row, 7);
     (words::word_at(row, 4) == 0)
@@ -321,7 +314,7 @@ fn operation_ok(vars: &[i32], v: usize, row: &[i32]) -> bool
     requires { ⌜ 8 ≤ length (now row) ⌝ }
     ensures { λ r. ⌜ r ≡ operation-fine (now (vars .entry)) v (now (row .entry)) ⌝ }
 {
-    let n = number_at(row, 2);
+    let n = words::number_at(row, 2);
     if n == 0 {
         return words::all_zero(&row[3..8]);
     }
@@ -377,7 +370,7 @@ pub fn well_formed(words: &[i32]) -> bool
     ensures { λ r. ⌜ r ≡ well-formed (now (words .entry)) ⌝ }
 {
     if counts_ok(words) {
-        let end = edge_at(words, edge_count(words));
+        let end = end_of(words);
         if end <= words.len() {
             return rows_ok(words);
         }
@@ -419,76 +412,96 @@ pub fn is_error_location(words: &[i32], l: LocationId) -> bool
     kind == 1
 }
 
-// The words of the edge at `at`, where `edge_at` says that an edge's words stand: from, to, operation, target.
-pub fn edge_from(words: &[i32], at: usize) -> i32
-    ensures { λ r. ⌜ r ≡ getD (now (words .entry)) at (pos 0) ⌝ }
-{
-    words::word_at(words, at)
+// ---- edges
+
+// An edge: its number, and where its words stand. The two are carried along together, so that no edge takes a product.
+pub struct Edge {
+    pub id: EdgeId,
+    pub at: usize,
 }
 
-pub fn edge_to(words: &[i32], at: usize) -> i32
-    requires { ⌜ at < 68719476736 ⌝ }
-    ensures { λ r. ⌜ r ≡ getD (now (words .entry)) (at + 1) (pos 0) ⌝ }
+pub fn first_edge(words: &[i32]) -> Edge
+    ensures { λ r. ⌜ (r .id .0 ≡ 1) × (r .at ≡ edges-at (now (words .entry))) ⌝ }
 {
-    words::word_at(words, at + 1)
+    Edge {
+        id: EdgeId(1),
+        at: edges_at(words),
+    }
 }
 
-pub fn edge_operation(words: &[i32], at: usize) -> usize
-    requires { ⌜ at < 68719476736 ⌝ }
-    ensures { λ r. ⌜ (r ≡ count (now (words .entry)) (at + 2)) × (r < 2147483649) ⌝ }
+pub fn next_edge(e: Edge) -> Edge
+    requires { ⌜ (e .id .0 < 4294967296) × (e .at < 68719476736) ⌝ }
+    ensures { λ r. ⌜ (r .id .0 ≡ e .id .0 + 1) × (r .at ≡ e .at + 8) ⌝ }
 {
-    number_at(words, at + 2)
+    let id = e.id;
+    let number = id.0 + 1;
+    Edge {
+        id: EdgeId(number),
+        at: e.at + 8,
+    }
 }
 
-pub fn edge_target(words: &[i32], at: usize) -> usize
-    requires { ⌜ at < 68719476736 ⌝ }
-    ensures { λ r. ⌜ (r ≡ count (now (words .entry)) (at + 3)) × (r < 2147483649) ⌝ }
+pub fn edge_from(words: &[i32], e: Edge) -> LocationId
+    ensures { λ r. ⌜ (r .0 ≡ count (now (words .entry)) (e .at)) × (r .0 < 2147483649) ⌝ }
 {
-    number_at(words, at + 3)
+    LocationId(words::number_at(words, e.at))
+}
+
+pub fn edge_to(words: &[i32], e: Edge) -> LocationId
+    requires { ⌜ e .at < 68719476736 ⌝ }
+    ensures { λ r. ⌜ (r .0 ≡ count (now (words .entry)) (e .at + 1)) × (r .0 < 2147483649) ⌝ }
+{
+    LocationId(words::number_at(words, e.at + 1))
+}
+
+pub fn edge_operation(words: &[i32], e: Edge) -> usize
+    requires { ⌜ e .at < 68719476736 ⌝ }
+    ensures { λ r. ⌜ (r ≡ count (now (words .entry)) (e .at + 2)) × (r < 2147483649) ⌝ }
+{
+    words::number_at(words, e.at + 2)
+}
+
+pub fn edge_target(words: &[i32], e: Edge) -> usize
+    requires { ⌜ e .at < 68719476736 ⌝ }
+    ensures { λ r. ⌜ (r ≡ count (now (words .entry)) (e .at + 3)) × (r < 2147483649) ⌝ }
+{
+    words::number_at(words, e.at + 3)
 }
 
 // Its two operands: what each is, and the word that it holds; the first as the number of a variable.
-pub fn first_tag(words: &[i32], at: usize) -> i32
-    requires { ⌜ at < 68719476736 ⌝ }
-    ensures { λ r. ⌜ r ≡ getD (now (words .entry)) (at + 4) (pos 0) ⌝ }
+pub fn first_tag(words: &[i32], e: Edge) -> i32
+    requires { ⌜ e .at < 68719476736 ⌝ }
+    ensures { λ r. ⌜ r ≡ getD (now (words .entry)) (e .at + 4) (pos 0) ⌝ }
 {
-    words::word_at(words, at + 4)
+    words::word_at(words, e.at + 4)
 }
 
-pub fn first_value(words: &[i32], at: usize) -> i32
-    requires { ⌜ at < 68719476736 ⌝ }
-    ensures { λ r. ⌜ r ≡ getD (now (words .entry)) (at + 5) (pos 0) ⌝ }
+pub fn first_value(words: &[i32], e: Edge) -> i32
+    requires { ⌜ e .at < 68719476736 ⌝ }
+    ensures { λ r. ⌜ r ≡ getD (now (words .entry)) (e .at + 5) (pos 0) ⌝ }
 {
-    words::word_at(words, at + 5)
+    words::word_at(words, e.at + 5)
 }
 
-pub fn first_variable(words: &[i32], at: usize) -> usize
-    requires { ⌜ at < 68719476736 ⌝ }
-    ensures { λ r. ⌜ (r ≡ count (now (words .entry)) (at + 5)) × (r < 2147483649) ⌝ }
+pub fn first_variable(words: &[i32], e: Edge) -> usize
+    requires { ⌜ e .at < 68719476736 ⌝ }
+    ensures { λ r. ⌜ (r ≡ count (now (words .entry)) (e .at + 5)) × (r < 2147483649) ⌝ }
 {
-    number_at(words, at + 5)
+    words::number_at(words, e.at + 5)
 }
 
-pub fn second_tag(words: &[i32], at: usize) -> i32
-    requires { ⌜ at < 68719476736 ⌝ }
-    ensures { λ r. ⌜ r ≡ getD (now (words .entry)) (at + 6) (pos 0) ⌝ }
+pub fn second_tag(words: &[i32], e: Edge) -> i32
+    requires { ⌜ e .at < 68719476736 ⌝ }
+    ensures { λ r. ⌜ r ≡ getD (now (words .entry)) (e .at + 6) (pos 0) ⌝ }
 {
-    words::word_at(words, at + 6)
+    words::word_at(words, e.at + 6)
 }
 
-pub fn second_value(words: &[i32], at: usize) -> i32
-    requires { ⌜ at < 68719476736 ⌝ }
-    ensures { λ r. ⌜ r ≡ getD (now (words .entry)) (at + 7) (pos 0) ⌝ }
+pub fn second_value(words: &[i32], e: Edge) -> i32
+    requires { ⌜ e .at < 68719476736 ⌝ }
+    ensures { λ r. ⌜ r ≡ getD (now (words .entry)) (e .at + 7) (pos 0) ⌝ }
 {
-    words::word_at(words, at + 7)
-}
-
-// Where the words of the edge after it stand.
-pub fn next_edge(at: usize) -> usize
-    requires { ⌜ at < 68719476736 ⌝ }
-    ensures { λ r. ⌜ r ≡ at + 8 ⌝ }
-{
-    at + 8
+    words::word_at(words, e.at + 7)
 }
 
 // ---- names
@@ -528,7 +541,7 @@ pub fn name_byte(words: &[i32], l: LocationId, i: usize) -> u8
 {
     let row = location_row(words, l);
     if i < row_name_length(row) {
-        return low_byte(number_at(row, i + 1));
+        return low_byte(words::number_at(row, i + 1));
     }
     0
 }

@@ -3,18 +3,18 @@ use mathlib.Core.Path.{_≡_, refl, sym, ap, subst, _∙_}
 use mathlib.Core.Bool.{Bool, true, false, _&&_}
 use mathlib.Core.List.{List, [], _∷_, _++_, map}
 use mathlib.Core.Option.{Option, none, some}
-use Prim.Native.Nat.{ℕ, suc, _+_}
+use Prim.Native.Nat.{ℕ, suc, _+_, _<_}
 use native.Mathlib.Nat.{zero-add}
 use native.Mathlib.Omega.{arith}
-use lib.Dec.{T, eqb, eqb-refl}
-use lib.IntN.{ℤ, pos}
-use lib.ListN.{length, drop, getD}
+use lib.Dec.{T, eqb, eqb-refl, ltb→lt}
+use lib.IntN.{ℤ, pos, natAbs}
+use lib.ListN.{length, drop}
 use Rattle.semantics.specs.Lists.{At, pick, all, all-pairs}
 use Rattle.semantics.specs.Chart.{Value, known, top, Edge, Numbered, number-from, numbered, Chart, eqZ, error-location}
 use Rattle.semantics.specs.Algorithm.{Step, halt, fault, to}
 use Rattle.semantics.specs.Constants.{AbstractState, equal-value, leq-value, value-or-top, join-value, join-values, same-location, equal, leq, join, join-all, leq-join-all, effect, arrive-at, post-if, post, constants, initial}
 use Rattle.semantics.specs.Coverage.{Every}
-use Rattle.semantics.specs.Encoding.{word, encode, decode, op-ok, edge-ok, chart-ok, well-formed}
+use Rattle.semantics.specs.Encoding.{word, encode, count, decode, op-ok, edge-ok, chart-ok, well-formed}
 use Rattle.semantics.specs.Memory.{row}
 use Rattle.semantics.proofs.Values.{and-left, and-right}
 use Rattle.semantics.proofs.Tidy.{Keeps}
@@ -23,8 +23,8 @@ use Rattle.semantics.proofs.Encoded.{well-formed-split}
 use Rattle.semantics.proofs.Simulate.{AllPairs, StepR, Agree}
 use Rattle.words.proofs.Words.{eqZ-sym}
 use Rattle.rows.specs.Rows.{word-leq, word-join, words-join, same-words, same-place, row-leq, row-join, join-of, leq-join-of, row-domain}
-use Rattle.transfer.specs.Transfer.{edge-at, edges-from, post-at, post-words, error-row, initial-row}
-use Rattle.transfer.proofs.Places.{edge-word, error-is, initial-is}
+use Rattle.transfer.specs.Transfer.{location-word, edge-at, edges-from, post-at, post-words, error-row, initial-row}
+use Rattle.transfer.proofs.Places.{placed, edge-word, error-is, initial-is}
 use Rattle.transfer.proofs.Effects.{Plain, AllPlain, values-plain, row-step, effect-is}
 
 -- ---- one value
@@ -158,9 +158,11 @@ module _ (c : Chart) (ok : T (chart-ok c)) (rest : List ℤ) where
       let i = edge-at ws n in
       let z : i ≡ i + 0 = omega arith in
       let read = edge-word c ok rest n g a in
-      let from : getD ws i (pos 0) ≡ pos (g .from) = ap (λ (j : ℕ). getD ws j (pos 0)) z ∙ read 0 (omega arith) in
+      let from : count ws i ≡ g .from = ap (count ws) z ∙ ap natAbs (read 0 (omega arith)) in
+      let few : g .to < 2147483648 = omega (arith, bounds c ok .few-locs, ltb→lt (g .to) (length (c .locs)) (search (and-left, and-right))) in
+      let there : location-word (count ws (i + 1)) ≡ pos (g .to) = ap location-word (ap natAbs (read 1 (omega arith))) ∙ placed (g .to) few in
       let u : T (op-ok (c .vars) (g .op)) = search (and-left, and-right) in
-      rw (from, read 1 (omega arith), effect-is c ok rest (pos (g .to)) (f .vals) (plain-of c ok f h) i (pos (g .from)) (pos (g .to)) (g .op) u read) (go (eqb (g .from) (f .loc)))
+      rw (from, there, effect-is c ok rest (pos (g .to)) (f .vals) (plain-of c ok f h) i (pos (g .from)) (pos (g .to)) (g .op) u read) (go (eqb (g .from) (f .loc)))
     where
       go : (t : Bool) → pick t (row-step (pos (g .to)) (effect (c .vars) (g .op) (f .vals))) halt ≡ row-of (post-if t (c .vars) g (f .vals))
       go true = arrive-is (g .to) (effect (c .vars) (g .op) (f .vals))

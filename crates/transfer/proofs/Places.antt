@@ -5,6 +5,7 @@ use mathlib.Core.List.{List, [], _∷_, _++_, map, append-assoc}
 use Prim.Native.Nat.{ℕ, zero, suc, _+_, _*_, _≤_, _<_}
 use native.Mathlib.Nat.{mul-suc, mul-zero}
 use native.Mathlib.Omega.{arith}
+use borrow.Author.Tests.{lt-ltb}
 use lib.Dec.{T, leb→le}
 use lib.IntN.{ℤ, pos}
 use lib.ListN.{length, getD, length-append, length-map, List·getD-append}
@@ -18,7 +19,12 @@ use Rattle.semantics.proofs.Values.{and-left, and-right}
 use Rattle.semantics.proofs.StatesOk.{Bounds, bounds}
 use Rattle.semantics.proofs.Stored.{padded-length}
 use Rattle.semantics.proofs.Encoded.{every-of}
-use Rattle.transfer.specs.Transfer.{edge-at, error-row, initial-words, initial-row}
+use Rattle.transfer.specs.Transfer.{location-word, edge-at, error-row, initial-words, initial-row}
+
+-- the word of a location that a word can hold
+pub placed : (n : ℕ) → n < 2147483648 → location-word n ≡ pos n
+unfolding location-word
+placed n h = rw (lt-ltb n 2147483648 h)
 
 pub at-some : {A : Type 0} (xs : List A) (n : ℕ) → n < length xs → (x : A) × At xs n x
 at-some [] n h = absurd (omega arith)

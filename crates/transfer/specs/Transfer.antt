@@ -3,7 +3,7 @@
 use mathlib.Core.Bool.{Bool, true, false, _||_, not}
 use mathlib.Core.List.{List, [], _∷_}
 use Prim.Native.Nat.{ℕ, zero, suc, _+_, _*_}
-use lib.Dec.{eqb}
+use lib.Dec.{ltb, eqb}
 use lib.IntN.{ℤ, pos, natAbs, _+ℤ_, _-ℤ_}
 use lib.ListN.{getD, set}
 use lib.Signed.{leZ, ltZ}
@@ -94,9 +94,13 @@ op-by n c i e =
 
 -- ---- the transfer
 
+-- the word of a location; one that no word can hold has 0
+unfoldable pub location-word : ℕ → ℤ
+location-word n = pick (ltb n 2147483648) (pos n) (pos 0)
+
 -- by the edge whose words stand at i
 unfoldable pub post-at : List ℤ → ℕ → List ℤ → Step (List ℤ)
-post-at c i e = pick (eqZ (getD c i (pos 0)) (getD e 0 (pos 0))) (op-by (count c (i + 2)) c i (set e 0 (getD c (i + 1) (pos 0)))) halt
+post-at c i e = pick (eqb (count c i) (count e 0)) (op-by (count c (i + 2)) c i (set e 0 (location-word (count c (i + 1))))) halt
 
 unfoldable pub post-words : List ℤ → ℕ → List ℤ → Step (List ℤ)
 post-words c g e = post-at c (edge-at c g) e

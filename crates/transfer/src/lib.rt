@@ -1,13 +1,15 @@
 // The transfer of an edge of the encoded chart on a row of words, the test of an error location, and the initial row.
+use encoded::Edge;
 use semantics::LocationId;
 ghost use mathlib.Core.Path.{_≡_};
 ghost use Prim.Native.Nat.{_+_, _<_};
+ghost use lib.Dec.{eqb};
 ghost use lib.IntN.{_+ℤ_, _-ℤ_};
 ghost use lib.ListN.{length, set};
 ghost use Rattle.semantics.specs.Chart.{within};
 ghost use Rattle.semantics.specs.Encoding.{count};
 ghost use Rattle.semantics.specs.Algorithm.{to};
-ghost use Rattle.transfer.specs.Transfer.{step-of, operand-by, operand-at, set-ranged, set-value, assign-at, add-at, sub-at, input-at, holds-by, refine-by, assume-at, op-by, post-at, error-row, initial-row};
+ghost use Rattle.transfer.specs.Transfer.{location-word, step-of, operand-by, operand-at, set-ranged, set-value, assign-at, add-at, sub-at, input-at, holds-by, refine-by, assume-at, op-by, post-at, error-row, initial-row};
 
 // ---- values
 
@@ -29,6 +31,34 @@ fn lies_within(lo: i32, hi: i32, z: i64) -> bool
     (words::wide(lo) <= z) & (z <= words::wide(hi))
 }
 
+// ---- locations
+
+// The location of a row.
+fn location_of(row: &[i32]) -> LocationId
+    ensures { λ r. ⌜ (r .0 ≡ count (now (row .entry)) 0) × (r .0 < 2147483649) ⌝ }
+{
+    LocationId(words::number_at(row, 0))
+}
+
+// The word that a row holds for a location.
+fn location_word(l: LocationId) -> i32
+    ensures { λ r. ⌜ r ≡ location-word (l .0) ⌝ }
+{
+    let n = l.0;
+    if n < 2147483648 {
+        return n as i32;
+    }
+    0
+}
+
+fn same_location(a: LocationId, b: LocationId) -> bool
+    ensures { λ r. ⌜ r ≡ eqb (a .0) (b .0) ⌝ }
+{
+    a.0 == b.0
+}
+
+// ---- operands
+
 // The word of an operand by its tag and its own word: a number, or a variable's word.
 fn operand(tag: i32, w: i32, row: &[i32]) -> i32
     ensures { λ r. ⌜ r ≡ operand-by tag w (now (row .entry)) ⌝ }
@@ -40,22 +70,22 @@ fn operand(tag: i32, w: i32, row: &[i32]) -> i32
     words::word_at(row, k + 1)
 }
 
-// The words of the two operands of the edge at i.
-fn first_operand(chart: &[i32], i: usize, row: &[i32]) -> i32
-    requires { ⌜ i < 4294967296 ⌝ }
-    ensures { λ r. ⌜ r ≡ operand-at (now (chart .entry)) (i + 4) (now (row .entry)) ⌝ }
+// The words of the two operands of an edge.
+fn first_operand(chart: &[i32], e: Edge, row: &[i32]) -> i32
+    requires { ⌜ e .at < 4294967296 ⌝ }
+    ensures { λ r. ⌜ r ≡ operand-at (now (chart .entry)) (e .at + 4) (now (row .entry)) ⌝ }
 {
-    let tag = encoded::first_tag(chart, i);
-    let w = encoded::first_value(chart, i);
+    let tag = encoded::first_tag(chart, e);
+    let w = encoded::first_value(chart, e);
     operand(tag, w, row)
 }
 
-fn second_operand(chart: &[i32], i: usize, row: &[i32]) -> i32
-    requires { ⌜ i < 4294967296 ⌝ }
-    ensures { λ r. ⌜ r ≡ operand-at (now (chart .entry)) (i + 6) (now (row .entry)) ⌝ }
+fn second_operand(chart: &[i32], e: Edge, row: &[i32]) -> i32
+    requires { ⌜ e .at < 4294967296 ⌝ }
+    ensures { λ r. ⌜ r ≡ operand-at (now (chart .entry)) (e .at + 6) (now (row .entry)) ⌝ }
 {
-    let tag = encoded::second_tag(chart, i);
-    let w = encoded::second_value(chart, i);
+    let tag = encoded::second_tag(chart, e);
+    let w = encoded::second_value(chart, e);
     operand(tag, w, row)
 }
 
@@ -97,24 +127,24 @@ fn put_value(chart: &[i32], k: usize, top: bool, z: i64, row: &mut [i32]) -> boo
     put_ranged(chart, k, z, row)
 }
 
-// ---- the operations of the edge at i, on the row: whether there is a successor
+// ---- the operations of an edge, on the row: whether there is a successor
 
-fn assign(chart: &[i32], i: usize, row: &mut [i32]) -> bool
-    requires { ⌜ i < 4294967296 ⌝ }
-    ensures { λ r. ⌜ step-of r (now (row .exit)) ≡ assign-at (now (chart .entry)) i (now (row .entry)) ⌝ }
+fn assign(chart: &[i32], e: Edge, row: &mut [i32]) -> bool
+    requires { ⌜ e .at < 4294967296 ⌝ }
+    ensures { λ r. ⌜ step-of r (now (row .exit)) ≡ assign-at (now (chart .entry)) (e .at) (now (row .entry)) ⌝ }
 {
-    let k = encoded::edge_target(chart, i);
-    let a = first_operand(chart, i, row);
+    let k = encoded::edge_target(chart, e);
+    let a = first_operand(chart, e, row);
     put_value(chart, k, a == words::TOP, words::wide(a), row)
 }
 
-fn add(chart: &[i32], i: usize, row: &mut [i32]) -> bool
-    requires { ⌜ i < 4294967296 ⌝ }
-    ensures { λ r. ⌜ step-of r (now (row .exit)) ≡ add-at (now (chart .entry)) i (now (row .entry)) ⌝ }
+fn add(chart: &[i32], e: Edge, row: &mut [i32]) -> bool
+    requires { ⌜ e .at < 4294967296 ⌝ }
+    ensures { λ r. ⌜ step-of r (now (row .exit)) ≡ add-at (now (chart .entry)) (e .at) (now (row .entry)) ⌝ }
 {
-    let k = encoded::edge_target(chart, i);
-    let a = first_operand(chart, i, row);
-    let b = second_operand(chart, i, row);
+    let k = encoded::edge_target(chart, e);
+    let a = first_operand(chart, e, row);
+    let b = second_operand(chart, e, row);
     put_value(
         chart,
         k,
@@ -124,13 +154,13 @@ fn add(chart: &[i32], i: usize, row: &mut [i32]) -> bool
     )
 }
 
-fn sub(chart: &[i32], i: usize, row: &mut [i32]) -> bool
-    requires { ⌜ i < 4294967296 ⌝ }
-    ensures { λ r. ⌜ step-of r (now (row .exit)) ≡ sub-at (now (chart .entry)) i (now (row .entry)) ⌝ }
+fn sub(chart: &[i32], e: Edge, row: &mut [i32]) -> bool
+    requires { ⌜ e .at < 4294967296 ⌝ }
+    ensures { λ r. ⌜ step-of r (now (row .exit)) ≡ sub-at (now (chart .entry)) (e .at) (now (row .entry)) ⌝ }
 {
-    let k = encoded::edge_target(chart, i);
-    let a = first_operand(chart, i, row);
-    let b = second_operand(chart, i, row);
+    let k = encoded::edge_target(chart, e);
+    let a = first_operand(chart, e, row);
+    let b = second_operand(chart, e, row);
     put_value(
         chart,
         k,
@@ -140,13 +170,13 @@ fn sub(chart: &[i32], i: usize, row: &mut [i32]) -> bool
     )
 }
 
-fn input(chart: &[i32], i: usize, row: &mut [i32]) -> bool
-    requires { ⌜ i < 4294967296 ⌝ }
-    ensures { λ r. ⌜ step-of r (now (row .exit)) ≡ input-at (now (chart .entry)) i (now (row .entry)) ⌝ }
+fn input(chart: &[i32], e: Edge, row: &mut [i32]) -> bool
+    requires { ⌜ e .at < 4294967296 ⌝ }
+    ensures { λ r. ⌜ step-of r (now (row .exit)) ≡ input-at (now (chart .entry)) (e .at) (now (row .entry)) ⌝ }
 {
-    let k = encoded::edge_target(chart, i);
-    let p = encoded::first_value(chart, i);
-    let q = encoded::second_value(chart, i);
+    let k = encoded::edge_target(chart, e);
+    let p = encoded::first_value(chart, e);
+    let q = encoded::second_value(chart, e);
     let x = rows::join_word(p, q);
     put(row, k, x);
     true
@@ -180,52 +210,51 @@ fn refine(chart: &[i32], n: usize, k: usize, x: i32, row: &mut [i32]) -> bool
     true
 }
 
-fn assume(chart: &[i32], n: usize, i: usize, row: &mut [i32]) -> bool
-    requires { ⌜ i < 4294967296 ⌝ }
-    ensures { λ r. ⌜ step-of r (now (row .exit)) ≡ assume-at (now (chart .entry)) n i (now (row .entry)) ⌝ }
+fn assume(chart: &[i32], n: usize, e: Edge, row: &mut [i32]) -> bool
+    requires { ⌜ e .at < 4294967296 ⌝ }
+    ensures { λ r. ⌜ step-of r (now (row .exit)) ≡ assume-at (now (chart .entry)) n (e .at) (now (row .entry)) ⌝ }
 {
-    let k = encoded::edge_target(chart, i);
+    let k = encoded::edge_target(chart, e);
     let x = words::word_at(row, k + 1);
-    let y = first_operand(chart, i, row);
+    let y = first_operand(chart, e, row);
     if x == words::TOP {
         return refine(chart, n, k, y, row);
     }
     if y == words::TOP {
-        let j = encoded::first_variable(chart, i);
+        let j = encoded::first_variable(chart, e);
         return refine(chart, n, j, x, row);
     }
     holds(n, x, y)
 }
 
-fn apply(chart: &[i32], i: usize, row: &mut [i32]) -> bool
-    requires { ⌜ i < 4294967296 ⌝ }
-    ensures { λ r. ⌜ step-of r (now (row .exit)) ≡ op-by (count (now (chart .entry)) (i + 2)) (now (chart .entry)) i (now (row .entry)) ⌝ }
+fn apply(chart: &[i32], e: Edge, row: &mut [i32]) -> bool
+    requires { ⌜ e .at < 4294967296 ⌝ }
+    ensures { λ r. ⌜ step-of r (now (row .exit)) ≡ op-by (count (now (chart .entry)) (e .at + 2)) (now (chart .entry)) (e .at) (now (row .entry)) ⌝ }
 {
-    let n = encoded::edge_operation(chart, i);
+    let n = encoded::edge_operation(chart, e);
     match n {
         0 => true,
-        1 => assign(chart, i, row),
-        2 => add(chart, i, row),
-        3 => sub(chart, i, row),
-        4 => input(chart, i, row),
-        _ => assume(chart, n, i, row),
+        1 => assign(chart, e, row),
+        2 => add(chart, e, row),
+        3 => sub(chart, e, row),
+        4 => input(chart, e, row),
+        _ => assume(chart, n, e, row),
     }
 }
 
 // ---- the transfer
 
-// The successor of the row by the edge whose words stand at `at`, into `out`; whether there is one.
-pub fn successor(chart: &[i32], at: usize, row: &[i32], out: &mut [i32]) -> bool
-    requires { ⌜ (0 < length (now row)) × (length (now out) ≡ length (now row)) × (at < 4294967296) ⌝ }
-    ensures { λ r. ⌜ step-of r (now (out .exit)) ≡ post-at (now (chart .entry)) at (now (row .entry)) ⌝ }
+// The successor of the row by the edge, into `out`; whether there is one.
+pub fn successor(chart: &[i32], e: Edge, row: &[i32], out: &mut [i32]) -> bool
+    requires { ⌜ (0 < length (now row)) × (length (now out) ≡ length (now row)) × (e .at < 4294967296) ⌝ }
+    ensures { λ r. ⌜ step-of r (now (out .exit)) ≡ post-at (now (chart .entry)) (e .at) (now (row .entry)) ⌝ }
 {
-    let from = encoded::edge_from(chart, at);
-    let place = row[0];
-    if from == place {
+    let from = encoded::edge_from(chart, e);
+    if same_location(from, location_of(row)) {
         words::copy_words(out, row);
-        let to = encoded::edge_to(chart, at);
-        out[0] = to;
-        return apply(chart, at, out);
+        let to = encoded::edge_to(chart, e);
+        out[0] = location_word(to);
+        return apply(chart, e, out);
     }
     false
 }
@@ -234,8 +263,7 @@ pub fn successor(chart: &[i32], at: usize, row: &[i32], out: &mut [i32]) -> bool
 pub fn is_error(chart: &[i32], row: &[i32]) -> bool
     ensures { λ r. ⌜ r ≡ error-row (now (chart .entry)) (now (row .entry)) ⌝ }
 {
-    let l = words::magnitude(words::word_at(row, 0));
-    encoded::is_error_location(chart, LocationId(l))
+    encoded::is_error_location(chart, location_of(row))
 }
 
 // The row of the initial abstract state.

@@ -129,3 +129,11 @@ module _ {z : ℤ} (fits : SFits w32 z) (neg : ltZ z (pos 0) ≡ true) where
 
   pub below-is : toZ w64 (ofZ w64 (pos 0 -ℤ toZ w64 (ofZ w64 z))) ≡ pos (natAbs z)
   below-is = toZ-ofZ w64 _ below-fits ∙ ap (λ (y : ℤ). pos 0 -ℤ y) (toZ-ofZ w64 z (sfits-widen tt fits)) ∙ below-zero z neg
+
+module _ {z x : ℤ} (fits : SFits w32 z) (same : z ≡ x) where
+  -- a word that a call answered, and its test
+  pub told : toZ w32 (ofZ w32 z) ≡ x
+  told = toZ-ofZ w32 z fits ∙ same
+
+  pub tested : {n : ℤ} → SFits w32 n → eqb (ofZ w32 z) (ofZ w32 n) ≡ eqZ x n
+  tested {n} f = bits-eqb w32 {a = z} {b = n} fits f ∙ ap (λ (y : ℤ). eqZ y n) same

@@ -3,6 +3,7 @@ ghost use mathlib.Core.Path.{_≡_};
 ghost use Prim.Native.Nat.{_<_};
 ghost use lib.IntN.{pos, natAbs};
 ghost use lib.ListN.{length, getD, replicate};
+ghost use Rattle.semantics.specs.Encoding.{count};
 ghost use Rattle.semantics.specs.Memory.{zeros};
 
 // The word for top: document 01's unspecific, which no variable can hold.
@@ -33,6 +34,13 @@ pub fn magnitude(w: i32) -> usize
         return below as usize;
     }
     w as usize
+}
+
+// The number at a place.
+pub fn number_at(s: &[i32], i: usize) -> usize
+    ensures { λ r. ⌜ (r ≡ count (now (s .entry)) i) × (r < 2147483649) ⌝ }
+{
+    magnitude(word_at(s, i))
 }
 
 pub fn copy_words(dst: &mut [i32], src: &[i32])

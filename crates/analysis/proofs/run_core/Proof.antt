@@ -24,8 +24,8 @@ Inv-loop chart edges width budget table₀ list₀ first left₀ at₀ table lis
 abbrev μ-loop : tie.MeasureT-loop
 μ-loop chart edges width budget table₀ list₀ first left₀ at₀ table list left at = left
 
-edge-at-requires : tie.Need-edge-at-requires Inv-loop μ-loop
-edge-at-requires c κs = search needs
+first-edge-requires : tie.Need-first-edge-requires Inv-loop μ-loop
+first-edge-requires c κs = search needs
 
 allowance-requires : tie.Need-allowance-requires Inv-loop μ-loop
 allowance-requires c κs = search needs
@@ -59,7 +59,7 @@ iteration-requires c κs =
     let h = b .loop .inv .0 in
     let none = sym (c .before .before .before .has-verdict .ensures) ∙ c .before .before .if1 .left in
     let o = open-waits (s .args .width) (s .args .edges) (b .loop .at) (b .loop .table) (b .loop .list) h none in
-    (h, omega (arith, b .loop .inv .3, c .before .before .before .before .loop-test .taken), o, s .pre .2, b .before .before .edge-at .ensures .0, s .pre .3)
+    (h, omega (arith, b .loop .inv .3, c .before .before .before .before .loop-test .taken), o, s .pre .2, record { id = b .before .before .first-edge .ensures .0; at = omega (arith, b .before .before .first-edge .ensures .1) }, s .pre .3)
 
 sub-left : tie.Need-sub-left Inv-loop μ-loop
 sub-left c = search needs
@@ -105,7 +105,7 @@ run-core-spec =
     (tie.spec
     Inv-loop
     μ-loop
-    edge-at-requires
+    first-edge-requires
     allowance-requires
     loop-holds
     has-verdict-requires

@@ -21,7 +21,7 @@ returns : tie.Need-returns
 returns c =
     let d = c .before .before in
     let s = d .before .before in
-    let h : post-at (s .args .chart .now) (s .args .at) (s .args .copy .now) ≡ halt = sym (d .successor .ensures) ∙ rw (not-true (d .successor .result) (c .if1 .taken)) in
+    let h : post-at (s .args .chart .now) (s .args .edge .at) (s .args .copy .now) ≡ halt = sym (d .successor .ensures) ∙ rw (not-true (d .successor .result) (c .if1 .taken)) in
     record { out = rw h; kept = s .pre .0 }
 
 is-error-requires : tie.Need-is-error-requires
@@ -32,11 +32,11 @@ same-length-2 c = search needs
 
 returns-2 : tie.Need-returns-2
 returns-2 c =
-    let d = c .before .before .before .before .before in
+    let d = c .before .before .before .before .before .before in
     let s = d .before .before in
     let e = d .successor .last .1 .1 .1 .0 in
-    let h : post-at (s .args .chart .now) (s .args .at) (s .args .copy .now) ≡ to e = sym (d .successor .ensures) ∙ rw (not-false (d .successor .result) (c .before .before .before .if1 .left)) in
-    let b : error-row (s .args .chart .now) e ≡ true = sym (c .before .is-error .ensures) ∙ c .if2 .taken in
+    let h : post-at (s .args .chart .now) (s .args .edge .at) (s .args .copy .now) ≡ to e = sym (d .successor .ensures) ∙ rw (not-false (d .successor .result) (c .before .before .before .before .if1 .left)) in
+    let b : error-row (s .args .chart .now) e ≡ true = sym (c .before .before .is-error .ensures) ∙ c .before .if2 .taken in
     record { out = rw (h, b); kept = s .pre .0 }
 
 arrive-requires : tie.Need-arrive-requires
@@ -61,7 +61,7 @@ returns-3 c =
     let d = c .before .before .before .before .before .before .before .before .before .before .before in
     let s = d .before .before in
     let e = d .successor .last .1 .1 .1 .0 in
-    let h : post-at (s .args .chart .now) (s .args .at) (s .args .copy .now) ≡ to e = sym (d .successor .ensures) ∙ rw (not-false (d .successor .result) (c .before .before .before .before .before .before .before .before .before .if1 .left)) in
+    let h : post-at (s .args .chart .now) (s .args .edge .at) (s .args .copy .now) ≡ to e = sym (d .successor .ensures) ∙ rw (not-false (d .successor .result) (c .before .before .before .before .before .before .before .before .before .if1 .left)) in
     let b : error-row (s .args .chart .now) e ≡ false = sym (c .before .before .before .before .before .before .before .is-error .ensures) ∙ c .before .before .before .before .before .before .if2 .left in
     let len : length e ≡ length (s .args .copy .now) = d .successor .kept .1 .1 .1 .0 ∙ s .pre .2 in
     rw (h, b) (rw len at (r .ensures))

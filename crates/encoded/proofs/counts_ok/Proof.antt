@@ -1,7 +1,7 @@
 -- `encoded::counts_ok` meets its contract. Assumes nothing.
 use borrow.Author.Needs.{needs, sfits-of}
 use Rattle.encoded.specs.Encoded.{counts-fine}
-use Rattle.encoded.proofs.Facts.{told}
+use Rattle.words.proofs.Words.{told}
 use Rattle.encoded.proofs.counts_ok.Statement.{statement}
 use Rattle.encoded.proofs.counts_ok.Tie as tie
 

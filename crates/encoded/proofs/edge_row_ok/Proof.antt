@@ -1,7 +1,7 @@
 -- `encoded::edge_row_ok` meets its contract. Assumes nothing.
 use borrow.Author.Needs.{needs, sfits-of}
 use Rattle.encoded.specs.Encoded.{edge-fine}
-use Rattle.encoded.proofs.Facts.{told}
+use Rattle.words.proofs.Words.{told}
 use Rattle.encoded.proofs.edge_row_ok.Statement.{statement}
 use Rattle.encoded.proofs.edge_row_ok.Tie as tie
 

@@ -4,7 +4,7 @@ use borrow.Author.Needs.{needs, sfits-of}
 use mir.Syntax.{w32}
 use mir.ValLaws.{toZ-ofZ}
 use Rattle.encoded.specs.Encoded.{ranged}
-use Rattle.encoded.proofs.Facts.{told}
+use Rattle.words.proofs.Words.{told}
 use Rattle.encoded.proofs.in_var_range.Statement.{statement}
 use Rattle.encoded.proofs.in_var_range.Tie as tie
 

@@ -6,7 +6,7 @@ use borrow.Author.Needs.{needs, sfits-of}
 use lib.IntN.{pos}
 use mir.Facts.{sfits-lit}
 use Rattle.encoded.specs.Encoded.{location-fine}
-use Rattle.encoded.proofs.Facts.{tested}
+use Rattle.words.proofs.Words.{tested}
 use Rattle.encoded.proofs.location_row_ok.Statement.{statement}
 use Rattle.encoded.proofs.location_row_ok.Tie as tie
 

@@ -4,7 +4,7 @@ use borrow.Author.Needs.{needs, sfits-of}
 use borrow.Author.Tests.{eq-eqb, ne-eqb}
 use Rattle.semantics.specs.Encoding.{count}
 use Rattle.encoded.specs.Encoded.{operation-fine}
-use Rattle.encoded.proofs.Facts.{told}
+use Rattle.words.proofs.Words.{told}
 use Rattle.encoded.proofs.operation_ok.Statement.{statement}
 use Rattle.encoded.proofs.operation_ok.Tie as tie
 

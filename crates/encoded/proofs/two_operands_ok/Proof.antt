@@ -1,7 +1,7 @@
 -- `encoded::two_operands_ok` meets its contract. Assumes nothing.
 use borrow.Author.Needs.{needs, sfits-of}
 use Rattle.encoded.specs.Encoded.{two-fine}
-use Rattle.encoded.proofs.Facts.{told}
+use Rattle.words.proofs.Words.{told}
 use Rattle.encoded.proofs.two_operands_ok.Statement.{statement}
 use Rattle.encoded.proofs.two_operands_ok.Tie as tie
 

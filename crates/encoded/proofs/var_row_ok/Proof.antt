@@ -1,6 +1,6 @@
 -- `encoded::var_row_ok` meets its contract. Assumes nothing.
 use borrow.Author.Needs.{needs, sfits-of}
-use Rattle.encoded.proofs.Facts.{told}
+use Rattle.words.proofs.Words.{told}
 use Rattle.encoded.proofs.var_row_ok.Statement.{statement}
 use Rattle.encoded.proofs.var_row_ok.Tie as tie
 

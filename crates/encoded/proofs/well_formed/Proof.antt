@@ -10,30 +10,25 @@ use Rattle.encoded.proofs.WellFormed.{no-counts, no-room, by-rows}
 use Rattle.encoded.proofs.well_formed.Statement.{statement}
 use Rattle.encoded.proofs.well_formed.Tie as tie
 
--- where the chart's words end
-module _ (c : tie.After-edge-at) where
-  end : c .edge-at .result ≡ edges-at (c .before .before .before .before .args .words .now) + 8 * count (c .before .before .before .before .args .words .now) 2
-  end = rw (c .before .edge-count .ensures .0) at (c .edge-at .ensures .0)
-
 rows-ok-requires : tie.Need-rows-ok-requires
-rows-ok-requires c κs = omega (arith, end (c .before))
+rows-ok-requires c κs = omega (arith, c .before .end-of .ensures)
 
 returns : tie.Need-returns
 returns c =
     let b = c .before .before in
-    let k = b .before .before .before in
-    let h : edges-at (k .before .args .words .now) + 8 * count (k .before .args .words .now) 2 ≤ length (k .before .args .words .now) = omega (arith, end b) in
-    c .rows-ok .ensures ∙ sym (by-rows (k .before .args .words .now) h (sym (k .counts-ok .ensures) ∙ b .before .before .if1 .taken))
+    let k = b .before .before in
+    let h : edges-at (k .before .args .words .now) + 8 * count (k .before .args .words .now) 2 ≤ length (k .before .args .words .now) = omega (arith, b .end-of .ensures) in
+    c .rows-ok .ensures ∙ sym (by-rows (k .before .args .words .now) h (sym (k .counts-ok .ensures) ∙ b .before .if1 .taken))
 
 returns-2 : tie.Need-returns-2
 returns-2 c =
     let b = c .before in
-    let ws = b .before .before .before .before .args .words .now in
-    sym (no-room ws (omega (arith, end b)))
+    let ws = b .before .before .before .args .words .now in
+    sym (no-room ws (omega (arith, b .end-of .ensures)))
 
 returns-3 : tie.Need-returns-3
 returns-3 c = let k = c .before in sym (no-counts (k .before .args .words .now) (sym (k .counts-ok .ensures) ∙ c .if1 .left))
 
 pub well-formed-spec : {M : Type 1} → statement M
 well-formed-spec =
-    tie.close (tie.spec (λ c κs. search needs) (λ c κs. search needs) (λ c κs. search needs) rows-ok-requires returns returns-2 returns-3)
+    tie.close (tie.spec (λ c κs. search needs) (λ c κs. search needs) rows-ok-requires returns returns-2 returns-3)

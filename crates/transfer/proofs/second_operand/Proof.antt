@@ -5,7 +5,7 @@ use native.Mathlib.Omega.{arith}
 use borrow.Author.Needs.{needs, sfits-of}
 use mir.Syntax.{w32}
 use mir.ValLaws.{toZ-ofZ}
-use Rattle.encoded.proofs.Facts.{told}
+use Rattle.words.proofs.Words.{told}
 use Rattle.transfer.proofs.Turns.{operand-read}
 use Rattle.transfer.proofs.second_operand.Statement.{statement}
 use Rattle.transfer.proofs.second_operand.Tie as tie
@@ -18,7 +18,7 @@ returns c =
     let r = c .operand .result in
     let p = told (sfits-of {z = t .result} (t .ok)) (t .ensures) in
     let q = told (sfits-of {z = v .result} (v .ok)) (v .ensures) in
-    toZ-ofZ w32 r (sfits-of {z = r} (c .operand .ok)) ∙ c .operand .ensures ∙ operand-read (a .chart .now) (a .row .now) (a .i + 6) (a .i + 7) p q (omega arith)
+    toZ-ofZ w32 r (sfits-of {z = r} (c .operand .ok)) ∙ c .operand .ensures ∙ operand-read (a .chart .now) (a .row .now) (a .e .at + 6) (a .e .at + 7) p q (omega arith)
 
 pub second-operand-spec : {M : Type 1} → statement M
 second-operand-spec = tie.close (tie.spec (λ c κs. search needs) (λ c κs. search needs) (λ c κs. search needs) returns)

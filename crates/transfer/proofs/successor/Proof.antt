@@ -1,11 +1,12 @@
 -- `transfer::successor` meets its contract. Assumes nothing.
-use mathlib.Core.Path.{_∙_}
+use mathlib.Core.Path.{_≡_, sym, _∙_}
+use mathlib.Core.Bool.{Bool}
 use borrow.Author.Needs.{needs, sfits-of}
-use lib.IntN.{pos}
-use lib.ListN.{getD, length-set}
+use lib.Dec.{eqb}
+use lib.ListN.{length-set}
 use mir.Syntax.{w32}
 use mir.ValLaws.{toZ-ofZ}
-use Rattle.words.proofs.Words.{bits-eq, bits-ne}
+use Rattle.semantics.specs.Encoding.{count}
 use Rattle.transfer.specs.Transfer.{post-at}
 use Rattle.transfer.proofs.successor.Statement.{statement}
 use Rattle.transfer.proofs.successor.Tie as tie
@@ -13,8 +14,16 @@ use Rattle.transfer.proofs.successor.Tie as tie
 edge-from-requires : tie.Need-edge-from-requires
 edge-from-requires c κs = search needs
 
-shared-slice-copy-out-place : tie.Need-shared-slice-copy-out-place
-shared-slice-copy-out-place c = search needs
+location-of-requires : tie.Need-location-of-requires
+location-of-requires c κs = search needs
+
+same-location-requires : tie.Need-same-location-requires
+same-location-requires c κs = search needs
+
+-- the test that the edge leaves the row's location
+module _ (c : tie.After-same-location) where
+  leaves : c .same-location .result ≡ eqb (count (c .before .before .before .args .chart .now) (c .before .before .before .args .e .at)) (count (c .before .before .before .args .row .now) 0)
+  leaves = c .same-location .ensures ∙ rw (c .before .before .edge-from .ensures .0, c .before .location-of .ensures .0)
 
 copy-words-requires : tie.Need-copy-words-requires
 copy-words-requires c κs = search needs
@@ -22,49 +31,45 @@ copy-words-requires c κs = search needs
 edge-to-requires : tie.Need-edge-to-requires
 edge-to-requires c κs = search needs
 
-slice-set-from-to : tie.Need-slice-set-from-to
-slice-set-from-to c = search needs
+location-word-requires : tie.Need-location-word-requires
+location-word-requires c κs = search needs
+
+slice-set-from-out : tie.Need-slice-set-from-out
+slice-set-from-out c = search needs
 
 apply-requires : tie.Need-apply-requires
 apply-requires c κs = search needs
 
 same-length : tie.Need-same-length
 same-length c =
-    let w = c .before .before .before .before .before in
+    let w = c .before .before .before .before .before .before in
     c .before .apply .kept .1 .1 .0 ∙ length-set (w .copy-words .last .0) 0 _ ∙ w .copy-words .kept .0
 
 returns : tie.Need-returns
 unfolding post-at
 returns c =
-    let m = c .before .before .before in
-    let k = m .before .before in
+    let l = c .before .before .before in
+    let k = l .before .before .before in
     let i = k .before .before in
-    let w = i .before .before in
-    let s = w .before in
-    let f = w .edge-from .result in
-    let l = getD (s .args .row .now) 0 (pos 0) in
-    let q = rw (w .edge-from .ensures) at (bits-eq w32 {a = f} {b = l} (sfits-of {z = f} (w .edge-from .ok)) (sfits-of (i .before .place .given)) (i .if1 .taken)) in
-    let t = m .edge-to .result in
-    rw q (c .before .apply .ensures ∙ rw (toZ-ofZ w32 t (sfits-of {z = t} (m .edge-to .ok)), m .edge-to .ensures, k .copy-words .ensures))
+    let w = l .location-word .result in
+    rw (sym (leaves (i .before)) ∙ i .if1 .taken)
+    (c .before .apply .ensures ∙ rw (toZ-ofZ w32 w (sfits-of {z = w} (l .location-word .ok)), l .location-word .ensures, l .before .edge-to .ensures .0, k .copy-words .ensures))
 
 returns-2 : tie.Need-returns-2
 unfolding post-at
-returns-2 c =
-    let w = c .before .before in
-    let s = w .before in
-    let f = w .edge-from .result in
-    let l = getD (s .args .row .now) 0 (pos 0) in
-    rw (rw (w .edge-from .ensures) at (bits-ne w32 {a = f} {b = l} (sfits-of {z = f} (w .edge-from .ok)) (sfits-of (c .before .place .given)) (c .if1 .left)))
+returns-2 c = rw (sym (leaves (c .before)) ∙ c .if1 .left)
 
 pub successor-spec : {M : Type 1} → statement M
 successor-spec =
     tie.close
     (tie.spec
     edge-from-requires
-    shared-slice-copy-out-place
+    location-of-requires
+    same-location-requires
     copy-words-requires
     edge-to-requires
-    slice-set-from-to
+    location-word-requires
+    slice-set-from-out
     apply-requires
     same-length
     returns

@@ -1,10 +1,10 @@
--- `encoded::number_at` meets its contract. Assumes nothing.
+-- `words::number_at` meets its contract. Assumes nothing.
 use mathlib.Core.Path.{ap, _∙_}
 use borrow.Author.Needs.{needs, sfits-of}
 use lib.IntN.{natAbs}
-use Rattle.encoded.proofs.Facts.{told}
-use Rattle.encoded.proofs.number_at.Statement.{statement}
-use Rattle.encoded.proofs.number_at.Tie as tie
+use Rattle.words.proofs.Words.{told}
+use Rattle.words.proofs.number_at.Statement.{statement}
+use Rattle.words.proofs.number_at.Tie as tie
 
 returns : tie.Need-returns
 returns c =
