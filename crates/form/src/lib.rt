@@ -1,6 +1,7 @@
 // Form rule 21: whether lent words and a record are an analysis of a chart. Leaves look at one row or one part of the words and are total;
 // the counts are tested first, since they bound what is read after.
 use semantics::Analysis;
+use semantics::EdgeId;
 use semantics::Mode;
 use semantics::Verdict;
 ghost use mathlib.Core.Path.{_≡_};
@@ -14,6 +15,7 @@ ghost use Rattle.semantics.specs.Chart.{eqZ, within};
 ghost use Rattle.semantics.specs.Coverage.{allowed};
 ghost use Rattle.semantics.specs.Encoding.{several, var-in, decode};
 ghost use Rattle.semantics.specs.Memory.{width, value-ok, below, row-ok, rows-ok, each-once, is-alarm, empty-if-safe, analysis-ok};
+ghost use Rattle.semantics.specs.Outcomes.{short};
 ghost use Rattle.form.specs.Form.{lent, lent-tests, record-tests};
 
 // ---- the reached table
@@ -217,10 +219,10 @@ pub fn is_allowed(merge: Mode, stop: Mode) -> bool
 }
 
 // No edge, or an alarm's.
-fn edge_ok(edge: usize, v: Verdict) -> bool
-    ensures { λ r. ⌜ r ≡ (eqb edge 0 || is-alarm v) ⌝ }
+fn edge_ok(edge: EdgeId, v: Verdict) -> bool
+    ensures { λ r. ⌜ r ≡ (eqb (edge .0) 0 || is-alarm v) ⌝ }
 {
-    (edge == 0) | is_alarm(v)
+    (edge.0 == 0) | is_alarm(v)
 }
 
 // The tests of a record alone, for a chart of so many edges.
@@ -231,11 +233,22 @@ fn record_ok(a: Analysis, edges: usize) -> bool
     let merge = settings.merge;
     let stop = settings.stop;
     let verdict = a.verdict;
-    let edge = a.edge.0;
+    let edge = a.edge;
     let capacity = a.capacity;
-    let counts = (a.iterations <= 60000) & (edge <= edges);
+    let counts = (a.iterations <= 60000) & (edge.0 <= edges);
     let rest = ((1 <= capacity) & (capacity <= 256)) & is_allowed(merge, stop);
     counts & edge_ok(edge, verdict) & rest & empty_if_safe(verdict, a.waiting)
+}
+
+// ---- the public tests
+
+// Fewer words are lent than the capacity takes (14).
+pub fn is_short(chart: &[i32], capacity: u32, table: usize, list: usize) -> bool
+    ensures { λ r. ⌜ r ≡ short (decode (now (chart .entry))) capacity table list ⌝ }
+{
+    let width = encoded::width(chart);
+    let places = capacity as usize;
+    (table < places * width) | (list < places)
 }
 
 // Form rule 21. That the words lent are enough (14) is judged before.

@@ -5,6 +5,7 @@ use semantics::Answer;
 use semantics::LocationId;
 use semantics::Mode;
 use semantics::Order;
+use semantics::SlotId;
 use semantics::Verdict;
 ghost use mathlib.Core.Path.{_≡_};
 ghost use mathlib.Core.List.{map};
@@ -17,7 +18,7 @@ ghost use Rattle.semantics.specs.Text.{decimal};
 ghost use Rattle.semantics.specs.Encoding.{val, decode, well-formed};
 ghost use Rattle.semantics.specs.Memory.{width, state-in, states-in, load, analysis-ok};
 ghost use Rattle.semantics.specs.Listing.{mode-text, order-text, verdict-text, loc-text, val-text, mark, slot-text, slots-text, listing-text};
-ghost use Rattle.semantics.specs.Outcomes.{short, listing-outcome};
+ghost use Rattle.semantics.specs.Outcomes.{listing-outcome};
 ghost use Rattle.form.specs.Form.{lent};
 ghost use Rattle.writing.specs.Writing.{Put, limit};
 ghost use Rattle.listing.specs.Pieces.{tabbed, values-text, words-text, counts-text, header-text};
@@ -145,13 +146,13 @@ fn put_values(out: &mut [u8], at: usize, values: &[i32]) -> usize
 }
 
 // Whether the slot is one of the list.
-fn waits(list: &[i32], s: usize) -> bool
-    ensures { λ r. ⌜ r ≡ some-of (eqb s) (map natAbs (now (list .entry))) ⌝ }
+fn waits(list: &[i32], slot: SlotId) -> bool
+    ensures { λ r. ⌜ r ≡ some-of (eqb (slot .0)) (map natAbs (now (list .entry))) ⌝ }
 {
     let mut i = 0;
     while i < list.len() {
         let w = list[i];
-        if s == words::magnitude(w) {
+        if slot.0 == words::magnitude(w) {
             return true;
         }
         i += 1;
@@ -169,17 +170,24 @@ fn put_mark(out: &mut [u8], at: usize, waiting: bool) -> usize
     writing::put_byte(out, place, b'-')
 }
 
-// The line of slot s, whose words are the row, with the slots that wait.
-fn put_slot(out: &mut [u8], at: usize, chart: &[i32], list: &[i32], s: usize, row: &[i32]) -> usize
+// The line of a slot, whose words are the row, with the slots that wait.
+fn put_slot(
+    out: &mut [u8],
+    at: usize,
+    chart: &[i32],
+    list: &[i32],
+    slot: SlotId,
+    row: &[i32],
+) -> usize
     requires { ⌜ T (well-formed (now chart)) × (1 ≤ length (now row)) ⌝ }
-    ensures { λ r. ⌜ Put at (slot-text (decode (now (chart .entry))) (map natAbs (now (list .entry))) s (state-in (now (row .entry)))) (now (out .entry)) (now (out .exit)) r ⌝ }
+    ensures { λ r. ⌜ Put at (slot-text (decode (now (chart .entry))) (map natAbs (now (list .entry))) (slot .0) (state-in (now (row .entry)))) (now (out .entry)) (now (out .exit)) r ⌝ }
 {
     let w = row[0];
     let location = LocationId(words::magnitude(w));
-    let name = writing::put_decimal(out, at, s);
+    let name = writing::put_decimal(out, at, slot.0);
     let values = put_name(out, name, chart, location);
     let last = put_values(out, values, &row[1..]);
-    let end = put_mark(out, last, waits(list, s));
+    let end = put_mark(out, last, waits(list, slot));
     writing::put_byte(out, end, LF)
 }
 
@@ -201,7 +209,7 @@ fn put_slots(
     let mut s = 0;
     while s < used {
         let to = from + w;
-        place = put_slot(out, place, chart, list, s, &table[from..to]);
+        place = put_slot(out, place, chart, list, SlotId(s), &table[from..to]);
         from = to;
         s += 1;
     }
@@ -211,13 +219,7 @@ fn put_slots(
 // ---- the text
 
 // Writes the listing as far as it fits, and answers how long it is.
-pub fn write_listing(
-    chart: &[i32],
-    table: &[i32],
-    list: &[i32],
-    a: Analysis,
-    out: &mut [u8],
-) -> usize
+fn write_listing(chart: &[i32], table: &[i32], list: &[i32], a: Analysis, out: &mut [u8]) -> usize
     requires { ⌜ T (well-formed (now chart)) × (a .capacity * width (decode (now chart)) ≤ length (now table)) × (a .capacity ≤ length (now list)) × T (analysis-ok (decode (now chart)) (lent (now table) (now list) a)) ⌝ }
     ensures { λ r. ⌜ Put 0 (listing-text (decode (now (chart .entry))) (load (decode (now (chart .entry))) (lent (now (table .entry)) (now (list .entry)) a))) (now (out .entry)) (now (out .exit)) r ⌝ }
 {
@@ -238,15 +240,6 @@ fn listing_length(chart: &[i32], table: &[i32], list: &[i32], a: Analysis) -> us
 
 // ---- the public call
 
-// Fewer words are lent than the capacity takes.
-fn is_short(chart: &[i32], capacity: u32, table: usize, list: usize) -> bool
-    ensures { λ r. ⌜ r ≡ short (decode (now (chart .entry))) capacity table list ⌝ }
-{
-    let width = encoded::width(chart);
-    let places = capacity as usize;
-    (table < places * width) | (list < places)
-}
-
 // 20, 14, 21, 15: the first that refuses a listing into so many bytes, or 0.
 fn listing_refusal(chart: &[i32], a: Analysis, table: &[i32], list: &[i32], space: usize) -> u32
     requires { ⌜ space < limit ⌝ }
@@ -255,7 +248,7 @@ fn listing_refusal(chart: &[i32], a: Analysis, table: &[i32], list: &[i32], spac
     if !encoded::well_formed(chart) {
         return 20;
     }
-    if is_short(chart, a.capacity, table.len(), list.len()) {
+    if form::is_short(chart, a.capacity, table.len(), list.len()) {
         return 14;
     }
     if !form::analysis_ok(chart, table, list, a) {

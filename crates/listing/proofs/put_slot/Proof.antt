@@ -18,7 +18,7 @@ returns c =
     let a = s .args in
     let n : c .before .before .before .before .before .before .before .before .before .before .before .before .before .before .before .before .before .before .before .before .before .before .magnitude .result ≡ natAbs (getD (a .row .now) 0 (pos 0)) = rw (toZ-ofZ w32 _ (sfits-of (c .before .before .before .before .before .before .before .before .before .before .before .before .before .before .before .before .before .before .before .before .before .before .before .w .given))) at (c .before .before .before .before .before .before .before .before .before .before .before .before .before .before .before .before .before .before .before .before .before .before .magnitude .ensures .0) in
     put-same
-    (slot-is (decode (a .chart .now)) (map natAbs (a .list .now)) (a .s) (a .row .now) _ _ (s .pre .1) n (c .before .before .before .before .before .before .before .waits .ensures))
+    (slot-is (decode (a .chart .now)) (map natAbs (a .list .now)) (a .slot .0) (a .row .now) _ _ (s .pre .1) n (c .before .before .before .before .before .before .before .waits .ensures))
     (put-then (c .before .before .before .before .before .before .before .before .before .before .before .before .before .before .before .before .before .before .before .before .put-decimal .ensures) (
     put-then (c .before .before .before .before .before .before .before .before .before .before .before .before .before .before .before .before .put-name .ensures) (
     put-then (c .before .before .before .before .before .before .before .before .before .before .before .put-values .ensures) (

@@ -1,4 +1,4 @@
--- `listing::is_short` meets its contract. Assumes nothing.
+-- `form::is_short` meets its contract. Assumes nothing.
 use mathlib.Core.Path.{_≡_, sym, ap, _∙_}
 use mathlib.Core.Bool.{_||_}
 use Prim.Native.Nat.{suc, _*_}
@@ -8,9 +8,9 @@ use borrow.Author.Needs.{needs}
 use lib.Dec.{ltb}
 use Rattle.semantics.specs.Encoding.{decode}
 use Rattle.semantics.specs.Memory.{width}
 use Rattle.form.proofs.Facts.{vars-count}
-use Rattle.listing.proofs.is_short.Statement.{statement}
-use Rattle.listing.proofs.is_short.Tie as tie
+use Rattle.form.proofs.is_short.Statement.{statement}
+use Rattle.form.proofs.is_short.Tie as tie
 
 mul-result : tie.Need-mul-result
 mul-result c =
