@@ -2,20 +2,18 @@
 use mathlib.Core.Path.{_≡_, refl, sym, ap, _∙_}
 use mathlib.Core.Bool.{Bool, true, false, _&&_, _||_, not}
 use mathlib.Core.List.{List, [], _∷_}
-use Prim.Native.Nat.{ℕ, zero, suc, _≤_, _<_}
+use Prim.Native.Nat.{ℕ, zero, suc, _≤_}
 use native.Mathlib.Omega.{arith}
 use lib.Dec.{leb, ltb, eqb, leb·suc-suc}
 use lib.ListN.{length, take, drop}
 use lib.Seq.{take-length}
 use borrow.Author.Tests.{ltb-true, ltb-false, lt-leb, le-leb, lt-ltb, le-ltb}
-use Rattle.semantics.specs.Lists.{pick, all}
-use Rattle.semantics.specs.Text.{fields}
-use Rattle.semantics.specs.Reading.{check}
+use Rattle.semantics.specs.Lists.{pick}
 use Rattle.semantics.specs.Program.{has-lf, first-line, past-line, go-line}
 use Rattle.text.specs.Fields.{up-to}
-use Rattle.go_line.specs.Asked.{line-byte, numbers, sized, line-fields, by-end}
+use Rattle.go_line.specs.Asked.{numbers, sized, line-fields, by-end}
 
-pub first-is : (l : List ℕ) → first-line l ≡ take (up-to 10 l) l
+first-is : (l : List ℕ) → first-line l ≡ take (up-to 10 l) l
 unfolding up-to
 first-is [] = refl
 first-is (b ∷ bs) = at-byte (eqb b 10) (first-is bs)

@@ -45,11 +45,11 @@ askedRes (asked.Is s r a) = ok (record { settings = s; capacity = r; budget = a 
 
 -- ---- the line, from its last tests to its first
 
--- a byte of the line, by 2: tab, or 0x21 to 0x7E
+-- 2, "a byte other than tab, LF, 0x21..0x7E": a byte that may stand before the LF
 abbrev pub line-byte : ℕ → Bool
 line-byte b = eqb b 9 || between 33 126 b
 
--- "their size is judged by 11 and 13", with 12 between
+-- "their size is judged by 11 and 13"; 12 between them
 unfoldable pub sized : Settings → ℤ → ℤ → Res Asking
 sized s r a =
     check (capacity-ok r) 11

@@ -89,15 +89,18 @@ fn budget_ok(budget: i32) -> bool
 fn sizes(settings: Settings, capacity: i32, budget: i32) -> Asked
     ensures { λ r. ⌜ askedRes r ≡ sized settings capacity budget ⌝ }
 {
-    if !capacity_ok(capacity) {
-        return Asked::Refused(11);
-    }
     let merge = settings.merge;
     let stop = settings.stop;
-    if !form::is_allowed(merge, stop) {
+    let capacity_fits = capacity_ok(capacity);
+    let allowed = form::is_allowed(merge, stop);
+    let budget_fits = budget_ok(budget);
+    if !capacity_fits {
+        return Asked::Refused(11);
+    }
+    if !allowed {
         return Asked::Refused(12);
     }
-    if !budget_ok(budget) {
+    if !budget_fits {
         return Asked::Refused(13);
     }
     Asked::Is {
