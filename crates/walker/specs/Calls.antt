@@ -6,6 +6,8 @@ use Prim.Native.Nat.{ℕ, suc, _*_, _≤_}
 use lib.Dec.{eqb}
 use lib.IntN.{ℤ, natAbs}
 use lib.ListN.{length}
+use Rattle.semantics.specs.declared.Analysis.{Analysis}
+use Rattle.semantics.specs.declared.Answer.{Answer}
 use Rattle.semantics.specs.declared.Settings.{Settings}
 use Rattle.semantics.specs.Coverage.{Allowed, allowed}
 use Rattle.semantics.specs.Encoding.{count, decode, well-formed}
@@ -13,11 +15,16 @@ use Rattle.semantics.specs.Memory.{Memory, capacity-ok, analysis-ok}
 use Rattle.semantics.specs.Outcomes.{Outcome, Case, case, short, budget-ok, has-verdict}
 use Rattle.walker.specs.declared.Called.{Called}
 
-pub record Ends (o : Outcome) (r : Called) (t l : List ℤ) : Type 0 where
-  pub answer : r .answer ≡ o .answer
-  pub analysis : r .analysis ≡ o .memory .analysis
+-- "determines, from the values at entry alone, the answer and every lent word at exit": these are the outcome's answer, record, table and waitlist
+pub record Leaves (o : Outcome) (r : Answer) (a : Analysis) (t l : List ℤ) : Type 0 where
+  pub answer : r ≡ o .answer
+  pub analysis : a ≡ o .memory .analysis
   pub table : t ≡ o .memory .table
   pub waitlist : l ≡ o .memory .waitlist
+
+-- the same of a call that answers the record
+abbrev pub Ends : Outcome → Called → List ℤ → List ℤ → Type 0
+Ends o r t l = Leaves o (r .answer) (r .analysis) t l
 
 -- ---- the cases of refusal, in document 01's order
 

@@ -19,7 +19,7 @@ ghost use Rattle.semantics.specs.Memory.{width, load, capacity-ok, analysis-ok}
 ghost use Rattle.form.specs.Form.{lent};
 ghost use Rattle.analysis.specs.Loaded.{domain-of, Loaded};
 ghost use Rattle.transfer.specs.Transfer.{initial-row};
-ghost use Rattle.walker.specs.Calls.{start-cases, run-cases, Begins, Ends};
+ghost use Rattle.walker.specs.Calls.{start-cases, run-cases, Begins, Leaves, Ends};
 ghost use Rattle.semantics.specs.Outcomes.{case, refusal, fine, refused-by, short, budget-ok, has-verdict, put-in, started, resumed, start-outcome, run-outcome};
 
 // What a call answers, and the record as it leaves it.
@@ -236,8 +236,8 @@ pub fn start(
     }
 }
 
-// Plays iterations until a verdict, until the budget is spent, or until 60,000 were played.
-pub fn run(chart: &[i32], budget: i32, a: Analysis, table: &mut [i32], list: &mut [i32]) -> Called
+// A run with the record by value, and answered.
+fn advance(chart: &[i32], budget: i32, a: Analysis, table: &mut [i32], list: &mut [i32]) -> Called
     ensures { λ r. ⌜ Ends (run-outcome (now (chart .entry)) budget (lent (now (table .entry)) (now (list .entry)) a)) r (now (table .exit)) (now (list .exit)) ⌝ }
 {
     let number = run_refusal(chart, budget, a, table, list);
@@ -252,4 +252,35 @@ pub fn run(chart: &[i32], budget: i32, a: Analysis, table: &mut [i32], list: &mu
         answer: gone_through(),
         analysis: played,
     }
+}
+
+// Plays iterations until a verdict, until the budget is spent, or until 60,000 were played. The record is advanced in
+// place.
+pub fn run(
+    chart: &[i32],
+    budget: i32,
+    a: &mut Analysis,
+    table: &mut [i32],
+    list: &mut [i32],
+) -> Answer
+    ensures { λ r. ⌜ Leaves (run-outcome (now (chart .entry)) budget (lent (now (table .entry)) (now (list .entry)) (now (a .entry)))) r (now (a .exit)) (now (table .exit)) (now (list .exit)) ⌝ }
+{
+    let r = advance(chart, budget, *a, table, list);
+    *a = r.analysis;
+    r.answer
+}
+
+// The same for a caller that holds the record by value: it is put in a local, and lent.
+pub fn run_by_value(
+    chart: &[i32],
+    budget: i32,
+    a: Analysis,
+    table: &mut [i32],
+    list: &mut [i32],
+) -> Called
+    ensures { λ r. ⌜ Ends (run-outcome (now (chart .entry)) budget (lent (now (table .entry)) (now (list .entry)) a)) r (now (table .exit)) (now (list .exit)) ⌝ }
+{
+    let mut analysis = a;
+    let answer = run(chart, budget, &mut analysis, table, list);
+    Called { answer, analysis }
 }
