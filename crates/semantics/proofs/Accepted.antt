@@ -22,7 +22,7 @@ use Rattle.semantics.proofs.Stored.{both-true}
 fail-ok : {A : Type 0} {n : ℕ} {a : A} → fail n ≡ ok a → ⊥
 fail-ok e = let z : _≡_ {A = ℕ} 0 1 = cc in omega arith
 
-check-ok : {A : Type 0} (b : Bool) (n : ℕ) (r : Res A) {a : A} → check b n r ≡ ok a → T b × (r ≡ ok a)
+pub check-ok : {A : Type 0} (b : Bool) (n : ℕ) (r : Res A) {a : A} → check b n r ≡ ok a → T b × (r ≡ ok a)
 unfolding check
 check-ok b n r {a} e = go b e
   where
@@ -30,7 +30,7 @@ check-ok b n r {a} e = go b e
     go true e = (tt, e)
     go false e = absurd (fail-ok e)
 
-then-ok : {A B : Type 0} (r : Res A) (f : A → Res B) {b : B} → andThen r f ≡ ok b → (a : A) × (r ≡ ok a) × (f a ≡ ok b)
+pub then-ok : {A B : Type 0} (r : Res A) (f : A → Res B) {b : B} → andThen r f ≡ ok b → (a : A) × (r ≡ ok a) × (f a ≡ ok b)
 unfolding andThen
 then-ok {A} r f {b} e = go r e
   where
@@ -241,7 +241,7 @@ judge-sound s t fs e h = go (same-bytes (nth fs 0) (86 ∷ [])) (same-bytes (nth
 
 -- ---- the file
 
-refused-not : {n l : ℕ} {c : Chart} → refused n l ≡ accepted c → ⊥
+pub refused-not : {n l : ℕ} {c : Chart} → refused n l ≡ accepted c → ⊥
 refused-not e = let z : _≡_ {A = ℕ} 0 1 = cc in omega arith
 
 judged-ok : (ls : List (List (List ℕ))) (n : ℕ) (s : So-far) (c : Chart) → Sound (s .chart) → judged n s ls ≡ accepted c → Sound c × (1 ≤ length (c .locs))

@@ -1,11 +1,12 @@
 -- A chart in bounds is read back from its words, with any words after, and they are well formed. Assumes nothing.
-use mathlib.Core.Path.{_≡_, refl, ap, _∙_}
+use mathlib.Core.Path.{_≡_, refl, sym, ap, _∙_}
 use mathlib.Core.Bool.{Bool, true, false}
 use mathlib.Core.List.{List, [], _∷_, _++_, map, append-assoc}
-use Prim.Native.Nat.{ℕ, zero, suc, _-_, _≤_}
+use Prim.Native.Nat.{ℕ, zero, suc, _-_, _*_, _≤_}
+use native.Mathlib.Nat.{mul-suc, mul-zero}
 use native.Mathlib.Omega.{arith}
 use lib.Dec.{T, eqb, leb→le, eqb·suc-zero}
-use lib.ListN.{length, drop, getD, replicate, length-map}
+use lib.ListN.{length, drop, getD, replicate, length-map, length-append}
 use lib.Seq.{drop-at}
 use lib.IntN.{ℤ, pos, natAbs}
 use lib.Signed.{leZ}
@@ -19,6 +20,12 @@ use Rattle.semantics.proofs.StatesOk.{Bounds, bounds}
 use Rattle.semantics.proofs.Stored.{both-true, eqZ-refl, not-any, padded-length}
 
 -- n things of k words each
+module _ {A : Type 0} (f : A → List ℤ) (k : ℕ) (Ok : A → Type 0) (wide : (x : A) → Ok x → length (f x) ≡ k) where
+  pub each-length : (xs : List A) → Every Ok xs → length (each f xs) ≡ k * length xs
+  each-length [] h = sym (mul-zero k)
+  each-length (x ∷ xs) h = omega (arith, length-append (f x) (each f xs), wide x (h .0), each-length xs (h .1), mul-suc k (length xs))
+
+-- and read back
 module _ {A : Type 0} (f : A → List ℤ) (g : List ℤ → A) (k : ℕ) (Ok : A → Type 0) (wide : (x : A) → Ok x → length (f x) ≡ k) (back : (x : A) (rest : List ℤ) → Ok x → g (f x ++ rest) ≡ x) where
   pub several-back : (xs : List A) (rest : List ℤ) → Every Ok xs → several g k (length xs) (each f xs ++ rest) ≡ xs
   several-back [] rest h = refl
@@ -68,7 +75,7 @@ loc-back l rest t =
     let q : eqZ (kind-word (l .error)) (pos 1) ≡ l .error = kind-back (l .error) in
     λ i. record { name = p i; error = q i }
 
-loc-wide : (l : Loc) → T (name-ok (l .name)) → length (loc-words l) ≡ 17
+pub loc-wide : (l : Loc) → T (name-ok (l .name)) → length (loc-words l) ≡ 17
 loc-wide l t = ap suc (padded-length 16 (map pos (l .name)) (omega (arith, length-map (l .name) pos, name-short (l .name) t)))
 
 -- an edge
@@ -101,7 +108,10 @@ op-wide (input v p q) = refl
 op-wide (assume v r a) = refl
 op-wide skip = refl
 
-every-any : {A : Type 0} (xs : List A) → Every (λ x. Unit {0}) xs
+pub edge-wide : (g : Edge) → Unit {0} → length (edge-words g) ≡ 8
+edge-wide g t = ap (λ (n : ℕ). suc (suc n)) (op-wide (g .op))
+
+pub every-any : {A : Type 0} (xs : List A) → Every (λ x. Unit {0}) xs
 every-any [] = tt
 every-any (x ∷ xs) = (tt, every-any xs)
 
@@ -124,7 +134,7 @@ module _ (c : Chart) (ok : T (chart-ok c)) where
       let pl = past-back loc-words loc-in 17 (λ l. T (name-ok (l .name))) loc-wide loc-back (c .locs) (es ++ rest) hl in
       let p : several var-in 3 (length (c .vars)) ((vs ++ (ls ++ es)) ++ rest) ≡ c .vars = rw a (several-back var-words var-in 3 (λ v. T (var-ok v)) (λ v t. refl) var-back (c .vars) (ls ++ (es ++ rest)) hv) in
       let q : several loc-in 17 (length (c .locs)) (past 3 (length (c .vars)) ((vs ++ (ls ++ es)) ++ rest)) ≡ c .locs = rw (a, pv) (several-back loc-words loc-in 17 (λ l. T (name-ok (l .name))) loc-wide loc-back (c .locs) (es ++ rest) hl) in
-      let r : several edge-in 8 (length (c .edges)) (past 17 (length (c .locs)) (past 3 (length (c .vars)) ((vs ++ (ls ++ es)) ++ rest))) ≡ c .edges = rw (a, pv, pl) (several-back edge-words edge-in 8 (λ g. Unit {0}) (λ g t. ap (λ (n : ℕ). suc (suc n)) (op-wide (g .op))) (λ g ws t. edge-back g ws) (c .edges) rest he) in
+      let r : several edge-in 8 (length (c .edges)) (past 17 (length (c .locs)) (past 3 (length (c .vars)) ((vs ++ (ls ++ es)) ++ rest))) ≡ c .edges = rw (a, pv, pl) (several-back edge-words edge-in 8 (λ g. Unit {0}) edge-wide (λ g ws t. edge-back g ws) (c .edges) rest he) in
       λ i. record { vars = p i; locs = q i; edges = r i }
 
   pub well-formed-back : (rest : List ℤ) → T (well-formed (encode c ++ rest))
@@ -134,6 +144,25 @@ module _ (c : Chart) (ok : T (chart-ok c)) where
       go : (ws : List ℤ) → T (begins-with ws (ws ++ rest))
       go [] = tt
       go (x ∷ xs) = both-true (eqZ x x) (begins-with xs (xs ++ rest)) (eqZ-refl x) (go xs)
+
+  -- 8 variables, 64 locations and 256 edges at most: 3 + 24 + 1,088 + 2,048 words
+  pub encode-short : length (encode c) ≤ 3163
+  unfolding encode
+  encode-short =
+      let vs = each var-words (c .vars) in
+      let ls = each loc-words (c .locs) in
+      let es = each edge-words (c .edges) in
+      omega (
+        arith,
+        length-append vs (ls ++ es),
+        length-append ls es,
+        each-length var-words 3 (λ v. Unit {0}) (λ v t. refl) (c .vars) (every-any (c .vars)),
+        each-length loc-words 17 (λ l. T (name-ok (l .name))) loc-wide (c .locs) (every-of (λ l. name-ok (l .name)) (c .locs) (b .names)),
+        each-length edge-words 8 (λ g. Unit {0}) edge-wide (c .edges) (every-any (c .edges)),
+        b .few-vars,
+        b .few-locs,
+        b .few-edges,
+      )
 
 -- well-formed words are the encoding of the chart that they decode to, and any words after
 begins-split : (xs ws : List ℤ) → T (begins-with xs ws) → ws ≡ xs ++ drop (length xs) ws

@@ -20,6 +20,10 @@ pub mod RowWise
 pub mod Reloaded
 pub mod Listed
 pub mod Program
+pub mod Input
+pub mod Refusals
+pub mod Calls
+pub mod OutputShort
 pub mod MarkedCases
 pub mod Simulate
 pub mod Verdicts

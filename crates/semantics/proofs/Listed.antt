@@ -21,7 +21,7 @@ use Rattle.semantics.proofs.Stored.{both-true, Good}
 use Rattle.semantics.proofs.StatesOk.{ValOk, ValsOk, StateOk, Bounds}
 use Rattle.semantics.proofs.Rendered.{size, dec-short, decZ-short}
 
-line-size : (f : List ℕ) (gs : List (List ℕ)) → length (line-of f gs) ≡ size (f ∷ gs)
+pub line-size : (f : List ℕ) (gs : List (List ℕ)) → length (line-of f gs) ≡ size (f ∷ gs)
 unfolding line-of
 line-size f [] = length-append f (10 ∷ [])
 line-size f (g ∷ gs) = omega (arith, length-append f (9 ∷ line-of g gs), line-size g gs)

@@ -34,6 +34,9 @@ never-short c b r table list h t l =
     let q : ltb list r ≡ false = to-false (ltb list r) (λ x. let y = ltb→lt list r x in omega arith) in
     rw (p, q)
 
+pub capacity-high : (c : Chart) (w : Exploration AbstractState) → Good c w → w .capacity ≤ 256
+capacity-high c w q = leb→le (w .capacity) 256 (and-right (leb 1 (w .capacity)) (leb (w .capacity) 256) (q .capacity))
+
 -- the program's calls, and what it lends
 abbrev pub lending : Request → Call
 lending a = record { request = a; table = 2304; waitlist = 256; space = 24576 }
@@ -66,23 +69,29 @@ module _ (c : Chart) (ok : T (chart-ok c)) (g : Go) (h : GoOk g) where
   unfolding w₀
   good₀ = started-good c ok (g .settings) (g .capacity) (h .capacity) (h .modes)
 
-  capacity-high : (w : Exploration AbstractState) → Good c w → w .capacity ≤ 256
-  capacity-high w q = leb→le (w .capacity) 256 (and-right (leb 1 (w .capacity)) (leb (w .capacity) 256) (q .capacity))
+  -- what the program lists is good
+  pub explored-good : Good c (explored c g)
+  unfolding w₀
+  explored-good = go (has-verdict (w₀ .verdict))
+    where
+      go : (v : Bool) → Good c (pick v w₀ (resumed c (g .budget) w₀))
+      go true = good₀
+      go false = resumed-good c ok (g .budget) w₀ good₀
 
   starts : (k : Call) → k .table ≡ 2304 → k .waitlist ≡ 256 → start-refusal c (g .settings) (g .capacity) k ≡ 0
   starts k t l =
-      let r : natAbs (g .capacity) ≤ 256 = omega (arith, capacity-high (started c (g .settings) (g .capacity)) (started-good c ok (g .settings) (g .capacity) (h .capacity) (h .modes)), start-capacity c ok (g .settings) (natAbs (g .capacity)) (initial c)) in
+      let r : natAbs (g .capacity) ≤ 256 = omega (arith, capacity-high c (started c (g .settings) (g .capacity)) (started-good c ok (g .settings) (g .capacity) (h .capacity) (h .modes)), start-capacity c ok (g .settings) (natAbs (g .capacity)) (initial c)) in
       rw (to-true (capacity-ok (g .capacity)) (h .capacity), to-true (allowed (g .settings .merge) (g .settings .stop)) (h .modes), never-short c b (natAbs (g .capacity)) (k .table) (k .waitlist) r (omega arith) (omega arith))
 
   lists : (w : Exploration AbstractState) → Good c w → listing-refusal c (lending ask-listing) w ≡ 0
   lists w q =
-      rw (never-short c b (w .capacity) 2304 256 (capacity-high w q) (omega arith) (omega arith), to-false (ltb 24576 (length (listing-text c w))) (λ t. let y = ltb→lt 24576 (length (listing-text c w)) t in let z = listing-short c b w q in omega arith))
+      rw (never-short c b (w .capacity) 2304 256 (capacity-high c w q) (omega arith) (omega arith), to-false (ltb 24576 (length (listing-text c w))) (λ t. let y = ltb→lt 24576 (length (listing-text c w)) t in let z = listing-short c b w q in omega arith))
 
   plays : has-verdict (w₀ .verdict) ≡ false → run-refusal c (g .budget) (lending (ask-run (g .budget))) w₀ ≡ 0
   unfolding w₀
   plays e =
       let z : w₀ .iterations ≡ 0 = start-iterations c ok (g .settings) (natAbs (g .capacity)) (initial c) in
-      rw (to-true (budget-ok (g .budget)) (h .budget), never-short c b (w₀ .capacity) 2304 256 (capacity-high w₀ good₀) (omega arith) (omega arith), e, z)
+      rw (to-true (budget-ok (g .budget)) (h .budget), never-short c b (w₀ .capacity) 2304 256 (capacity-high c w₀ good₀) (omega arith) (omega arith), e, z)
 
   by-rules : (v : Bool) → has-verdict (w₀ .verdict) ≡ v → last-text (rulings c no-exploration (calls-if v g) .replies) ≡ listing-text c (pick v w₀ (resumed c (g .budget) w₀))
   unfolding w₀

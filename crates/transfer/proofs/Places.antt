@@ -2,23 +2,21 @@
 use mathlib.Core.Path.{_≡_, refl, sym, ap, _∙_}
 use mathlib.Core.Bool.{Bool, true, false}
 use mathlib.Core.List.{List, [], _∷_, _++_, map, append-assoc}
-use Prim.Native.Nat.{ℕ, zero, suc, _+_, _*_, _≤_, _<_}
-use native.Mathlib.Nat.{mul-suc, mul-zero}
+use Prim.Native.Nat.{ℕ, zero, suc, _+_, _*_, _<_}
+use native.Mathlib.Nat.{mul-suc}
 use native.Mathlib.Omega.{arith}
 use borrow.Author.Tests.{lt-ltb}
-use lib.Dec.{T, leb→le}
+use lib.Dec.{T}
 use lib.IntN.{ℤ, pos}
-use lib.ListN.{length, getD, length-append, length-map, List·getD-append}
+use lib.ListN.{length, getD, length-append, List·getD-append}
 use lib.Seq.{getD-append-add}
 use Rattle.semantics.specs.Lists.{At, each}
 use Rattle.semantics.specs.Text.{name-ok}
-use Rattle.semantics.specs.Chart.{Var, Loc, Op, assign, add, sub, input, assume, skip, Edge, Chart, eqZ, within, in-range, error-location, inits}
+use Rattle.semantics.specs.Chart.{Var, Loc, Edge, Chart, eqZ, within, in-range, error-location, inits}
 use Rattle.semantics.specs.Coverage.{Every}
-use Rattle.semantics.specs.Encoding.{word, kind-word, var-words, loc-words, op-words, edge-words, encode, count, var-ok, chart-ok}
-use Rattle.semantics.proofs.Values.{and-left, and-right}
+use Rattle.semantics.specs.Encoding.{word, kind-word, var-words, loc-words, edge-words, encode, count, var-ok, chart-ok}
 use Rattle.semantics.proofs.StatesOk.{Bounds, bounds}
-use Rattle.semantics.proofs.Stored.{padded-length}
-use Rattle.semantics.proofs.Encoded.{every-of}
+use Rattle.semantics.proofs.Encoded.{each-length, every-of, loc-wide, edge-wide, every-any}
 use Rattle.transfer.specs.Transfer.{location-word, edge-at, error-row, initial-words, initial-row}
 
 -- the word of a location that a word can hold
@@ -44,33 +42,8 @@ module _ {A : Type 0} (f : A → List ℤ) (k : ℕ) (Ok : A → Type 0) (wide :
       let e : k * suc n + i ≡ length (f y) + (k * n + i) = omega (arith, mul-suc k n) in
       rw (append-assoc (f y) (each f ys) rest, e, getD-append-add (f y) (each f ys ++ rest) (k * n + i) (pos 0)) (each-at ys rest n x (h .1) a i l)
 
-  each-length : (xs : List A) → Every Ok xs → length (each f xs) ≡ k * length xs
-  each-length [] h = sym (mul-zero k)
-  each-length (x ∷ xs) h = omega (arith, length-append (f x) (each f xs), wide x (h .0), each-length xs (h .1), mul-suc k (length xs))
-
   each-past : (xs : List A) (rest : List ℤ) (i : ℕ) → Every Ok xs → getD (each f xs ++ rest) (k * length xs + i) (pos 0) ≡ getD rest i (pos 0)
-  each-past xs rest i h = rw (← each-length xs h, getD-append-add (each f xs) rest i (pos 0))
-
-op-wide : (o : Op) → length (op-words o) ≡ 6
-op-wide (assign v a) = refl
-op-wide (add v a b) = refl
-op-wide (sub v a b) = refl
-op-wide (input v p q) = refl
-op-wide (assume v r a) = refl
-op-wide skip = refl
-
-name-short : (bs : List ℕ) → T (name-ok bs) → length bs ≤ 16
-name-short bs t = leb→le (length bs) 16 (search (and-left, and-right))
-
-loc-wide : (l : Loc) → T (name-ok (l .name)) → length (loc-words l) ≡ 17
-loc-wide l t = ap suc (padded-length 16 (map pos (l .name)) (omega (arith, length-map (l .name) pos, name-short (l .name) t)))
-
-edge-wide : (g : Edge) → Unit {0} → length (edge-words g) ≡ 8
-edge-wide g t = ap (λ (n : ℕ). suc (suc n)) (op-wide (g .op))
-
-every-any : {A : Type 0} (xs : List A) → Every (λ x. Unit {0}) xs
-every-any [] = tt
-every-any (x ∷ xs) = (tt, every-any xs)
+  each-past xs rest i h = rw (← each-length f k Ok wide xs h, getD-append-add (each f xs) rest i (pos 0))
 
 in-range-at : (vars : List Var) (k : ℕ) (v : Var) (z : ℤ) → At vars k v → in-range vars k z ≡ within (v .lo) (v .hi) z
 in-range-at [] k v z a = absurd a
