@@ -322,7 +322,7 @@ fn iteration(
     )
 }
 
-fn has_verdict(verdict: Verdict) -> bool
+pub fn has_verdict(verdict: Verdict) -> bool
     ensures { λ r. ⌜ r ≡ has-verdict verdict ⌝ }
 {
     match verdict {

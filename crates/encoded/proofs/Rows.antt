@@ -11,7 +11,7 @@ use lib.ListN.{length, drop, length-drop, length-append}
 use lib.Seq.{drop-drop}
 use Rattle.semantics.specs.Lists.{all, each}
 use Rattle.semantics.specs.Chart.{eqZ}
-use Rattle.semantics.specs.Encoding.{var-in, loc-in, edge-in, several, past, count, decode, begins-with}
+use Rattle.semantics.specs.Encoding.{several, past, begins-with}
 use Rattle.semantics.proofs.Values.{and-left, and-right}
 use Rattle.semantics.proofs.Stored.{both-true}
 use Rattle.encoded.specs.Encoded.{rows}
@@ -55,10 +55,6 @@ module _ {A : Type 0} (g : List ℤ → A) (k : ℕ) where
   all-rows p zero ws = refl
   all-rows p (suc n) ws = ap (λ (b : Bool). p (g ws) && b) (all-rows p n (drop k ws))
 
-  several-length : (n : ℕ) (ws : List ℤ) → length (several g k n ws) ≡ n
-  several-length zero ws = refl
-  several-length (suc n) ws = ap suc (several-length n (drop k ws))
-
   module _ (f : A → List ℤ) (wide : (ws : List ℤ) → length (f (g ws)) ≡ k) where
     pub begins-rows : (n : ℕ) (more ws : List ℤ) → begins-with (each f (several g k n ws) ++ more) ws ≡ all (λ r. begins-with (f (g r)) r) (rows k n ws) && begins-with more (past k n ws)
     begins-rows zero more ws = refl
@@ -73,17 +69,3 @@ module _ {A : Type 0} (g : List ℤ → A) (k : ℕ) where
     pub each-length : (n : ℕ) (ws : List ℤ) → length (each f (several g k n ws)) ≡ k * n
     each-length zero ws = sym (mul-zero k)
     each-length (suc n) ws = simp (length-append, wide, mul-suc) (omega (arith, each-length n (drop k ws)))
-
--- the counts of the chart that the words decode to
-module _ (ws : List ℤ) where
-  pub vars-counted : length (decode ws .vars) ≡ count ws 0
-  unfolding decode
-  vars-counted = several-length var-in 3 (count ws 0) (drop 3 ws)
-
-  pub locations-counted : length (decode ws .locs) ≡ count ws 1
-  unfolding decode
-  locations-counted = several-length loc-in 17 (count ws 1) (past 3 (count ws 0) (drop 3 ws))
-
-  pub edges-counted : length (decode ws .edges) ≡ count ws 2
-  unfolding decode
-  edges-counted = several-length edge-in 8 (count ws 2) (past 17 (count ws 1) (past 3 (count ws 0) (drop 3 ws)))

@@ -19,7 +19,8 @@ use Rattle.semantics.proofs.Stored.{to-false, both-true, padded-length}
 use Rattle.semantics.proofs.Encoded.{op-wide}
 use Rattle.encoded.specs.Encoded.{rows, counts-fine, locations-at, edges-at, location-fine, ranged, edge-fine, rows-fine}
 use Rattle.encoded.proofs.Facts.{and-true}
-use Rattle.encoded.proofs.Rows.{iff, all-and, past-drop, rows-same, all-rows, begins-rows, each-length, vars-counted, locations-counted, edges-counted}
+use Rattle.semantics.proofs.Decoded.{vars-count, locs-count, edges-count}
+use Rattle.encoded.proofs.Rows.{iff, all-and, past-drop, rows-same, all-rows, begins-rows, each-length}
 use Rattle.encoded.proofs.RowTests.{said, var-row, name-few, location-row, edge-row}
 
 loc-wide : (ws : List ℤ) → length (loc-words (loc-in ws)) ≡ 17
@@ -110,9 +111,9 @@ module _ (ws : List ℤ) where
       let vs = each var-words (several var-in 3 (count ws 0) v-rows) in
       let ls = each loc-words (several loc-in 17 (count ws 1) l-rows) in
       let es = each edge-words (several edge-in 8 (count ws 2) e-rows) in
-      let nv = vars-counted ws in
-      let nl = locations-counted ws in
-      let ne = edges-counted ws in
+      let nv = vars-count ws in
+      let nl = locs-count ws in
+      let ne = edges-count ws in
       (λ i. begins-with (pos (nv i) ∷ pos (nl i) ∷ pos (ne i) ∷ (vs ++ (ls ++ es))) ws)
       ∙ begins-three ws h (pos (count ws 0)) (pos (count ws 1)) (pos (count ws 2)) (vs ++ (ls ++ es))
       ∙ ap (λ (b : Bool). eqZ (pos (count ws 0)) (getD ws 0 (pos 0)) && (eqZ (pos (count ws 1)) (getD ws 1 (pos 0)) && (eqZ (pos (count ws 2)) (getD ws 2 (pos 0)) && b)))
@@ -134,9 +135,9 @@ module _ (ws : List ℤ) where
       let c = decode ws in
       rw (
         exactly h,
-        vars-counted ws,
-        locations-counted ws,
-        edges-counted ws,
+        vars-count ws,
+        locs-count ws,
+        edges-count ws,
         said (getD ws 0 (pos 0)),
         said (getD ws 1 (pos 0)),
         said (getD ws 2 (pos 0)),
@@ -177,11 +178,11 @@ module _ (ws : List ℤ) (room : edges-at ws + 8 * count ws 2 ≤ length ws) whe
   unfolding decode
   edges-are =
       let c = decode ws in
-      let row = edge-row c (v-rows ws) (λ k z h. range-words (count ws 0) k (v-rows ws) z (rw (vars-counted ws) at h)) in
+      let row = edge-row c (v-rows ws) (λ k z h. range-words (count ws 0) k (v-rows ws) z (rw (vars-count ws) at h)) in
       rw (all-rows edge-in 8 (edge-ok c) (count ws 2) (e-rows ws))
       (all-and (λ r. begins-with (edge-words (edge-in r)) r) (λ r. edge-ok c (edge-in r)) (rows 8 (count ws 2) (e-rows ws))
       ∙ rows-same (λ r. begins-with (edge-words (edge-in r)) r && edge-ok c (edge-in r)) (edge-fine (v-rows ws) (length (c .vars)) (length (c .locs))) 8 row (count ws 2) (e-rows ws) (rw e-at (simp length-drop (omega arith)))
-      ∙ rw (vars-counted ws, locations-counted ws))
+      ∙ rw (vars-count ws, locs-count ws))
 
   pub by-rows : counts-fine ws ≡ true → well-formed ws ≡ rows-fine ws
   unfolding rows-fine decode

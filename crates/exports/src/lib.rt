@@ -266,7 +266,7 @@ pub extern "C" fn tarknotter_run(
 {
     answered(
         record,
-        walker::run(chart, budget, analysis_in(record), table, list),
+        walker::run_by_value(chart, budget, analysis_in(record), table, list),
     )
 }
 

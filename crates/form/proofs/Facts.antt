@@ -1,45 +1,25 @@
--- Facts behind the form check: the loops' turns, parts of lists, the chart's counts, and the two parts of rule 21. Assumes nothing.
+-- Facts behind the form check: the loops' turns, parts of lists, the two parts of rule 21, and what 14 asks. Assumes nothing.
 use mathlib.Core.Path.{_≡_, refl, ap, sym, subst, _∙_}
 use mathlib.Core.Bool.{Bool, true, false, _&&_, _||_, not}
 use mathlib.Core.List.{List, [], _∷_, _++_}
-use Prim.Native.Nat.{ℕ, zero, suc, _+_, _-_, _<_}
+use Prim.Native.Nat.{ℕ, zero, suc, _+_, _-_, _*_, _<_, _≤_}
 use native.Mathlib.Nat.{add-zero, sub-zero, zero-sub, suc-sub-suc}
 use native.Mathlib.Numerals.{add-one}
 use native.Mathlib.Omega.{arith}
 use lib.Dec.{T, ltb}
-use borrow.Author.Tests.{ltb-true}
+use borrow.Author.Tests.{ltb-true, ltb-false}
 use lib.IntN.{ℤ, pos, negsuc, natAbs}
 use lib.ListN.{length, getD, take, drop, length-drop}
 use lib.Seq.{drop-cons, drop-drop, drop-nil, take-nil, take-all, getD-drop}
 use lib.Signed.{ltZ}
 use Rattle.semantics.specs.Lists.{some-of, all, all-pairs, all-of}
-use Rattle.semantics.specs.Chart.{eqZ, within}
+use Rattle.semantics.specs.Chart.{Chart, eqZ, within}
 use Rattle.semantics.specs.Encoding.{several, var-in, count, decode}
 use Rattle.semantics.specs.declared.Analysis.{Analysis}
 use Rattle.semantics.specs.Memory.{value-ok, below, width, row-ok, rows-ok, each-once, analysis-ok}
+use Rattle.semantics.specs.Outcomes.{short}
+use Rattle.semantics.proofs.Decoded.{vars-count, locs-count, edges-count}
 use Rattle.form.specs.Form.{lent, lent-tests, record-tests}
-
--- ---- the chart's counts
-
-several-length : {A : Type 0} (f : List ℤ → A) (k n : ℕ) (ws : List ℤ) → length (several f k n ws) ≡ n
-several-length f k zero ws = refl
-several-length f k (suc n) ws = ap suc (several-length f k n (drop k ws))
-
-module _ (ws : List ℤ) where
-  pub vars-count : length (decode ws .vars) ≡ count ws 0
-  unfolding decode
-  vars-count = several-length var-in 3 _ _
-
-  pub locs-count : length (decode ws .locs) ≡ count ws 1
-  unfolding decode
-  locs-count = several-length _ 17 _ _
-
-  pub edges-count : length (decode ws .edges) ≡ count ws 2
-  unfolding decode
-  edges-count = several-length _ 8 _ _
-
-  pub width-is : suc (count ws 0) ≡ width (decode ws)
-  width-is = sym (ap suc vars-count)
 
 -- ---- a word and a bound
 
@@ -156,3 +136,13 @@ record-grouped i n p q {e′ = e′} {m′ = m′} {v′ = v′} x y z = (λ j. 
   go true true true true true false v = refl
   go true true true true true true false = refl
   go true true true true true true true = refl
+
+-- what 14 asks
+or-false : (a b : Bool) → (a || b) ≡ false → (a ≡ false) × (b ≡ false)
+or-false true b e = absurd (subst T e tt)
+or-false false b e = (refl, e)
+
+pub enough : (c : Chart) (r t l : ℕ) → short c r t l ≡ false → (r * width c ≤ t) × (r ≤ l)
+enough c r t l e =
+    let h = or-false (ltb t (r * width c)) (ltb l r) e in
+    (ltb-false t (r * width c) (h .0), ltb-false l r (h .1))

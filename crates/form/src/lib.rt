@@ -14,8 +14,8 @@ ghost use Rattle.semantics.specs.Lists.{some-of, all, all-pairs, all-of};
 ghost use Rattle.semantics.specs.Chart.{eqZ, within};
 ghost use Rattle.semantics.specs.Coverage.{allowed};
 ghost use Rattle.semantics.specs.Encoding.{several, var-in, decode};
-ghost use Rattle.semantics.specs.Memory.{width, value-ok, below, row-ok, rows-ok, each-once, is-alarm, empty-if-safe, analysis-ok};
-ghost use Rattle.semantics.specs.Outcomes.{short};
+ghost use Rattle.semantics.specs.Memory.{width, capacity-ok, value-ok, below, row-ok, rows-ok, each-once, is-alarm, empty-if-safe, analysis-ok};
+ghost use Rattle.semantics.specs.Outcomes.{budget-ok, short};
 ghost use Rattle.form.specs.Form.{lent, lent-tests, record-tests};
 
 // ---- the reached table
@@ -240,7 +240,19 @@ fn record_ok(a: Analysis, edges: usize) -> bool
     counts & edge_ok(edge, verdict) & rest & empty_if_safe(verdict, a.waiting)
 }
 
-// ---- the public tests
+// ---- the tests of 11, 13, 14 and 21
+
+pub fn capacity_ok(capacity: i32) -> bool
+    ensures { λ r. ⌜ r ≡ capacity-ok capacity ⌝ }
+{
+    (1 <= capacity) & (capacity <= 256)
+}
+
+pub fn budget_ok(budget: i32) -> bool
+    ensures { λ r. ⌜ r ≡ budget-ok budget ⌝ }
+{
+    (0 <= budget) & (budget <= 60000)
+}
 
 // Fewer words are lent than the capacity takes (14).
 pub fn is_short(chart: &[i32], capacity: u32, table: usize, list: usize) -> bool

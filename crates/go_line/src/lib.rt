@@ -10,8 +10,6 @@ ghost use lib.ListN.{length};
 ghost use Rattle.semantics.specs.Lists.{all};
 ghost use Rattle.semantics.specs.Text.{fields};
 ghost use Rattle.semantics.specs.Reading.{none-empty};
-ghost use Rattle.semantics.specs.Memory.{capacity-ok};
-ghost use Rattle.semantics.specs.Outcomes.{budget-ok};
 ghost use Rattle.semantics.specs.Program.{mode-field, order-field};
 ghost use Rattle.text.specs.Fields.{numberSaid};
 ghost use Rattle.go_line.specs.Asked.{modeRes, orderRes, askedRes, line-byte, sized, numbers, from-order, from-stop, from-merge, line-fields, GoRead};
@@ -73,27 +71,15 @@ fn order_field(f: &[u8]) -> OrderRead
     OrderRead::Malformed
 }
 
-fn capacity_ok(capacity: i32) -> bool
-    ensures { λ r. ⌜ r ≡ capacity-ok capacity ⌝ }
-{
-    (1 <= capacity) & (capacity <= 256)
-}
-
-fn budget_ok(budget: i32) -> bool
-    ensures { λ r. ⌜ r ≡ budget-ok budget ⌝ }
-{
-    (0 <= budget) & (budget <= 60000)
-}
-
 // 11, 12, 13, once every field is well formed.
 fn sizes(settings: Settings, capacity: i32, budget: i32) -> Asked
     ensures { λ r. ⌜ askedRes r ≡ sized settings capacity budget ⌝ }
 {
     let merge = settings.merge;
     let stop = settings.stop;
-    let capacity_fits = capacity_ok(capacity);
+    let capacity_fits = form::capacity_ok(capacity);
     let allowed = form::is_allowed(merge, stop);
-    let budget_fits = budget_ok(budget);
+    let budget_fits = form::budget_ok(budget);
     if !capacity_fits {
         return Asked::Refused(11);
     }

@@ -1,6 +1,6 @@
 -- The first refusal that holds: what each test that passed tells, and what a refused call leaves. Assumes nothing.
 use mathlib.Core.Path.{_≡_, refl, sym, ap, subst, _∙_}
-use mathlib.Core.Bool.{Bool, true, false, _||_, not}
+use mathlib.Core.Bool.{Bool, true, false, not}
 use mathlib.Core.List.{List, [], _∷_, _++_}
 use Prim.Native.Nat.{ℕ, zero, suc, _*_, _≤_}
 use native.Mathlib.Omega.{arith}
@@ -11,20 +11,9 @@ use lib.ListN.{length, drop}
 use Rattle.semantics.specs.Chart.{Chart}
 use Rattle.semantics.specs.Encoding.{decode, well-formed}
 use Rattle.semantics.specs.Memory.{Memory, width, analysis-ok}
-use Rattle.semantics.specs.Outcomes.{Outcome, case, refusal, fine, refused-by, settled, short, listing-outcome}
-use Rattle.listing.specs.Refused.{text-of, listing-refusal}
-
-passed : (b : Bool) → not b ≡ false → T b
-passed true e = tt
-passed false e = absurd (subst T e tt)
-
-neither : (a b : Bool) → a || b ≡ false → (a ≡ false) × (b ≡ false)
-neither true b e = absurd (subst T e tt)
-neither false b e = (refl, e)
-
--- enough words are lent
-pub enough : (c : Chart) (r t l : ℕ) → short c r t l ≡ false → (r * width c ≤ t) × (r ≤ l)
-enough c r t l e = let h = neither (ltb t (r * width c)) (ltb l r) e in (ltb-false t (r * width c) (h .0), ltb-false l r (h .1))
+use Rattle.semantics.specs.Outcomes.{Outcome, case, refusal, fine, refused-by, settled, short-of, text-of, listing-cases, listing-outcome}
+use Rattle.semantics.proofs.FirstCase.{passed}
+use Rattle.form.proofs.Facts.{enough}
 
 -- no case holds
 none-of : (a b c d : Bool) → refusal (case 20 a ∷ case 14 b ∷ case 21 c ∷ case 15 d ∷ []) ≡ 0 → (a ≡ false) × (b ≡ false) × (c ≡ false) × (d ≡ false)
@@ -47,19 +36,17 @@ module _ (words : List ℤ) (m : Memory) (n : ℕ) where
   chart = decode words
 
   abbrev lacking : Bool
-  lacking = short chart (m .analysis .capacity) (length (m .table)) (length (m .waitlist))
+  lacking = short-of chart m
 
   abbrev too-long : Bool
   too-long = ltb n (length (text-of chart m))
 
   -- by what the tests say
   pub by-tests : {a b c d : Bool} → well-formed words ≡ a → lacking ≡ b → analysis-ok chart m ≡ c → too-long ≡ d
-      → refusal (case 20 (not a) ∷ case 14 b ∷ case 21 (not c) ∷ case 15 d ∷ []) ≡ listing-refusal words m n
-  unfolding listing-refusal
+      → refusal (case 20 (not a) ∷ case 14 b ∷ case 21 (not c) ∷ case 15 d ∷ []) ≡ refusal (listing-cases words m n)
   by-tests p q r s = sym (λ j. refusal (case 20 (not (p j)) ∷ case 14 (q j) ∷ case 21 (not (r j)) ∷ case 15 (s j) ∷ []))
 
-  pub listing-passed : listing-refusal words m n ≡ 0 → Passed words m n
-  unfolding listing-refusal
+  pub listing-passed : refusal (listing-cases words m n) ≡ 0 → Passed words m n
   listing-passed e =
       let h = none-of (not (well-formed words)) lacking (not (analysis-ok chart m)) too-long e in
       record {
@@ -75,14 +62,14 @@ module _ (words : List ℤ) (m : Memory) (space : List ℕ) where
       let text = text-of (decode words) m in
       record { answer = fine (length text); memory = m; space = text ++ drop (length text) space }
 
-  settles : {r : ℕ} → r ≡ listing-refusal words m (length space) → settled r m space through ≡ listing-outcome words m space
-  unfolding listing-refusal listing-outcome
+  settles : {r : ℕ} → r ≡ refusal (listing-cases words m (length space)) → settled r m space through ≡ listing-outcome words m space
+  unfolding listing-outcome
   settles e = ap (λ (n : ℕ). settled n m space through) e
 
   -- a refused call changes nothing
-  pub listing-refused : (r : ℕ) → r ≡ listing-refusal words m (length space) → (r ≡ 0 → ⊥) → record { answer = refused-by r 0; memory = m; space = space } ≡ listing-outcome words m space
+  pub listing-refused : (r : ℕ) → r ≡ refusal (listing-cases words m (length space)) → (r ≡ 0 → ⊥) → record { answer = refused-by r 0; memory = m; space = space } ≡ listing-outcome words m space
   listing-refused zero e h = absurd (h refl)
   listing-refused (suc r) e h = settles e
 
-  pub listing-through : {r : ℕ} → r ≡ listing-refusal words m (length space) → r ≡ 0 → through ≡ listing-outcome words m space
+  pub listing-through : {r : ℕ} → r ≡ refusal (listing-cases words m (length space)) → r ≡ 0 → through ≡ listing-outcome words m space
   listing-through e z = settles (sym z ∙ e)

@@ -18,11 +18,10 @@ ghost use Rattle.semantics.specs.Text.{decimal};
 ghost use Rattle.semantics.specs.Encoding.{val, decode, well-formed};
 ghost use Rattle.semantics.specs.Memory.{width, state-in, states-in, load, analysis-ok};
 ghost use Rattle.semantics.specs.Listing.{mode-text, order-text, verdict-text, loc-text, val-text, mark, slot-text, slots-text, listing-text};
-ghost use Rattle.semantics.specs.Outcomes.{listing-outcome};
+ghost use Rattle.semantics.specs.Outcomes.{refusal, text-of, listing-cases, listing-outcome};
 ghost use Rattle.form.specs.Form.{lent};
 ghost use Rattle.writing.specs.Writing.{Put, limit};
 ghost use Rattle.listing.specs.Pieces.{tabbed, values-text, words-text, counts-text, header-text};
-ghost use Rattle.listing.specs.Refused.{text-of, listing-refusal};
 
 const TAB: u8 = 9;
 
@@ -243,7 +242,7 @@ fn listing_length(chart: &[i32], table: &[i32], list: &[i32], a: Analysis) -> us
 // 20, 14, 21, 15: the first that refuses a listing into so many bytes, or 0.
 fn listing_refusal(chart: &[i32], a: Analysis, table: &[i32], list: &[i32], space: usize) -> u32
     requires { ⌜ space < limit ⌝ }
-    ensures { λ r. ⌜ r ≡ listing-refusal (now (chart .entry)) (lent (now (table .entry)) (now (list .entry)) a) space ⌝ }
+    ensures { λ r. ⌜ r ≡ refusal (listing-cases (now (chart .entry)) (lent (now (table .entry)) (now (list .entry)) a) space) ⌝ }
 {
     if !encoded::well_formed(chart) {
         return 20;

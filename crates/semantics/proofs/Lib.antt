@@ -16,7 +16,6 @@ pub mod Rendered
 pub mod Accepted
 pub mod Exactness
 pub mod Realisable
-pub mod RowWise
 pub mod Reloaded
 pub mod Listed
 pub mod Program
@@ -26,5 +25,7 @@ pub mod Calls
 pub mod OutputShort
 pub mod MarkedCases
 pub mod Simulate
+pub mod FirstCase
+pub mod Decoded
 pub mod Verdicts
 pub mod Executions

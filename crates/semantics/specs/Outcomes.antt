@@ -103,42 +103,62 @@ read-outcome text ws = held-by (read text) ws
 
 -- ---- "Start: 11, 12, 20, 14"
 
-unfoldable pub start-outcome : List ℤ → Settings → ℤ → Memory → Outcome
-start-outcome words z r m =
-    let c = decode words in
-    settled (refusal (
+-- for so many table and waitlist words
+abbrev pub start-cases : List ℤ → Settings → ℤ → ℕ → ℕ → List Case
+start-cases words z r table list =
     case 11 (not (capacity-ok r))
     ∷ case 12 (not (allowed (z .merge) (z .stop)))
     ∷ case 20 (not (well-formed words))
-    ∷ case 14 (short c (natAbs r) (length (m .table)) (length (m .waitlist)))
+    ∷ case 14 (short (decode words) (natAbs r) table list)
     ∷ []
-    )) m [] (record { answer = fine 0; memory = put-in c (started c z r) m; space = [] })
+
+unfoldable pub start-outcome : List ℤ → Settings → ℤ → Memory → Outcome
+start-outcome words z r m =
+    let c = decode words in
+    settled (refusal (start-cases words z r (length (m .table)) (length (m .waitlist))))
+    m [] (record { answer = fine 0; memory = put-in c (started c z r) m; space = [] })
 
 -- ---- "Run: 13, 20, 14, 21, 22, 23"
 
-unfoldable pub run-outcome : List ℤ → ℤ → Memory → Outcome
-run-outcome words a m =
+-- the words lent are fewer than the record's capacity takes
+abbrev pub short-of : Chart → Memory → Bool
+short-of c m = short c (m .analysis .capacity) (length (m .table)) (length (m .waitlist))
+
+abbrev pub run-cases : List ℤ → ℤ → Memory → List Case
+run-cases words a m =
     let c = decode words in
-    settled (refusal (
     case 13 (not (budget-ok a))
     ∷ case 20 (not (well-formed words))
-    ∷ case 14 (short c (m .analysis .capacity) (length (m .table)) (length (m .waitlist)))
+    ∷ case 14 (short-of c m)
     ∷ case 21 (not (analysis-ok c m))
     ∷ case 22 (has-verdict (m .analysis .verdict))
     ∷ case 23 (eqb (m .analysis .iterations) 60000)
     ∷ []
-    )) m [] (record { answer = fine 0; memory = put-in c (resumed c a (load c m)) m; space = [] })
+
+unfoldable pub run-outcome : List ℤ → ℤ → Memory → Outcome
+run-outcome words a m =
+    let c = decode words in
+    settled (refusal (run-cases words a m))
+    m [] (record { answer = fine 0; memory = put-in c (resumed c a (load c m)) m; space = [] })
 
 -- ---- "Listing: 20, 14, 21, 15"; "bytes past a listing's end ... are untouched"
 
+-- the text of what the memory holds
+abbrev pub text-of : Chart → Memory → List ℕ
+text-of c m = listing-text c (load c m)
+
+-- for so many bytes
+abbrev pub listing-cases : List ℤ → Memory → ℕ → List Case
+listing-cases words m space =
+    let c = decode words in
+    case 20 (not (well-formed words))
+    ∷ case 14 (short-of c m)
+    ∷ case 21 (not (analysis-ok c m))
+    ∷ case 15 (ltb space (length (text-of c m)))
+    ∷ []
+
 unfoldable pub listing-outcome : List ℤ → Memory → List ℕ → Outcome
 listing-outcome words m space =
-    let c = decode words in
-    let text = listing-text c (load c m) in
-    settled (refusal (
-    case 20 (not (well-formed words))
-    ∷ case 14 (short c (m .analysis .capacity) (length (m .table)) (length (m .waitlist)))
-    ∷ case 21 (not (analysis-ok c m))
-    ∷ case 15 (ltb (length space) (length text))
-    ∷ []
-    )) m space (record { answer = fine (length text); memory = m; space = text ++ drop (length text) space })
+    let text = text-of (decode words) m in
+    settled (refusal (listing-cases words m (length space)))
+    m space (record { answer = fine (length text); memory = m; space = text ++ drop (length text) space })

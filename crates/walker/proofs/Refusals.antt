@@ -11,22 +11,10 @@ use Rattle.semantics.specs.declared.Settings.{Settings}
 use Rattle.semantics.specs.Coverage.{allowed}
 use Rattle.semantics.specs.Encoding.{decode, well-formed}
 use Rattle.semantics.specs.Memory.{Memory, capacity-ok, analysis-ok}
-use Rattle.semantics.specs.Outcomes.{Outcome, Case, case, refusal, refused-by, settled, short, budget-ok}
+use Rattle.semantics.specs.Outcomes.{Outcome, Case, case, refusal, refused-by, settled, short, budget-ok, start-cases, run-cases}
+use Rattle.semantics.proofs.FirstCase.{refuses-none, rest, passed}
 use Rattle.walker.specs.declared.Called.{Called}
-use Rattle.walker.specs.Calls.{start-cases, run-cases, Ends}
-
--- a list that refuses nothing: its first case does not hold, and the rest refuses nothing
-refuses-none : (b : Bool) (n : ℕ) (ks : List Case) → refusal (case (suc n) b ∷ ks) ≡ 0 → (b ≡ false) × (refusal ks ≡ 0)
-refuses-none true n ks e = absurd (omega arith)
-refuses-none false n ks e = (refl, e)
-
-abbrev rest : List Case → List Case
-rest [] = []
-rest (k ∷ ks) = ks
-
-passed : (b : Bool) → not b ≡ false → T b
-passed true e = tt
-passed false e = absurd (subst T e tt)
+use Rattle.walker.specs.Calls.{Ends}
 
 pub record StartPasses (ws : List ℤ) (z : Settings) (r : ℤ) (t l : ℕ) : Type 0 where
   pub capacity : T (capacity-ok r)

@@ -1,24 +1,22 @@
 -- What a well-formed chart's counts say of a slot's words and of products with them. Assumes nothing.
-use mathlib.Core.Path.{_≡_, refl, subst}
-use mathlib.Core.Bool.{Bool, true, false, _||_}
+use mathlib.Core.Path.{_≡_, _∙_}
 use mathlib.Core.List.{List}
 use Prim.Native.Nat.{ℕ, suc, _*_, _≤_, _<_}
 use native.Mathlib.Nat.{mul-le-mul}
 use native.Mathlib.Omega.{arith}
-use borrow.Author.Tests.{ltb-false}
-use lib.Dec.{T, leb, ltb, leb→le}
+use lib.Dec.{T, leb, leb→le}
 use lib.IntN.{ℤ, pos, negsuc, natAbs}
 use lib.Signed.{nonNeg}
 use Rattle.semantics.specs.Encoding.{count, decode, well-formed}
-use Rattle.semantics.specs.Chart.{Chart}
 use Rattle.semantics.specs.Memory.{width, capacity-ok}
-use Rattle.semantics.specs.Outcomes.{short, budget-ok}
+use Rattle.semantics.specs.Outcomes.{budget-ok}
 use Rattle.semantics.proofs.Values.{and-left, and-right}
-use Rattle.analysis.proofs.Sizes.{width-count, narrow}
+use Rattle.semantics.proofs.Decoded as decoded
+use Rattle.analysis.proofs.Sizes.{narrow}
 
 module _ (ws : List ℤ) (w : ℕ) (e : w ≡ suc (count ws 0)) where
   pub width-is : w ≡ width (decode ws)
-  width-is = omega (arith, width-count ws)
+  width-is = e ∙ decoded.width-is ws
 
   module _ (ok : T (well-formed ws)) where
     pub thin : w ≤ 9
@@ -40,16 +38,6 @@ pub record Counted (z : ℤ) : Type 0 where
 pub counted : (z : ℤ) → T (capacity-ok z) → Counted z
 counted (pos n) t = record { sign = tt; some = leb→le 1 n (and-left (leb 1 n) (leb n 256) t); few = leb→le n 256 (and-right (leb 1 n) (leb n 256) t) }
 counted (negsuc n) t = absurd t
-
--- what 14 asks
-or-false : (a b : Bool) → (a || b) ≡ false → (a ≡ false) × (b ≡ false)
-or-false true b e = absurd (subst T e tt)
-or-false false b e = (refl, e)
-
-pub enough : (c : Chart) (r t l : ℕ) → short c r t l ≡ false → (r * width c ≤ t) × (r ≤ l)
-enough c r t l e =
-    let h = or-false (ltb t (r * width c)) (ltb l r) e in
-    (ltb-false t (r * width c) (h .0), ltb-false l r (h .1))
 
 -- a budget that 13 lets pass is a number up to 60,000
 pub record Budgeted (z : ℤ) : Type 0 where

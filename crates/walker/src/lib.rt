@@ -1,26 +1,22 @@
 // The public calls. Each judges all that it is given in document 01's order; a refused call has written nothing.
 use semantics::Analysis;
 use semantics::Answer;
-use semantics::Mode;
 use semantics::Settings;
-use semantics::Verdict;
 ghost use mathlib.Core.Path.{_≡_};
-ghost use mathlib.Core.Bool.{_||_, not};
-ghost use mathlib.Core.List.{_∷_, []};
 ghost use Prim.Native.Nat.{ℕ, _*_, _<_, _≤_};
-ghost use lib.Dec.{T, ltb, eqb};
-ghost use lib.IntN.{pos, natAbs};
+ghost use lib.Dec.{T};
+ghost use lib.IntN.{pos};
 ghost use lib.ListN.{length};
 ghost use Rattle.semantics.specs.declared.Analysis.{Analysis};
 ghost use Rattle.semantics.specs.Algorithm.{start};
 ghost use Rattle.semantics.specs.Coverage.{allowed};
 ghost use Rattle.semantics.specs.Encoding.{decode, well-formed};
-ghost use Rattle.semantics.specs.Memory.{width, load, capacity-ok, analysis-ok};
+ghost use Rattle.semantics.specs.Memory.{width, load, analysis-ok};
 ghost use Rattle.form.specs.Form.{lent};
 ghost use Rattle.analysis.specs.Loaded.{domain-of, Loaded};
 ghost use Rattle.transfer.specs.Transfer.{initial-row};
-ghost use Rattle.walker.specs.Calls.{start-cases, run-cases, Begins, Leaves, Ends};
-ghost use Rattle.semantics.specs.Outcomes.{case, refusal, fine, refused-by, short, budget-ok, has-verdict, put-in, started, resumed, start-outcome, run-outcome};
+ghost use Rattle.walker.specs.Calls.{Begins, Leaves, Ends};
+ghost use Rattle.semantics.specs.Outcomes.{refusal, fine, refused-by, put-in, started, resumed, start-cases, start-outcome, run-cases, run-outcome};
 
 // What a call answers, and the record as it leaves it.
 pub struct Called {
@@ -28,33 +24,11 @@ pub struct Called {
     pub analysis: Analysis,
 }
 
-fn capacity_ok(capacity: i32) -> bool
-    ensures { λ r. ⌜ r ≡ capacity-ok capacity ⌝ }
-{
-    (1 <= capacity) & (capacity <= 256)
-}
-
-fn budget_ok(budget: i32) -> bool
-    ensures { λ r. ⌜ r ≡ budget-ok budget ⌝ }
-{
-    (0 <= budget) & (budget <= 60000)
-}
-
-// Fewer words are lent than the capacity takes.
-fn is_short(chart: &[i32], capacity: u32, table: usize, list: usize) -> bool
-    requires { ⌜ T (well-formed (now chart)) ⌝ }
-    ensures { λ r. ⌜ r ≡ short (decode (now (chart .entry))) capacity table list ⌝ }
-{
-    let width = encoded::width(chart);
-    let places = capacity as usize;
-    (table < places * width) | (list < places)
-}
-
 // 11, 12, 20, 14: the first that refuses a start, or 0.
 fn start_refusal(chart: &[i32], settings: Settings, capacity: i32, table: usize, list: usize) -> u32
     ensures { λ r. ⌜ r ≡ refusal (start-cases (now (chart .entry)) settings capacity table list) ⌝ }
 {
-    if !capacity_ok(capacity) {
+    if !form::capacity_ok(capacity) {
         return 11;
     }
     let merge = settings.merge;
@@ -65,41 +39,30 @@ fn start_refusal(chart: &[i32], settings: Settings, capacity: i32, table: usize,
     if !encoded::well_formed(chart) {
         return 20;
     }
-    if is_short(chart, capacity as u32, table, list) {
+    if form::is_short(chart, capacity as u32, table, list) {
         return 14;
     }
     0
-}
-
-fn has_verdict(verdict: Verdict) -> bool
-    ensures { λ r. ⌜ r ≡ has-verdict verdict ⌝ }
-{
-    match verdict {
-        Verdict::Open => false,
-        Verdict::Safe => true,
-        Verdict::Alarm => true,
-        Verdict::Full => true,
-    }
 }
 
 // 13, 20, 14, 21, 22, 23: the first that refuses a run, or 0.
 fn run_refusal(chart: &[i32], budget: i32, a: Analysis, table: &[i32], list: &[i32]) -> u32
     ensures { λ r. ⌜ r ≡ refusal (run-cases (now (chart .entry)) budget (lent (now (table .entry)) (now (list .entry)) a)) ⌝ }
 {
-    if !budget_ok(budget) {
+    if !form::budget_ok(budget) {
         return 13;
     }
     if !encoded::well_formed(chart) {
         return 20;
     }
-    if is_short(chart, a.capacity, table.len(), list.len()) {
+    if form::is_short(chart, a.capacity, table.len(), list.len()) {
         return 14;
     }
     if !form::analysis_ok(chart, table, list, a) {
         return 21;
     }
     let verdict = a.verdict;
-    if has_verdict(verdict) {
+    if analysis::has_verdict(verdict) {
         return 22;
     }
     if a.iterations == 60000 {

@@ -11,7 +11,7 @@ returns c =
     let k = c .before .before .before in
     let i = k .before .before .before in
     let s = i .before in
-    left (rw (toZ-ofZ w32 (s .args .budget) (s .fits .budget), i .analysis-in .ensures) at (k .run .ensures)) (c .answered .ensures)
+    left (rw (toZ-ofZ w32 (s .args .budget) (s .fits .budget), i .analysis-in .ensures) at (k .run-by-value .ensures)) (c .answered .ensures)
 
 pub tarknotter-run-spec : {M : Type 1} → statement M
 tarknotter-run-spec =

@@ -8,7 +8,7 @@ use borrow.Author.Needs.{needs}
 use lib.Dec.{ltb}
 use Rattle.semantics.specs.Encoding.{decode}
 use Rattle.semantics.specs.Memory.{width}
-use Rattle.form.proofs.Facts.{vars-count}
+use Rattle.semantics.proofs.Decoded.{vars-count}
 use Rattle.form.proofs.is_short.Statement.{statement}
 use Rattle.form.proofs.is_short.Tie as tie
 

@@ -14,7 +14,8 @@ use lib.ListN.{length, take, drop}
 use Rattle.semantics.specs.Encoding.{decode}
 use Rattle.semantics.specs.Memory.{width, row-ok, rows-ok}
 use Rattle.words.proofs.Rows.{span, part-length, row-in}
-use Rattle.form.proofs.Facts.{width-is, rows-turn}
+use Rattle.semantics.proofs.Decoded.{width-is}
+use Rattle.form.proofs.Facts.{rows-turn}
 use Rattle.form.proofs.rows_ok.Statement.{statement}
 use Rattle.form.proofs.rows_ok.Tie as tie
 

@@ -12,7 +12,7 @@ use Rattle.semantics.specs.Memory.{Memory}
 use Rattle.semantics.specs.Outcomes.{Outcome, fine}
 use Rattle.form.specs.Form.{lent}
 use Rattle.writing.proofs.Written.{put-fits}
-use Rattle.listing.specs.Refused.{text-of}
+use Rattle.semantics.specs.Outcomes.{text-of}
 use Rattle.listing.proofs.Refusals.{Passed, listing-passed, listing-refused, listing-through}
 use Rattle.listing.proofs.listing.Statement.{statement}
 use Rattle.listing.proofs.listing.Tie as tie

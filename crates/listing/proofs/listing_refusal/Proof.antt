@@ -11,11 +11,11 @@ use lib.IntN.{ℤ}
 use lib.ListN.{length}
 use Rattle.semantics.specs.Encoding.{decode, well-formed}
 use Rattle.semantics.specs.Memory.{Memory, width, analysis-ok}
-use Rattle.semantics.specs.Outcomes.{case, refusal, short}
+use Rattle.semantics.specs.Outcomes.{case, refusal, short, text-of, listing-cases}
 use Rattle.semantics.proofs.ListFacts.{from-true}
 use Rattle.form.specs.Form.{lent}
-use Rattle.listing.specs.Refused.{text-of, listing-refusal}
-use Rattle.listing.proofs.Refusals.{enough, by-tests}
+use Rattle.form.proofs.Facts.{enough}
+use Rattle.listing.proofs.Refusals.{by-tests}
 use Rattle.listing.proofs.listing_refusal.Statement.{statement}
 use Rattle.listing.proofs.listing_refusal.Tie as tie
 
@@ -52,7 +52,7 @@ module _ (c : tie.Else3) where
   in-form = sym (c .before .analysis-ok .ensures) ∙ not-false _ (c .if3 .left)
 
   told : (b : Bool) → ltb (first .args .space) (length (text-of (decode (words first)) (memory first))) ≡ b
-      → refusal (case 20 false ∷ case 14 false ∷ case 21 false ∷ case 15 b ∷ []) ≡ listing-refusal (words first) (memory first) (first .args .space)
+      → refusal (case 20 false ∷ case 14 false ∷ case 21 false ∷ case 15 b ∷ []) ≡ refusal (listing-cases (words first) (memory first) (first .args .space))
   told b e = by-tests (words first) (memory first) (first .args .space) (formed (c .before .before .before .before)) (lacks (c .before .before)) in-form e
 
 returns : tie.Need-returns

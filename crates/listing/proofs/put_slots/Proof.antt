@@ -13,7 +13,7 @@ use Rattle.semantics.specs.Encoding.{count, decode}
 use Rattle.semantics.specs.Memory.{width, state-in, states-in}
 use Rattle.semantics.specs.Listing.{slot-text, slots-text}
 use Rattle.words.proofs.Rows.{span, part-length, row-in}
-use Rattle.form.proofs.Facts.{vars-count}
+use Rattle.semantics.proofs.Decoded.{vars-count}
 use Rattle.writing.specs.Writing.{Put}
 use Rattle.writing.proofs.Written.{put-then, put-same}
 use Rattle.listing.proofs.Facts.{put-start, slots-turn}

@@ -8,11 +8,11 @@ use lib.ListN.{length}
 use mir.Syntax.{w32}
 use mir.ValLaws.{toZ-ofZ}
 use Rattle.semantics.specs.Encoding.{decode}
-use Rattle.semantics.specs.Outcomes.{refusal, run-outcome}
+use Rattle.semantics.specs.Outcomes.{run-cases, refusal, run-outcome}
 use Rattle.form.specs.Form.{lent}
-use Rattle.walker.specs.Calls.{run-cases}
 use Rattle.walker.proofs.Refusals.{RunPasses, run-passes, ends-refused, ends-through}
-use Rattle.walker.proofs.Sized.{budgeted, enough}
+use Rattle.walker.proofs.Sized.{budgeted}
+use Rattle.form.proofs.Facts.{enough}
 use Rattle.walker.proofs.advance.Statement.{statement}
 use Rattle.walker.proofs.advance.Tie as tie
 

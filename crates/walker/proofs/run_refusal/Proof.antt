@@ -10,9 +10,8 @@ use mir.ValLaws.{toZ-ofZ}
 use Rattle.semantics.specs.Encoding.{decode, well-formed}
 use Rattle.semantics.specs.Memory.{analysis-ok}
 use Rattle.semantics.specs.Outcomes.{short, budget-ok, has-verdict}
-use Rattle.semantics.proofs.ListFacts.{from-true}
 use Rattle.form.specs.Form.{lent}
-use Rattle.walker.proofs.Sized.{enough}
+use Rattle.form.proofs.Facts.{enough}
 use Rattle.walker.proofs.run_refusal.Statement.{statement}
 use Rattle.walker.proofs.run_refusal.Tie as tie
 
@@ -50,7 +49,7 @@ returns-2 : tie.Need-returns-2
 returns-2 c = rw (budget-passed (c .before .before), sym (c .before .well-formed .ensures) ∙ not-true (c .before .well-formed .result) (c .if2 .taken)) refl
 
 is-short-requires : tie.Need-is-short-requires
-is-short-requires c κs = from-true (chart-passed c)
+is-short-requires c κs = search needs
 
 returns-3 : tie.Need-returns-3
 returns-3 c = rw (budget-passed (c .before .before .before .before), chart-passed (c .before .before), sym (c .before .is-short .ensures) ∙ c .if3 .taken) refl

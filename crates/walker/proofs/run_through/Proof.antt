@@ -9,7 +9,8 @@ use lib.Seq.{length-take-le}
 use Rattle.semantics.specs.Encoding.{decode}
 use Rattle.semantics.specs.Memory.{width}
 use Rattle.form.specs.Form.{lent}
-use Rattle.analysis.proofs.Sizes.{edges-count, narrow, edges-near}
+use Rattle.semantics.proofs.Decoded.{edges-count}
+use Rattle.analysis.proofs.Sizes.{narrow, edges-near}
 use Rattle.analysis.proofs.Entered.{entered, iterations-few}
 use Rattle.analysis.proofs.Stores.{run-leaves}
 use Rattle.walker.proofs.Sized.{width-is, words-fit}

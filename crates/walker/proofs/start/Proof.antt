@@ -9,11 +9,11 @@ use lib.ListN.{length}
 use mir.Syntax.{w32}
 use mir.ValLaws.{toZ-ofZ}
 use Rattle.semantics.specs.Encoding.{decode}
-use Rattle.semantics.specs.Outcomes.{refusal, start-outcome}
+use Rattle.semantics.specs.Outcomes.{start-cases, refusal, start-outcome}
 use Rattle.form.specs.Form.{lent}
-use Rattle.walker.specs.Calls.{start-cases}
 use Rattle.walker.proofs.Refusals.{StartPasses, start-passes, ends-refused, ends-through}
-use Rattle.walker.proofs.Sized.{counted, enough}
+use Rattle.walker.proofs.Sized.{counted}
+use Rattle.form.proofs.Facts.{enough}
 use Rattle.walker.proofs.start.Statement.{statement}
 use Rattle.walker.proofs.start.Tie as tie
 

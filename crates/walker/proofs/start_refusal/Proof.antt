@@ -53,7 +53,7 @@ cast-is-short c =
     rw (toZ-ofZ w32 (s .args .capacity) (s .fits .capacity)) (k .sign, omega (arith, k .few))
 
 is-short-requires : tie.Need-is-short-requires
-is-short-requires c κs = from-true (chart-passed c)
+is-short-requires c κs = search needs
 
 returns-4 : tie.Need-returns-4
 returns-4 c =
