@@ -4,7 +4,8 @@
 //!
 //! `program::respond` is the whole walk program, `calls` has the calls on lent
 //! words, `random` makes charts, inputs and calls to compare on, and `explorer`
-//! checks the answers against the concrete states of small charts.
+//! checks the answers against the concrete states of small charts; `worked` has
+//! the cases and examples that stand in files.
 
 pub mod analysis;
 pub mod calls;
@@ -20,3 +21,4 @@ pub mod reader;
 pub mod refusal;
 pub mod renderer;
 pub mod text;
+pub mod worked;

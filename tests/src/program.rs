@@ -22,6 +22,12 @@ pub fn respond(input: &[u8]) -> Vec<u8> {
     walk(input).unwrap_or_else(refusal_line)
 }
 
+/// An input without its go line.
+pub fn chart_part(input: &[u8]) -> &[u8] {
+    let go_line = input.split_inclusive(|&byte| byte == text::LINE_FEED).next();
+    &input[go_line.map_or(0, <[u8]>::len)..]
+}
+
 fn walk(input: &[u8]) -> Result<Vec<u8>, Refusal> {
     let (go, file) = read_go_line(input)?;
     let chart = reader::read(file)?;

@@ -1,6 +1,7 @@
 //! Files of known size and answer, for tests at the limits and for the benchmark.
 
 use reference::chart::{MAX_EDGES, MAX_LOCATIONS, MAX_VARIABLES};
+use reference::program::chart_part;
 use reference::reader::MAX_FILE;
 use reference::text::LINE_FEED;
 
@@ -10,12 +11,6 @@ pub const LARGEST: usize = 9_088;
 /// Document 01's case A.
 pub fn case_a() -> &'static [u8] {
     chart_part(include_bytes!("../../cases/dagger-a-sep.in"))
-}
-
-/// A program input without its go line.
-pub fn chart_part(input: &[u8]) -> &[u8] {
-    let go_line = input.split_inclusive(|&byte| byte == LINE_FEED).next();
-    &input[go_line.map_or(0, <[u8]>::len)..]
 }
 
 /// As many lines as there may be, each as long as it may be.
