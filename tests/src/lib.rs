@@ -5,11 +5,13 @@
 //! `program::respond` is the whole walk program, `calls` has the calls on lent
 //! words, `random` makes charts, inputs and calls to compare on, and `explorer`
 //! checks the answers against the concrete states of small charts; `worked` has
-//! the cases and examples that stand in files.
+//! the cases and examples that stand in files, and `coverage` tells whether a test
+//! has met everything.
 
 pub mod analysis;
 pub mod calls;
 pub mod chart;
+pub mod coverage;
 pub mod domain;
 pub mod encoding;
 pub mod explorer;

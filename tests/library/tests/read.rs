@@ -1,10 +1,9 @@
 //! The library's read call against the reference walker's, on files of every sort: the number,
 //! the line, and every lent word.
 
-use std::collections::BTreeMap;
-
 use library::{files, read, well_formed, Reply};
 use reference::calls;
+use reference::coverage::Met;
 use reference::encoding::{encode, MAX_WORDS};
 use reference::program::chart_part;
 use reference::random::{count_at_least, damage, inputs, seed, Random};
@@ -70,17 +69,13 @@ fn random_file(random: &mut Random) -> Vec<u8> {
 #[test]
 fn random_files_are_read_alike() {
     let mut random = Random::new(seed());
-    let mut met: BTreeMap<u32, usize> = BTreeMap::new();
+    let mut met = Met::new();
     for _ in 0..count_at_least(40_000) {
         let file = random_file(&mut random);
         let lent = lent_words(&mut random, &file);
-        *met.entry(compare(&mut random, &file, lent)).or_insert(0) += 1;
+        met.add(compare(&mut random, &file, lent));
     }
-    println!("{met:?}");
-    for number in (0..=10).chain([14]) {
-        let times = met.get(&number).copied().unwrap_or(0);
-        assert!(times >= FEWEST, "{number} is met {times} times only");
-    }
+    met.assert_exactly(&(0..=10).chain([14]).collect::<Vec<u32>>(), FEWEST);
 }
 
 #[test]
