@@ -3,7 +3,8 @@
 use std::collections::BTreeMap;
 use std::fmt::Debug;
 
-use crate::analysis::{Order, Verdict};
+use crate::analysis::{Settings, Verdict};
+use crate::random::permitted_settings;
 
 /// How often each label was met.
 #[derive(Clone, Debug)]
@@ -56,12 +57,19 @@ pub fn program_labels() -> Vec<String> {
     for number in [1, 2, 3, 5, 6, 8, 11, 12, 13] {
         labels.push(format!("refused {number}, line 0"));
     }
-    for settings in ["sep sep", "join sep", "join join"] {
-        for order in Order::ALL {
-            for verdict in Verdict::ALL {
-                labels.push(format!("{settings} {} {}", order.word(), verdict.word()));
-            }
-        }
-    }
+    labels.extend(analysis_labels());
     labels
+}
+
+pub fn analysis_label(settings: Settings, verdict: Verdict) -> String {
+    let Settings { merge, stop, order } = settings;
+    format!("{} {} {} {}", merge.word(), stop.word(), order.word(), verdict.word())
+}
+
+/// Permitted settings with each verdict.
+pub fn analysis_labels() -> Vec<String> {
+    permitted_settings()
+        .iter()
+        .flat_map(|&settings| Verdict::ALL.map(|verdict| analysis_label(settings, verdict)))
+        .collect()
 }

@@ -15,6 +15,7 @@ pub mod coverage;
 pub mod domain;
 pub mod encoding;
 pub mod explorer;
+pub mod form;
 pub mod listing;
 pub mod memory;
 pub mod program;

@@ -39,7 +39,7 @@ fn walk(input: &[u8]) -> Result<Vec<u8>, Refusal> {
 }
 
 /// The go line and the chart file after it; every refusal is on line 0.
-fn read_go_line(input: &[u8]) -> Result<(GoLine, &[u8]), Reason> {
+pub fn read_go_line(input: &[u8]) -> Result<(GoLine, &[u8]), Reason> {
     let head = &input[..input.len().min(MAX_GO_LINE)];
     let end = head.iter().position(|&byte| byte == text::LINE_FEED);
     if end.is_none() && input.len() > MAX_GO_LINE {
