@@ -1,0 +1,17 @@
+-- `exports::tarknotter_listing` meets its contract: the reply is that of what `listing::listing` answers. Assumes nothing.
+use mathlib.Core.Path.{_∙_}
+use borrow.Author.Needs.{needs}
+use Rattle.exports.specs.Replies.{reply-of}
+use Rattle.exports.proofs.tarknotter_listing.Statement.{statement}
+use Rattle.exports.proofs.tarknotter_listing.Tie as tie
+
+returns : tie.Need-returns
+returns c =
+    let k = c .before .before .before in
+    let met = rw (k .before .before .analysis-in .ensures) at (k .listing .ensures) in
+    (c .replied .ensures ∙ (λ j. reply-of (met .0 j)), met .1)
+
+pub tarknotter-listing-spec : {M : Type 1} → statement M
+tarknotter-listing-spec =
+    tie.close
+    (tie.spec (λ c κs. search needs) (λ c κs. search needs) (λ c κs. search needs) (λ c. search needs) returns)
