@@ -28,6 +28,63 @@ pub fn largest() -> Vec<u8> {
     file.into_bytes()
 }
 
+/// A chart for timing whole analyses: a ring of locations that is gone round so many times.
+#[derive(Clone, Copy, Debug)]
+pub struct Ring {
+    pub variables: usize,
+    /// Those that change, the last ones: from 1 to variables, and at most as many as locations.
+    pub changing: usize,
+    pub locations: usize,
+    /// Edges from each location to the next, all with one successor.
+    pub followed: usize,
+    /// Edges from a location besides, which is not arrived at.
+    pub idle: usize,
+    pub laps: usize,
+}
+
+/// With `sep` a slot and an iteration for each location in each lap: the last variable counts the
+/// laps, and each other that changes takes over the value of the one after it. With `join` one slot
+/// for each location, and a lap for each changing variable to become unspecific. The verdict is safe.
+pub fn ring(ring: Ring) -> Vec<u8> {
+    let Ring { variables, changing, locations, followed, idle, laps } = ring;
+    let last = variables - 1;
+    let mut file = String::new();
+    for index in 0..variables {
+        file += &format!("V\tv{index}\t10000\t{}\t10000\n", 9_999 + laps);
+    }
+    for index in 0..locations + idle.min(1) {
+        file += &format!("L\tlocation-{index:07}\to\n");
+    }
+    for from in 0..locations {
+        let to = (from + 1) % locations;
+        for edge in 0..followed {
+            let operation = match locations - 1 - from {
+                0 => format!("add\t${last}\t${last}\t1"),
+                turn if turn < changing => format!("set\t${}\t${}", last - turn, last - turn + 1),
+                _ => idle_operation(from + edge, (from + edge) % variables),
+            };
+            file += &format!("E\t{from}\t{to}\t{operation}\n");
+        }
+    }
+    for edge in 0..idle {
+        let operation = idle_operation(edge, edge % variables);
+        file += &format!("E\t{locations}\t0\t{operation}\n");
+    }
+    file.into_bytes()
+}
+
+/// Of every sort, and none changes anything.
+fn idle_operation(sort: usize, variable: usize) -> String {
+    match sort % 6 {
+        0 => format!("add\t${variable}\t${variable}\t0"),
+        1 => format!("if\t${variable}\tge\t0"),
+        2 => format!("set\t${variable}\t${variable}"),
+        3 => format!("sub\t${variable}\t${variable}\t0"),
+        4 => format!("if\t${variable}\teq\t${variable}"),
+        _ => "skip".to_string(),
+    }
+}
+
 /// The largest file with the last number drawn out to all the bytes that a file may have:
 /// every line is read before it is refused.
 pub fn drawn_out() -> Vec<u8> {
