@@ -53,7 +53,7 @@ pub fn ring(ring: Ring) -> Vec<u8> {
         file += &format!("V\tv{index}\t10000\t{}\t10000\n", 9_999 + laps);
     }
     for index in 0..locations + idle.min(1) {
-        file += &format!("L\tlocation-{index:07}\to\n");
+        file += &format!("L\t{index:02}-on-the-way\to\n");
     }
     for from in 0..locations {
         let to = (from + 1) % locations;

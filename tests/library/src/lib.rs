@@ -46,13 +46,18 @@ pub struct Called {
     pub record: Record,
 }
 
+pub type Read = fn(&[u8], &mut [i32]) -> Reply;
+pub type Start = fn(&[i32], Settings, i32, Record, &mut [i32], &mut [i32]) -> Called;
+pub type Run = fn(&[i32], i32, Record, &mut [i32], &mut [i32]) -> Called;
+pub type Listing = fn(&[i32], Record, &[i32], &[i32], &mut [u8]) -> Reply;
+
 /// The calls of one of the two, to compare and to time them.
 #[derive(Clone, Copy)]
 pub struct Calls {
-    pub read: fn(&[u8], &mut [i32]) -> Reply,
-    pub start: fn(&[i32], Settings, i32, Record, &mut [i32], &mut [i32]) -> Called,
-    pub run: fn(&[i32], i32, Record, &mut [i32], &mut [i32]) -> Called,
-    pub listing: fn(&[i32], Record, &[i32], &[i32], &mut [u8]) -> Reply,
+    pub read: Read,
+    pub start: Start,
+    pub run: Run,
+    pub listing: Listing,
 }
 
 pub const LIBRARY: Calls = Calls { read, start, run, listing };
