@@ -10,6 +10,25 @@
 /* The words that the largest chart takes. */
 #define TARKNOTTER_CHART_WORDS 3163
 
+/* The words that the largest capacity takes: 256 slots of 9 words, and 256 waiting slots. */
+#define TARKNOTTER_TABLE_WORDS 2304
+#define TARKNOTTER_LIST_WORDS 256
+
+/* Bytes that hold the listing of every analysis that a start began. */
+#define TARKNOTTER_LISTING_BYTES 24576
+
+/* Ways to merge and to stop, and the order in which waiting slots are taken. */
+#define TARKNOTTER_SEP 0
+#define TARKNOTTER_JOIN 1
+#define TARKNOTTER_OLD 0
+#define TARKNOTTER_NEW 1
+
+/* Verdicts: unfinished, safe, alarm, out of room. */
+#define TARKNOTTER_OPEN 0
+#define TARKNOTTER_SAFE 1
+#define TARKNOTTER_ALARM 2
+#define TARKNOTTER_ROOM 3
+
 /* 0 and line 0 from a call that goes through, with the length in bytes of a listing; else the
    refusal's number and line. A refused call has written nothing. */
 struct tarknotter_reply {
@@ -18,11 +37,55 @@ struct tarknotter_reply {
     size_t length;
 };
 
+/* What goes with an analysis from call to call, beside the table and the waitlist. It passes by value: keep
+   the one that a call answers, and hand it to the next. */
+struct tarknotter_record {
+    uint32_t merge;
+    uint32_t stop;
+    uint32_t order;
+    uint32_t capacity;
+    uint32_t iterations;
+    size_t used;    /* slots in use */
+    size_t waiting; /* slots in the waitlist */
+    uint32_t verdict;
+    size_t edge; /* the edge that raised the alarm, from 1 on; 0 for none */
+};
+
+/* The reply, and the record as the call leaves it: as it was handed in where the call is refused. */
+struct tarknotter_called {
+    struct tarknotter_reply reply;
+    struct tarknotter_record record;
+};
+
 /* A chart file's bytes into the words of the encoded chart (docs/memory.md). */
 struct tarknotter_reply tarknotter_read(const uint8_t *text, size_t text_length,
                                         int32_t *words, size_t words_length);
 
 /* Whether the words begin with the encoding of a chart that reading can produce. */
 bool tarknotter_well_formed(const int32_t *words, size_t words_length);
+
+/* Begins an analysis: the initial state in slot 0, waiting. The record may be any, all 0 before the first start. A
+   capacity of r takes r * (variables + 1) table words and r list words. A merge, stop or order other than those
+   above is refused with 6, before all else; then 11, 12, 20, 14. */
+struct tarknotter_called tarknotter_start(const int32_t *chart, size_t chart_length,
+                                          uint32_t merge, uint32_t stop, uint32_t order, int32_t capacity,
+                                          struct tarknotter_record record,
+                                          int32_t *table, size_t table_length,
+                                          int32_t *list, size_t list_length);
+
+/* Plays iterations until a verdict, until the budget is spent, or until the analysis has played 60,000. Refused with
+   13, 20, 14, 21, 22, 23, in this order; a code in the record other than those above is 21. */
+struct tarknotter_called tarknotter_run(const int32_t *chart, size_t chart_length,
+                                        int32_t budget, struct tarknotter_record record,
+                                        int32_t *table, size_t table_length,
+                                        int32_t *list, size_t list_length);
+
+/* The listing of an analysis into the bytes lent, and its length. Refused with 20, 14, 21, 15, in this order; a code in
+   the record other than those above is 21. */
+struct tarknotter_reply tarknotter_listing(const int32_t *chart, size_t chart_length,
+                                           struct tarknotter_record record,
+                                           const int32_t *table, size_t table_length,
+                                           const int32_t *list, size_t list_length,
+                                           uint8_t *space, size_t space_length);
 
 #endif

@@ -1,5 +1,5 @@
 -- `exports::tarknotter_listing` meets its contract: the reply is that of what `listing::listing` answers. Assumes nothing.
-use mathlib.Core.Path.{_∙_}
+use mathlib.Core.Path.{ap, _∙_}
 use borrow.Author.Needs.{needs}
 use Rattle.exports.specs.Replies.{reply-of}
 use Rattle.exports.proofs.tarknotter_listing.Statement.{statement}
@@ -8,8 +8,8 @@ use Rattle.exports.proofs.tarknotter_listing.Tie as tie
 returns : tie.Need-returns
 returns c =
     let k = c .before .before .before in
-    let met = rw (k .before .before .analysis-in .ensures) at (k .listing .ensures) in
-    (c .replied .ensures ∙ (λ j. reply-of (met .0 j)), met .1)
+    let read = k .before .before .analysis-in .ensures in
+    (rw read at (c .replied .ensures ∙ ap reply-of (k .listing .ensures .0)), rw read at (k .listing .ensures .1))
 
 pub tarknotter-listing-spec : {M : Type 1} → statement M
 tarknotter-listing-spec =
