@@ -73,6 +73,15 @@ pub fn ring(ring: Ring) -> Vec<u8> {
     file.into_bytes()
 }
 
+/// One location with an edge for each value of a variable: after one iteration 255 slots wait.
+pub fn fan() -> Vec<u8> {
+    let mut file = String::from("V\tx\t0\t254\t0\nL\thub\to\nL\tleaf\to\n");
+    for value in 0..MAX_EDGES - 1 {
+        file += &format!("E\t0\t1\tset\t$0\t{value}\n");
+    }
+    file.into_bytes()
+}
+
 /// Of every sort, and none changes anything.
 fn idle_operation(sort: usize, variable: usize) -> String {
     match sort % 6 {

@@ -49,6 +49,7 @@ pub struct Subject {
     pub name: String,
     pub file: Vec<u8>,
     pub capacity: usize,
+    pub budget: i32,
     pub calls: &'static [Call],
 }
 
@@ -58,6 +59,7 @@ pub struct Lent {
     file: Vec<u8>,
     chart: Vec<i32>,
     capacity: i32,
+    budget: i32,
     pub record: Record,
     table: Vec<i32>,
     list: Vec<i32>,
@@ -68,7 +70,8 @@ pub struct Lent {
 
 impl Subject {
     fn new(name: &str, file: &[u8], capacity: usize, calls: &'static [Call]) -> Self {
-        Subject { name: name.to_string(), file: file.to_vec(), capacity, calls }
+        let (name, file) = (name.to_string(), file.to_vec());
+        Subject { name, file, capacity, budget: MOST_ITERATIONS, calls }
     }
 
     /// With the chart read and an analysis made, so that each call can be made alone.
@@ -88,6 +91,7 @@ impl Subject {
             file: self.file.clone(),
             chart: vec![0; MAX_WORDS],
             capacity: self.capacity as i32,
+            budget: self.budget,
             record,
             table: vec![0; self.capacity * 9],
             list: vec![0; self.capacity],
@@ -103,9 +107,9 @@ impl Subject {
 
 impl Lent {
     fn walk(&mut self, calls: Calls, settings: Settings) {
-        let Lent { chart, capacity, record, table, list, .. } = self;
+        let Lent { chart, capacity, budget, record, table, list, .. } = self;
         let begun = (calls.start)(black_box(chart), settings, *capacity, *record, table, list);
-        let done = (calls.run)(black_box(chart), MOST_ITERATIONS, begun.record, table, list);
+        let done = (calls.run)(black_box(chart), *budget, begun.record, table, list);
         *record = done.record;
     }
 }
@@ -118,6 +122,11 @@ pub fn charts() -> Vec<Subject> {
         Subject::new("case A", files::case_a(), 16, ALL),
         Subject::new("middle", &files::ring(MIDDLE), 64, ALL),
         Subject::new("largest", &files::ring(LARGEST), 256, ALL),
+        Subject::new("fan", &files::fan(), 256, WITHOUT_JOIN),
+        Subject {
+            budget: 1,
+            ..Subject::new("fan, all waiting", &files::fan(), 256, &[WALK_SEP, LISTING])
+        },
         Subject::new("longest fields", &files::largest(), 256, WITHOUT_JOIN),
         Subject::new("refused on its last line", &files::drawn_out(), 1, &[READ]),
     ]
@@ -136,28 +145,28 @@ pub fn growth() -> Vec<Subject> {
     };
     for laps in 1..=4 {
         let slots = laps * LARGEST.locations;
-        add(format!("{slots} slots, 256 edges"), Ring { laps, ..LARGEST }, &[WALK_SEP]);
+        add(format!("slots {slots}, edges 256"), Ring { laps, ..LARGEST }, &[WALK_SEP]);
     }
     for edges in [64, 128, 192, 256] {
         let ring = Ring { locations: 63, followed: 1, idle: edges - 63, ..LARGEST };
-        add(format!("252 slots, {edges} edges, 1 followed"), ring, &[WALK_SEP]);
+        add(format!("edges {edges}, followed 1, slots 252"), ring, &[WALK_SEP]);
     }
     for followed in 1..=4 {
         let edges = followed * LARGEST.locations;
         let ring = Ring { followed, ..LARGEST };
-        add(format!("256 slots, {edges} edges, {followed} followed"), ring, &[WALK_SEP]);
+        add(format!("edges {edges}, followed {followed}, slots 256"), ring, &[WALK_SEP]);
     }
     for variables in [1, 2, 4, 8] {
         let ring = Ring { variables, followed: 4, ..COSTLIEST };
-        add(format!("256 slots of one location, {variables} variables"), ring, &[WALK_SEP]);
+        add(format!("variables {variables}, slots 256, all of one location"), ring, &[WALK_SEP]);
     }
     for locations in [16, 32, 64] {
         let ring = Ring { locations, ..LARGEST };
-        add(format!("{locations} slots, {} edges", 4 * locations), ring, &[WALK_JOIN]);
+        add(format!("slots {locations}, edges {}", 4 * locations), ring, &[WALK_JOIN]);
     }
     for variables in [1, 2, 4, 8] {
         let ring = Ring { variables, changing: variables, ..LARGEST };
-        add(format!("64 slots, 256 edges, {variables} variables"), ring, &[WALK_JOIN]);
+        add(format!("variables {variables}, slots 64, edges 256"), ring, &[WALK_JOIN]);
     }
     subjects
 }
