@@ -7,10 +7,10 @@ use crate::analysis::{
 use crate::chart::{Chart, EdgeId, SlotId};
 use crate::domain::TOP;
 use crate::encoding::{decode, encode};
+use crate::form::is_readable;
 use crate::listing;
 use crate::reader;
 use crate::refusal::{Reason, Refusal};
-use crate::renderer::render;
 
 /// 0 and line 0 from a call that goes through, else the refusal's number and line.
 #[derive(Clone, Copy, Debug, PartialEq, Eq)]
@@ -103,12 +103,11 @@ pub fn listing(
     (Answer::from(written.map(|_| ())), written.unwrap_or(0))
 }
 
-/// The chart whose encoding begins `words`: 20 unless some file reads to it.
-/// The words are read back through a file, so this accepts what reading can produce.
+/// The chart whose encoding begins `words`: 20 unless some file reads to it. Words that no chart
+/// takes up are seen by encoding it again.
 fn held_chart(words: &[i32]) -> Result<Chart, Reason> {
     decode(words)
-        .and_then(|chart| reader::read(&render(&chart)).ok())
-        .filter(|chart| words.starts_with(&encode(chart)))
+        .filter(|chart| is_readable(chart) && words.starts_with(&encode(chart)))
         .ok_or(Reason::ChartForm)
 }
 

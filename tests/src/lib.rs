@@ -4,14 +4,18 @@
 //!
 //! `program::respond` is the whole walk program, `calls` has the calls on lent
 //! words, `random` makes charts, inputs and calls to compare on, and `explorer`
-//! checks the answers against the concrete states of small charts.
+//! checks the answers against the concrete states of small charts; `worked` has
+//! the cases and examples that stand in files, and `coverage` tells whether a test
+//! has met everything.
 
 pub mod analysis;
 pub mod calls;
 pub mod chart;
+pub mod coverage;
 pub mod domain;
 pub mod encoding;
 pub mod explorer;
+pub mod form;
 pub mod listing;
 pub mod memory;
 pub mod program;
@@ -20,3 +24,4 @@ pub mod reader;
 pub mod refusal;
 pub mod renderer;
 pub mod text;
+pub mod worked;

@@ -22,6 +22,12 @@ pub fn respond(input: &[u8]) -> Vec<u8> {
     walk(input).unwrap_or_else(refusal_line)
 }
 
+/// An input without its go line.
+pub fn chart_part(input: &[u8]) -> &[u8] {
+    let go_line = input.split_inclusive(|&byte| byte == text::LINE_FEED).next();
+    &input[go_line.map_or(0, <[u8]>::len)..]
+}
+
 fn walk(input: &[u8]) -> Result<Vec<u8>, Refusal> {
     let (go, file) = read_go_line(input)?;
     let chart = reader::read(file)?;
@@ -33,7 +39,7 @@ fn walk(input: &[u8]) -> Result<Vec<u8>, Refusal> {
 }
 
 /// The go line and the chart file after it; every refusal is on line 0.
-fn read_go_line(input: &[u8]) -> Result<(GoLine, &[u8]), Reason> {
+pub fn read_go_line(input: &[u8]) -> Result<(GoLine, &[u8]), Reason> {
     let head = &input[..input.len().min(MAX_GO_LINE)];
     let end = head.iter().position(|&byte| byte == text::LINE_FEED);
     if end.is_none() && input.len() > MAX_GO_LINE {

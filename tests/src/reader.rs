@@ -146,10 +146,13 @@ fn read_relation(field: &[u8]) -> Result<Relation, Reason> {
 }
 
 fn read_name(field: &[u8]) -> Result<Name, Reason> {
-    let is_name = (1..=MAX_NAME).contains(&field.len())
-        && field.iter().all(|&byte| byte.is_ascii_alphanumeric() || byte == b'-');
-    check(is_name, Reason::Malformed)?;
+    check(is_name(field), Reason::Malformed)?;
     Name::new(field).ok_or(Reason::Malformed)
+}
+
+pub fn is_name(field: &[u8]) -> bool {
+    (1..=MAX_NAME).contains(&field.len())
+        && field.iter().all(|&byte| byte.is_ascii_alphanumeric() || byte == b'-')
 }
 
 fn read_number(field: &[u8]) -> Result<i32, Reason> {

@@ -1,38 +1,53 @@
-//! The worked cases: each input file fed to the walk program, byte for byte.
+//! The worked cases and the examples: each input fed to the walk program, byte for byte.
 
-use std::fs;
-use std::path::{Path, PathBuf};
-
-use reference::program::respond;
-
-const FEWEST_CASES: usize = 250;
+use reference::explorer::Explorer;
+use reference::program::{chart_part, respond};
+use reference::reader;
+use reference::worked::{cases, examples, Worked};
 
 #[test]
 fn every_case_prints_what_is_expected() {
-    let inputs = case_inputs();
-    assert!(inputs.len() >= FEWEST_CASES, "only {} cases found", inputs.len());
-    let differing: Vec<String> = inputs
+    assert_prints(&cases());
+}
+
+#[test]
+fn every_example_prints_what_is_expected() {
+    assert_prints(&examples());
+}
+
+fn assert_prints(all: &[Worked]) {
+    let differing: Vec<&str> = all
         .iter()
-        .filter(|input| {
-            let expected = fs::read(input.with_extension("out")).expect("each case has an output");
-            respond(&fs::read(input).expect("the input is readable")) != expected
-        })
-        .map(|input| name_of(input))
+        .filter(|worked| respond(&worked.input) != worked.output)
+        .map(|worked| worked.name.as_str())
         .collect();
-    assert!(differing.is_empty(), "{} cases differ: {differing:#?}", differing.len());
+    assert!(differing.is_empty(), "{} differ: {differing:#?}", differing.len());
 }
 
-fn case_inputs() -> Vec<PathBuf> {
-    let directory = Path::new(env!("CARGO_MANIFEST_DIR")).join("cases");
-    let mut inputs: Vec<PathBuf> = fs::read_dir(directory)
-        .expect("the directory of cases is readable")
-        .map(|entry| entry.expect("its entries are readable").path())
-        .filter(|path| path.extension().is_some_and(|extension| extension == "in"))
-        .collect();
-    inputs.sort();
-    inputs
+/// What `examples/README.md` says of each: the verdict, and whether a run does stand at a bad
+/// location, which is found out by going through all concrete states.
+#[test]
+fn every_example_means_what_its_description_says() {
+    const DESCRIBED: [(&str, &str, bool); 8] = [
+        ("feeder-pitch", "safe", false),
+        ("feeder-pitch-open", "open", false),
+        ("head-nozzle", "alarm", true),
+        ("head-nozzle-mended", "safe", false),
+        ("tape-advance", "safe", false),
+        ("tape-advance-sep", "room", false),
+        ("two-lanes", "safe", false),
+        ("two-lanes-join", "alarm", false),
+    ];
+    let described: Vec<(String, String, bool)> = DESCRIBED
+        .map(|(name, verdict, is_wrong)| (name.to_string(), verdict.to_string(), is_wrong))
+        .to_vec();
+    assert_eq!(examples().iter().map(found).collect::<Vec<_>>(), described);
 }
 
-fn name_of(input: &Path) -> String {
-    input.file_stem().unwrap_or_default().to_string_lossy().into_owned()
+fn found(example: &Worked) -> (String, String, bool) {
+    let chart = reader::read(chart_part(&example.input)).expect("an example is accepted");
+    let explorer = Explorer::new(&chart, 200_000).expect("an example has few states");
+    let output = String::from_utf8_lossy(&example.output);
+    let verdict = output.split('\t').nth(4).unwrap_or_default();
+    (example.name.clone(), verdict.to_string(), explorer.reaches_error())
 }

@@ -1,9 +1,8 @@
 //! The generators reach everything there is to compare: every operation and
 //! relation, every refusal number and every verdict.
 
-use std::collections::BTreeMap;
-
 use reference::chart::{Chart, Operand, Operation};
+use reference::coverage::{program_label, program_labels, Met};
 use reference::program::respond;
 use reference::random::{count_at_least, inputs, seed, Random};
 
@@ -11,58 +10,24 @@ const INPUTS: usize = 20_000;
 /// Of each, so that another seed finds it too.
 const FEWEST: usize = 20;
 
-/// Counts by label; a label not in `wanted` or too rare fails.
-fn assert_all_met(met: &BTreeMap<String, usize>, wanted: &[String]) {
-    for (label, times) in met {
-        println!("{label}: {times}");
-    }
-    for label in wanted {
-        let times = met.get(label).copied().unwrap_or(0);
-        assert!(times >= FEWEST, "{label} is met {times} times only");
-    }
-    for label in met.keys() {
-        assert!(wanted.contains(label), "{label} cannot be");
-    }
-}
-
 #[test]
 fn inputs_meet_every_refusal_and_every_verdict() {
     let mut random = Random::new(seed());
-    let mut met = BTreeMap::new();
+    let mut met = Met::new();
     for _ in 0..count_at_least(INPUTS) {
-        let output = respond(&inputs::program_input(&mut random));
-        let header = String::from_utf8_lossy(output.split(|&byte| byte == b'\n').next().unwrap());
-        let fields: Vec<&str> = header.split('\t').collect();
-        let label = match fields[0] {
-            // Whether the go line or a chart line is refused.
-            "refused" if fields[2] == "0" => format!("refused {}, line 0", fields[1]),
-            "refused" => format!("refused {}", fields[1]),
-            _ => format!("{} {} {} {}", fields[1], fields[2], fields[3], fields[4]),
-        };
-        *met.entry(label).or_insert(0) += 1;
+        met.add(program_label(&respond(&inputs::program_input(&mut random))));
     }
-    let mut wanted: Vec<String> = (2..=10).map(|number| format!("refused {number}")).collect();
-    for number in [1, 2, 3, 5, 6, 8, 11, 12, 13] {
-        wanted.push(format!("refused {number}, line 0"));
-    }
-    for settings in ["sep sep", "join sep", "join join"] {
-        for order in ["old", "new"] {
-            for verdict in ["safe", "alarm", "room", "open"] {
-                wanted.push(format!("{settings} {order} {verdict}"));
-            }
-        }
-    }
-    assert_all_met(&met, &wanted);
+    met.assert_exactly(&program_labels(), FEWEST);
 }
 
 #[test]
 fn charts_have_every_operation() {
     let mut random = Random::new(seed() ^ 1);
-    let mut met = BTreeMap::new();
+    let mut met = Met::new();
     for _ in 0..count_at_least(2_000) {
         let chart = inputs::chart(&mut random);
         for label in labels(&chart) {
-            *met.entry(label).or_insert(0) += 1;
+            met.add(label);
         }
     }
     let mut wanted: Vec<String> = Vec::new();
@@ -88,7 +53,7 @@ fn charts_have_every_operation() {
     ] {
         wanted.push(label.to_string());
     }
-    assert_all_met(&met, &wanted);
+    met.assert_exactly(&wanted, FEWEST);
 }
 
 fn labels(chart: &Chart) -> Vec<String> {

@@ -1,17 +1,18 @@
 //! Random lists of calls, matched with what the rules make of the list, and
 //! calls on disturbed words, of which every refusal is met.
 
-use std::collections::BTreeMap;
-
 use reference::analysis::{Analysis, Verdict};
 use reference::calls::{Answer, Record};
 use reference::chart::Chart;
+use reference::coverage::Met;
 use reference::listing::listing;
 use reference::memory::Memory;
 use reference::random::calls::{call, disturb, relend, start, Call};
 use reference::random::{count_at_least, inputs, seed, Random};
 
 const CALLS_PER_CHART: usize = 12;
+/// Of each number, so that another seed finds it too.
+const FEWEST: usize = 20;
 
 /// What the rules make of one call with so much lent; a refused one leaves the analysis alone.
 fn expected(
@@ -80,7 +81,7 @@ fn assert_holds(memory: &Memory, analysis: &Analysis) {
 #[test]
 fn whole_walks() {
     let mut random = Random::new(seed());
-    let mut met = BTreeMap::new();
+    let mut met = Met::new();
     for _ in 0..count_at_least(3_000) {
         let chart = inputs::chart(&mut random);
         let mut memory = Memory::new(&chart, 256 * chart.width(), 256);
@@ -98,7 +99,7 @@ fn whole_walks() {
             let expected = expected(&chart, &mut analysis, call, &lent);
             let (answer, text) = make(&mut lent, call);
             assert_eq!((answer.number, answer.line, text), (expected.0, 0, expected.1), "{call:?}");
-            *met.entry(answer.number).or_insert(0) += 1;
+            met.add(answer.number);
             if answer == Answer::DONE {
                 memory = lent;
             }
@@ -107,17 +108,15 @@ fn whole_walks() {
             }
         }
     }
-    println!("{met:?}");
-    assert!([0, 11, 12, 13, 14, 15, 22].iter().all(|number| met.contains_key(number)));
+    met.assert_exactly(&[0, 11, 12, 13, 14, 15, 22], FEWEST);
 }
 
 /// On words that may be out of form no call panics, a refused one changes
 /// nothing, and one that goes through leaves words in form.
 #[test]
 fn disturbed_words_meet_every_refusal() {
-    const NUMBERS: [u32; 10] = [0, 11, 12, 13, 14, 15, 20, 21, 22, 23];
     let mut random = Random::new(seed() ^ 1);
-    let mut met: BTreeMap<u32, usize> = BTreeMap::new();
+    let mut met = Met::new();
     for _ in 0..count_at_least(3_000) {
         let chart = inputs::chart(&mut random);
         let mut memory = Memory::new(&chart, 256 * chart.width() + 4, 260);
@@ -130,16 +129,11 @@ fn disturbed_words_meet_every_refusal() {
             disturb(&mut random, &mut disturbed);
             let call = call(&mut random);
             let (answer, _) = make(&mut disturbed, call);
-            *met.entry(answer.number).or_insert(0) += 1;
+            met.add(answer.number);
             if answer == Answer::DONE {
                 assert_eq!(disturbed.listing(20_000).0, Answer::DONE, "{call:?}");
             }
         }
     }
-    println!("{met:?}");
-    for number in NUMBERS {
-        let times = met.get(&number).copied().unwrap_or(0);
-        assert!(times >= 20, "{number} is met {times} times only");
-    }
-    assert!(met.keys().all(|number| NUMBERS.contains(number)));
+    met.assert_exactly(&[0, 11, 12, 13, 14, 15, 20, 21, 22, 23], FEWEST);
 }

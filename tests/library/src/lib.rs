@@ -1,6 +1,8 @@
-//! The verified library's calls, safe to call from Rust, and files to read with them.
+//! The verified library's calls, safe to call from Rust, beside the reference walker's under the same
+//! signatures, and files to call them with.
 
 pub mod files;
+pub mod walker;
 
 /// What a call answers: 0 and line 0 with the length of a listing, or the refusal's number and line.
 #[repr(C)]
@@ -11,9 +13,58 @@ pub struct Reply {
     pub length: usize,
 }
 
+/// The codes of a start: merge and stop 0 sep, 1 join; order 0 old, 1 new. Others name nothing.
+#[derive(Clone, Copy, Debug, PartialEq, Eq)]
+pub struct Settings {
+    pub merge: u32,
+    pub stop: u32,
+    pub order: u32,
+}
+
+/// What goes with an analysis from call to call, beside the table and the waitlist: settings by
+/// their codes, and a verdict of 0 open, 1 safe, 2 alarm, 3 room.
+#[repr(C)]
+#[derive(Clone, Copy, Debug, PartialEq, Eq)]
+pub struct Record {
+    pub merge: u32,
+    pub stop: u32,
+    pub order: u32,
+    pub capacity: u32,
+    pub iterations: u32,
+    pub used: usize,
+    pub waiting: usize,
+    pub verdict: u32,
+    /// The edge that raised the alarm, or 0.
+    pub edge: usize,
+}
+
+/// The answer, and the record as the call leaves it.
+#[repr(C)]
+#[derive(Clone, Copy, Debug, PartialEq, Eq)]
+pub struct Called {
+    pub reply: Reply,
+    pub record: Record,
+}
+
+pub type Read = fn(&[u8], &mut [i32]) -> Reply;
+pub type Start = fn(&[i32], Settings, i32, Record, &mut [i32], &mut [i32]) -> Called;
+pub type Run = fn(&[i32], i32, Record, &mut [i32], &mut [i32]) -> Called;
+pub type Listing = fn(&[i32], Record, &[i32], &[i32], &mut [u8]) -> Reply;
+
+/// The calls of one of the two, to compare and to time them.
+#[derive(Clone, Copy)]
+pub struct Calls {
+    pub read: Read,
+    pub start: Start,
+    pub run: Run,
+    pub listing: Listing,
+}
+
+pub const LIBRARY: Calls = Calls { read, start, run, listing };
+
 /// A slice passes as its pointer and its length.
 mod linked {
-    use super::Reply;
+    use super::{Called, Record, Reply};
 
     extern "C" {
         pub fn tarknotter_read(
@@ -23,6 +74,40 @@ mod linked {
             words_length: usize,
         ) -> Reply;
         pub fn tarknotter_well_formed(words: *const i32, length: usize) -> bool;
+        pub fn tarknotter_start(
+            chart: *const i32,
+            chart_length: usize,
+            merge: u32,
+            stop: u32,
+            order: u32,
+            capacity: i32,
+            record: Record,
+            table: *mut i32,
+            table_length: usize,
+            list: *mut i32,
+            list_length: usize,
+        ) -> Called;
+        pub fn tarknotter_run(
+            chart: *const i32,
+            chart_length: usize,
+            budget: i32,
+            record: Record,
+            table: *mut i32,
+            table_length: usize,
+            list: *mut i32,
+            list_length: usize,
+        ) -> Called;
+        pub fn tarknotter_listing(
+            chart: *const i32,
+            chart_length: usize,
+            record: Record,
+            table: *const i32,
+            table_length: usize,
+            list: *const i32,
+            list_length: usize,
+            space: *mut u8,
+            space_length: usize,
+        ) -> Reply;
     }
 }
 
@@ -36,4 +121,78 @@ pub fn read(text: &[u8], words: &mut [i32]) -> Reply {
 pub fn well_formed(words: &[i32]) -> bool {
     // SAFETY: the pointer and the length are those of one slice.
     unsafe { linked::tarknotter_well_formed(words.as_ptr(), words.len()) }
+}
+
+/// Begins an analysis anew.
+pub fn start(
+    chart: &[i32],
+    settings: Settings,
+    capacity: i32,
+    record: Record,
+    table: &mut [i32],
+    list: &mut [i32],
+) -> Called {
+    // SAFETY: each pointer and length are those of one slice, and no two slices overlap.
+    unsafe {
+        linked::tarknotter_start(
+            chart.as_ptr(),
+            chart.len(),
+            settings.merge,
+            settings.stop,
+            settings.order,
+            capacity,
+            record,
+            table.as_mut_ptr(),
+            table.len(),
+            list.as_mut_ptr(),
+            list.len(),
+        )
+    }
+}
+
+/// Iterates until a verdict or the end of the budget.
+pub fn run(
+    chart: &[i32],
+    budget: i32,
+    record: Record,
+    table: &mut [i32],
+    list: &mut [i32],
+) -> Called {
+    // SAFETY: each pointer and length are those of one slice, and no two slices overlap.
+    unsafe {
+        linked::tarknotter_run(
+            chart.as_ptr(),
+            chart.len(),
+            budget,
+            record,
+            table.as_mut_ptr(),
+            table.len(),
+            list.as_mut_ptr(),
+            list.len(),
+        )
+    }
+}
+
+/// Writes the listing to the beginning of `space`.
+pub fn listing(
+    chart: &[i32],
+    record: Record,
+    table: &[i32],
+    list: &[i32],
+    space: &mut [u8],
+) -> Reply {
+    // SAFETY: each pointer and length are those of one slice, and the space overlaps none of them.
+    unsafe {
+        linked::tarknotter_listing(
+            chart.as_ptr(),
+            chart.len(),
+            record,
+            table.as_ptr(),
+            table.len(),
+            list.as_ptr(),
+            list.len(),
+            space.as_mut_ptr(),
+            space.len(),
+        )
+    }
 }

@@ -15,6 +15,13 @@ fn a_c_program_reads_charts() {
     assert_eq!(output(&program, b""), "8\t0\t0\t0\n");
 }
 
+#[test]
+fn a_c_program_walks_case_a() {
+    let program = compiled("walk");
+    let expected = format!("{}6\t22\t15\n", include_str!("../../cases/dagger-a-sep.out"));
+    assert_eq!(output(&program, files::case_a()), expected);
+}
+
 fn compiled(name: &str) -> PathBuf {
     let package = Path::new(env!("CARGO_MANIFEST_DIR"));
     let program = Path::new(env!("CARGO_TARGET_TMPDIR")).join(name);
@@ -41,5 +48,6 @@ fn output(program: &Path, input: &[u8]) -> String {
     stdin.write_all(input).expect("it reads its input");
     drop(stdin);
     let output = running.wait_with_output().expect("it ends");
+    assert!(output.status.success());
     String::from_utf8(output.stdout).expect("it prints text")
 }

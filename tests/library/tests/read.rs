@@ -1,16 +1,15 @@
 //! The library's read call against the reference walker's, on files of every sort: the number,
 //! the line, and every lent word.
 
-use std::collections::BTreeMap;
-use std::fs;
-use std::path::Path;
-
 use library::{files, read, well_formed, Reply};
 use reference::calls;
+use reference::coverage::Met;
 use reference::encoding::{encode, MAX_WORDS};
+use reference::program::chart_part;
 use reference::random::{count_at_least, damage, inputs, seed, Random};
 use reference::reader;
 use reference::renderer::render;
+use reference::worked::{cases, examples};
 
 /// Of each answer, so that another seed finds it too.
 const FEWEST: usize = 20;
@@ -70,40 +69,25 @@ fn random_file(random: &mut Random) -> Vec<u8> {
 #[test]
 fn random_files_are_read_alike() {
     let mut random = Random::new(seed());
-    let mut met: BTreeMap<u32, usize> = BTreeMap::new();
+    let mut met = Met::new();
     for _ in 0..count_at_least(40_000) {
         let file = random_file(&mut random);
         let lent = lent_words(&mut random, &file);
-        *met.entry(compare(&mut random, &file, lent)).or_insert(0) += 1;
+        met.add(compare(&mut random, &file, lent));
     }
-    println!("{met:?}");
-    for number in (0..=10).chain([14]) {
-        let times = met.get(&number).copied().unwrap_or(0);
-        assert!(times >= FEWEST, "{number} is met {times} times only");
-    }
+    met.assert_exactly(&(0..=10).chain([14]).collect::<Vec<u32>>(), FEWEST);
 }
 
 #[test]
-fn every_case_is_read_alike() {
-    const FEWEST_CASES: usize = 250;
+fn every_case_and_example_is_read_alike() {
     let mut random = Random::new(seed() ^ 1);
-    let directory = Path::new(env!("CARGO_MANIFEST_DIR")).join("../cases");
-    let mut cases = 0;
-    for entry in fs::read_dir(directory).expect("the directory of cases is readable") {
-        let path = entry.expect("its entries are readable").path();
-        if path.extension().is_none_or(|extension| extension != "in") {
-            continue;
-        }
-        let input = fs::read(&path).expect("the input is readable");
-        let output = fs::read_to_string(path.with_extension("out")).expect("so is the output");
-        let file = files::chart_part(&input);
+    for worked in cases().into_iter().chain(examples()) {
+        let file = chart_part(&worked.input);
         compare(&mut random, file, MAX_WORDS + 1);
-        if let Some(expected) = printed_reply(&output) {
-            assert_eq!(read(file, &mut vec![0; MAX_WORDS]), expected, "{}", path.display());
+        if let Some(expected) = printed_reply(&String::from_utf8_lossy(&worked.output)) {
+            assert_eq!(read(file, &mut vec![0; MAX_WORDS]), expected, "{}", worked.name);
         }
-        cases += 1;
     }
-    assert!(cases >= FEWEST_CASES, "only {cases} cases found");
 }
 
 /// What the output of a case says of the read call; nothing where the go line may have been refused.

@@ -84,14 +84,17 @@ pub fn go_line_alone(random: &mut Random, line: &mut Vec<u8>) {
     }
 }
 
-/// Past the limit or just up to it, with what the file holds or with other lines.
+/// Past the limit, at times by far, or just up to it, with what the file holds or with other lines.
 fn lengthen(random: &mut Random, file: &mut Vec<u8>) {
     let filler = match random.below(3) {
         0 => file.clone(),
         1 => vec![LINE_FEED],
         _ => b"1".to_vec(),
     };
-    let length = MAX_FILE - 1 + random.below(4);
+    let length = match random.below(8) {
+        0 => MAX_FILE + random.below(8 * MAX_FILE),
+        _ => MAX_FILE - 1 + random.below(4),
+    };
     while file.len() < length && !filler.is_empty() {
         let part = filler.len().min(length - file.len());
         file.extend_from_slice(&filler[..part]);

@@ -1,0 +1,172 @@
+//! What is measured: charts, and the calls made on each.
+
+use std::hint::black_box;
+
+use library::files::{self, Ring};
+use library::{Calls, Record, Settings, LIBRARY};
+use reference::encoding::MAX_WORDS;
+
+const MOST_ITERATIONS: i32 = 60_000;
+const SEP: Settings = Settings { merge: 0, stop: 0, order: 0 };
+const JOIN: Settings = Settings { merge: 1, stop: 1, order: 0 };
+
+const MIDDLE: Ring =
+    Ring { variables: 4, changing: 4, locations: 16, followed: 3, idle: 0, laps: 4 };
+const LARGEST: Ring =
+    Ring { variables: 8, changing: 8, locations: 64, followed: 4, idle: 0, laps: 4 };
+/// One location with every edge, and slots that differ in their last word alone: an iteration does
+/// as much as it can.
+const COSTLIEST: Ring =
+    Ring { variables: 8, changing: 1, locations: 1, followed: 256, idle: 0, laps: 256 };
+
+/// A call, or start and run as one.
+#[derive(Clone, Copy)]
+pub struct Call {
+    pub name: &'static str,
+    pub make: fn(&mut Lent, Calls),
+}
+
+pub const READ: Call = Call {
+    name: "read",
+    make: |lent, calls| {
+        black_box((calls.read)(black_box(&lent.file), &mut lent.chart));
+    },
+};
+pub const WALK_JOIN: Call =
+    Call { name: "start, run join", make: |lent, calls| lent.walk(calls, JOIN) };
+pub const WALK_SEP: Call =
+    Call { name: "start, run sep", make: |lent, calls| lent.walk(calls, SEP) };
+pub const LISTING: Call = Call {
+    name: "listing",
+    make: |lent, calls| {
+        let Lent { chart, record, table, list, space, .. } = lent;
+        lent.length = (calls.listing)(black_box(chart), *record, table, list, space).length;
+    },
+};
+
+/// A chart with the calls to make on it, in this order.
+pub struct Subject {
+    pub name: String,
+    pub file: Vec<u8>,
+    pub capacity: usize,
+    pub budget: i32,
+    pub calls: &'static [Call],
+}
+
+/// All that the calls are lent, reused from call to call.
+#[derive(Clone, PartialEq)]
+pub struct Lent {
+    file: Vec<u8>,
+    chart: Vec<i32>,
+    capacity: i32,
+    budget: i32,
+    pub record: Record,
+    table: Vec<i32>,
+    list: Vec<i32>,
+    space: Vec<u8>,
+    /// Of the last listing.
+    pub length: usize,
+}
+
+impl Subject {
+    fn new(name: &str, file: &[u8], capacity: usize, calls: &'static [Call]) -> Self {
+        let (name, file) = (name.to_string(), file.to_vec());
+        Subject { name, file, capacity, budget: MOST_ITERATIONS, calls }
+    }
+
+    /// With the chart read and an analysis made, so that each call can be made alone.
+    pub fn lent(&self) -> Lent {
+        let record = Record {
+            merge: 0,
+            stop: 0,
+            order: 0,
+            capacity: 0,
+            iterations: 0,
+            used: 0,
+            waiting: 0,
+            verdict: 0,
+            edge: 0,
+        };
+        let mut lent = Lent {
+            file: self.file.clone(),
+            chart: vec![0; MAX_WORDS],
+            capacity: self.capacity as i32,
+            budget: self.budget,
+            record,
+            table: vec![0; self.capacity * 9],
+            list: vec![0; self.capacity],
+            space: vec![0; 21_000],
+            length: 0,
+        };
+        for call in [READ, WALK_SEP, LISTING] {
+            (call.make)(&mut lent, LIBRARY);
+        }
+        lent
+    }
+}
+
+impl Lent {
+    fn walk(&mut self, calls: Calls, settings: Settings) {
+        let Lent { chart, capacity, budget, record, table, list, .. } = self;
+        let begun = (calls.start)(black_box(chart), settings, *capacity, *record, table, list);
+        let done = (calls.run)(black_box(chart), *budget, begun.record, table, list);
+        *record = done.record;
+    }
+}
+
+/// From small to large.
+pub fn charts() -> Vec<Subject> {
+    const ALL: &[Call] = &[READ, WALK_JOIN, WALK_SEP, LISTING];
+    const WITHOUT_JOIN: &[Call] = &[READ, WALK_SEP, LISTING];
+    vec![
+        Subject::new("case A", files::case_a(), 16, ALL),
+        Subject::new("middle", &files::ring(MIDDLE), 64, ALL),
+        Subject::new("largest", &files::ring(LARGEST), 256, ALL),
+        Subject::new("fan", &files::fan(), 256, WITHOUT_JOIN),
+        Subject {
+            budget: 1,
+            ..Subject::new("fan, all waiting", &files::fan(), 256, &[WALK_SEP, LISTING])
+        },
+        Subject::new("longest fields", &files::largest(), 256, WITHOUT_JOIN),
+        Subject::new("refused on its last line", &files::drawn_out(), 1, &[READ]),
+    ]
+}
+
+/// Apart, since it takes so long.
+pub fn costliest() -> Subject {
+    Subject::new("costliest", &files::ring(COSTLIEST), 256, &[WALK_SEP])
+}
+
+/// One bound of a chart after the other.
+pub fn growth() -> Vec<Subject> {
+    let mut subjects = Vec::new();
+    let mut add = |name: String, ring: Ring, calls: &'static [Call]| {
+        subjects.push(Subject::new(&name, &files::ring(ring), 256, calls));
+    };
+    for laps in 1..=4 {
+        let slots = laps * LARGEST.locations;
+        add(format!("slots {slots}, edges 256"), Ring { laps, ..LARGEST }, &[WALK_SEP]);
+    }
+    for edges in [64, 128, 192, 256] {
+        let ring = Ring { locations: 63, followed: 1, idle: edges - 63, ..LARGEST };
+        add(format!("edges {edges}, followed 1, slots 252"), ring, &[WALK_SEP]);
+    }
+    for followed in 1..=4 {
+        let edges = followed * LARGEST.locations;
+        let ring = Ring { followed, ..LARGEST };
+        add(format!("edges {edges}, followed {followed}, slots 256"), ring, &[WALK_SEP]);
+    }
+    for variables in [1, 2, 4, 8] {
+        let ring = Ring { variables, followed: 4, ..COSTLIEST };
+        add(format!("variables {variables}, slots 256, all of one location"), ring, &[WALK_SEP]);
+    }
+    for locations in [16, 32, 64] {
+        let ring = Ring { locations, ..LARGEST };
+        add(format!("slots {locations}, edges {}", 4 * locations), ring, &[WALK_JOIN]);
+    }
+    for variables in [1, 2, 4, 8] {
+        let ring = Ring { variables, changing: variables, ..LARGEST };
+        add(format!("variables {variables}, slots 64, edges 256"), ring, &[WALK_JOIN]);
+    }
+    subjects
+}

@@ -1,0 +1,135 @@
+//! The walk program against the reference walker, byte for byte: the worked cases, the examples,
+//! random inputs, inputs in pieces and inputs of every size.
+
+use std::fs;
+use std::path::Path;
+use std::thread;
+
+use program::{output, output_of_pieces};
+use reference::coverage::{program_label, program_labels, Met};
+use reference::program::respond;
+use reference::random::{count_at_least, inputs, seed, Random};
+use reference::worked::{cases, examples, Worked};
+
+const INPUTS: usize = 3_000;
+/// Of each verdict and refusal, so that another seed finds it too.
+const FEWEST: usize = 5;
+const PIECED_INPUTS: usize = 150;
+
+/// Fails where the program does not print `expected`; the input is then left in a file.
+fn assert_prints(name: &str, printed: &[u8], input: &[u8], expected: &[u8]) {
+    if printed != expected {
+        let kept = Path::new(env!("CARGO_TARGET_TMPDIR")).join(format!("{name}.in"));
+        fs::write(&kept, input).expect("the input can be kept");
+        panic!(
+            "{name}: the program printed\n{}\nand not\n{}\nto {}",
+            printed.escape_ascii(),
+            expected.escape_ascii(),
+            kept.display(),
+        );
+    }
+}
+
+fn assert_prints_each(all: &[Worked]) {
+    for worked in all {
+        assert_prints(&worked.name, &output(&worked.input), &worked.input, &worked.output);
+    }
+}
+
+fn assert_alike(name: &str, input: &[u8]) {
+    assert_prints(name, &output(input), input, &respond(input));
+}
+
+#[test]
+fn every_case_prints_what_is_expected() {
+    assert_prints_each(&cases());
+}
+
+#[test]
+fn every_example_prints_what_is_expected() {
+    assert_prints_each(&examples());
+}
+
+#[test]
+fn random_inputs_print_alike() {
+    let mut random = Random::new(seed());
+    let all: Vec<Vec<u8>> =
+        (0..count_at_least(INPUTS)).map(|_| inputs::program_input(&mut random)).collect();
+    let mut met = Met::new();
+    all.iter().for_each(|input| met.add(program_label(&respond(input))));
+    met.assert_exactly(&program_labels(), FEWEST);
+
+    let threads = thread::available_parallelism().map_or(1, usize::from);
+    thread::scope(|scope| {
+        for (part, inputs) in all.chunks(all.len().div_ceil(threads)).enumerate() {
+            scope.spawn(move || {
+                for (place, input) in inputs.iter().enumerate() {
+                    assert_alike(&format!("random-{part}-{place}"), input);
+                }
+            });
+        }
+    });
+}
+
+/// A pipe may hand over any part of an input at a time; the program must read on to its end.
+#[test]
+fn inputs_in_pieces_print_alike() {
+    let mut random = Random::new(seed() ^ 1);
+    for place in 0..PIECED_INPUTS {
+        let input = inputs::program_input(&mut random);
+        let mut cuts: Vec<usize> =
+            (0..random.below(6)).map(|_| random.below(input.len() + 1)).collect();
+        cuts.extend([0, input.len()]);
+        cuts.sort();
+        let pieces: Vec<&[u8]> = cuts.windows(2).map(|cut| &input[cut[0]..cut[1]]).collect();
+        assert_prints(
+            &format!("pieces-{place}"),
+            &output_of_pieces(&pieces),
+            &input,
+            &respond(&input),
+        );
+    }
+    for example in examples() {
+        let bytes: Vec<&[u8]> = example.input.chunks(1).collect();
+        assert_prints(&example.name, &output_of_pieces(&bytes), &example.input, &example.output);
+    }
+}
+
+/// Around the sizes at which a go line, a chart, a pipe or a page ends, and far beyond.
+#[test]
+fn inputs_of_every_size_print_alike() {
+    const GO_LINE: &[u8] = b"go\tjoin\tjoin\tnew\t256\t60000\n";
+    let chart: &[u8] = b"V\tx\t0\t9\t*\nL\ta\to\nL\tb\te\nE\t0\t1\tif\t$0\teq\t5\n";
+    let around = |size: usize| size - 3..=size + 3;
+    let sizes = (0..=70).chain(around(4_096)).chain(around(32_768)).chain(around(65_536)).chain([
+        100_000,
+        1 << 20,
+        3 << 20,
+    ]);
+    for size in sizes {
+        for (name, filler) in [("lf", b"\n"), ("digit", b"1"), ("tab", b"\t"), ("nul", b"\0")] {
+            let mut input = [GO_LINE, chart].concat();
+            if size > input.len() - GO_LINE.len() {
+                input.resize(GO_LINE.len() + size, filler[0]);
+            } else {
+                input.truncate(size);
+            }
+            assert_alike(&format!("size-{size}-{name}"), &input);
+        }
+    }
+}
+
+/// 256 slots of 8 variables, every field as long as it may be.
+#[test]
+fn the_longest_listing_prints_alike() {
+    let mut input = b"go\tsep\tsep\told\t256\t60000\n".to_vec();
+    for index in 0..8 {
+        input.extend(format!("V\tv{index}\t-32768\t-10000\t-10000\n").bytes());
+    }
+    input.extend(b"L\tsixteen-letters1\to\n");
+    for index in 0..8 {
+        input.extend(format!("E\t0\t0\tsub\t${index}\t${index}\t1\n").bytes());
+    }
+    assert_alike("longest-listing", &input);
+    assert!(respond(&input).len() > 20_000);
+}
