@@ -234,9 +234,8 @@ fn record_ok(a: Analysis, edges: usize) -> bool
     let stop = settings.stop;
     let verdict = a.verdict;
     let edge = a.edge;
-    let capacity = a.capacity;
     let counts = (a.iterations <= 60000) & (edge.0 <= edges);
-    let rest = ((1 <= capacity) & (capacity <= 256)) & is_allowed(merge, stop);
+    let rest = ((1 <= a.capacity) & (a.capacity <= 256)) & is_allowed(merge, stop);
     counts & edge_ok(edge, verdict) & rest & empty_if_safe(verdict, a.waiting)
 }
 
