@@ -16,7 +16,7 @@ empty-if-safe-requires c κs = search needs
 
 returns : tie.Need-returns
 returns c =
-    let s = c .before .before .before .before .before .before .before .args in
+    let s = c .before .before .before .before .before .before .before .before .before .args in
     record-grouped
     (leb (s .a .iterations) 60000)
     (leb (s .a .edge .0) (s .edges))
