@@ -71,7 +71,7 @@ fn start_refusal(chart: &[i32], settings: Settings, capacity: i32, table: usize,
     0
 }
 
-fn has_verdict(verdict: Verdict) -> bool
+pub fn has_verdict(verdict: Verdict) -> bool
     ensures { λ r. ⌜ r ≡ has-verdict verdict ⌝ }
 {
     match verdict {
