@@ -1,0 +1,57 @@
+-- `go_line::counts` meets its contract. Assumes nothing.
+use borrow.Author.Needs.{needs}
+use mathlib.Core.Path.{_≡_, _∙_}
+use mir.Syntax.{w32}
+use mir.Val.{toZ, ofZ}
+use Rattle.semantics.specs.Reading.{andThen}
+use Rattle.text.specs.Fields.{numberSaid}
+use Rattle.go_line.specs.Asked.{askedRes, numbers}
+use Rattle.go_line.proofs.counts.Statement.{statement}
+use Rattle.go_line.proofs.counts.Tie as tie
+
+enum-told : tie.Need-enum-told
+enum-told c = search needs
+
+enum-known-capacity : tie.Need-enum-known-capacity
+enum-known-capacity c = search needs
+
+enum-told-2 : tie.Need-enum-told-2
+enum-told-2 c = search needs
+
+enum-known-budget : tie.Need-enum-known-budget
+enum-known-budget c = search needs
+
+sizes-requires : tie.Need-sizes-requires
+sizes-requires c κs = search needs
+
+returns : tie.Need-returns
+unfolding askedRes numbers numberSaid andThen
+returns c = simp (c .enum-told .given .1)
+
+returns-2 : tie.Need-returns-2
+unfolding askedRes numbers numberSaid andThen
+returns-2 c = simp (c .before .before .before .capacity .given .1, c .enum-told2 .given .1)
+
+returns-3 : tie.Need-returns-3
+unfolding numbers numberSaid andThen
+returns-3 c =
+    let a = c .before .before .before .before .before in
+    let b = c .before .before in
+    let r = a .capacity .given .0 .0 in
+    let z = b .budget .given .0 .0 in
+    let p : toZ w32 (ofZ w32 r) ≡ r = search needs in
+    let q : toZ w32 (ofZ w32 z) ≡ z = search needs in
+    c .sizes .ensures ∙ simp (a .capacity .given .1, b .budget .given .1, p, q)
+
+pub counts-spec : {M : Type 1} → statement M
+counts-spec =
+    tie.close
+    (tie.spec
+    enum-told
+    enum-known-capacity
+    enum-told-2
+    enum-known-budget
+    sizes-requires
+    returns
+    returns-2
+    returns-3)

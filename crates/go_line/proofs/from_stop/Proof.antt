@@ -1,0 +1,52 @@
+-- `go_line::from_stop` meets its contract. Assumes nothing.
+use borrow.Author.Needs.{needs}
+use mathlib.Core.Path.{_≡_, sym, ap, _∙_}
+use denote.Ref.{now}
+use Rattle.semantics.specs.Text.{fields}
+use Rattle.semantics.specs.Reading.{ok, fail, andThen, nth}
+use Rattle.semantics.specs.Program.{mode-field}
+use Rattle.go_line.specs.Asked.{modeRes, askedRes}
+use Rattle.go_line.proofs.from_stop.Statement.{statement}
+use Rattle.go_line.proofs.from_stop.Tie as tie
+
+field-requires : tie.Need-field-requires
+field-requires c κs = search needs
+
+mode-field-requires : tie.Need-mode-field-requires
+mode-field-requires c κs = search needs
+
+enum-told : tie.Need-enum-told
+enum-told c = search needs
+
+enum-known-stop : tie.Need-enum-known-stop
+enum-known-stop c = search needs
+
+from-order-requires : tie.Need-from-order-requires
+from-order-requires c κs = search needs
+
+returns : tie.Need-returns
+unfolding askedRes modeRes andThen
+returns c =
+    let a = c .before .before in
+    let e : mode-field (nth (fields (now (a .before .before .before .args .line))) 2) ≡ fail 6 = ap mode-field (sym (a .before .field .ensures)) ∙ sym (a .mode-field .ensures) ∙ ap modeRes (c .enum-told .given .1) in
+    rw e
+
+returns-2 : tie.Need-returns-2
+unfolding modeRes andThen
+returns-2 c =
+    let a = c .before .before .before .before in
+    let m = c .before .before in
+    let e : mode-field (nth (fields (now (a .before .before .before .args .line))) 2) ≡ ok (m .stop .given .0 .0) = ap mode-field (sym (a .before .field .ensures)) ∙ sym (a .mode-field .ensures) ∙ ap modeRes (m .stop .given .1) in
+    c .from-order .ensures ∙ rw e
+
+pub from-stop-spec : {M : Type 1} → statement M
+from-stop-spec =
+    tie.close
+    (tie.spec
+    field-requires
+    mode-field-requires
+    enum-told
+    enum-known-stop
+    from-order-requires
+    returns
+    returns-2)

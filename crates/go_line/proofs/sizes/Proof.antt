@@ -1,0 +1,77 @@
+-- `go_line::sizes` meets its contract: each test that passed leaves the next. Assumes nothing.
+use borrow.Author.Needs.{needs}
+use mathlib.Core.Path.{_≡_, sym, ap, _∙_}
+use borrow.Author.Tests.{not-true, not-false}
+use mir.Syntax.{w32}
+use mir.ValLaws.{toZ-ofZ}
+use Rattle.semantics.specs.Reading.{check}
+use Rattle.semantics.specs.Coverage.{allowed}
+use Rattle.semantics.specs.Memory.{capacity-ok}
+use Rattle.semantics.specs.Outcomes.{budget-ok}
+use Rattle.go_line.specs.Asked.{askedRes, sized}
+use Rattle.go_line.proofs.sizes.Statement.{statement}
+use Rattle.go_line.proofs.sizes.Tie as tie
+
+-- what the tests say
+capacity-said : (c : tie.After-budget-ok) → capacity-ok (c .before .before .before .args .capacity) ≡ c .before .before .capacity-ok .result
+capacity-said c =
+    let s = c .before .before .before in
+    sym (c .before .before .capacity-ok .ensures ∙ ap capacity-ok (toZ-ofZ w32 (s .args .capacity) (s .fits .capacity)))
+
+settings-said : (c : tie.After-budget-ok) → allowed (c .before .before .before .args .settings .merge) (c .before .before .before .args .settings .stop) ≡ c .before .is-allowed .result
+settings-said c = sym (c .before .is-allowed .ensures)
+
+budget-said : (c : tie.After-budget-ok) → budget-ok (c .before .before .before .args .budget) ≡ c .budget-ok .result
+budget-said c =
+    let s = c .before .before .before in
+    sym (c .budget-ok .ensures ∙ ap budget-ok (toZ-ofZ w32 (s .args .budget) (s .fits .budget)))
+
+capacity-ok-requires : tie.Need-capacity-ok-requires
+capacity-ok-requires c κs = search needs
+
+is-allowed-requires : tie.Need-is-allowed-requires
+is-allowed-requires c κs = search needs
+
+budget-ok-requires : tie.Need-budget-ok-requires
+budget-ok-requires c κs = search needs
+
+returns : tie.Need-returns
+unfolding askedRes sized check
+returns c = rw (capacity-said (c .before) ∙ not-true _ (c .if1 .taken))
+
+returns-2 : tie.Need-returns-2
+unfolding askedRes sized check
+returns-2 c =
+    let t = c .before .before in
+    rw (capacity-said t ∙ not-false _ (c .before .if1 .left), settings-said t ∙ not-true _ (c .if2 .taken))
+
+returns-3 : tie.Need-returns-3
+unfolding askedRes sized check
+returns-3 c =
+    let t = c .before .before .before in
+    rw (capacity-said t ∙ not-false _ (c .before .before .if1 .left), settings-said t ∙ not-false _ (c .before .if2 .left), budget-said t ∙ not-true _ (c .if3 .taken))
+
+returns-4 : tie.Need-returns-4
+unfolding askedRes sized check
+returns-4 c =
+    let t = c .before .before .before in
+    let s = t .before .before .before in
+    rw (
+      capacity-said t ∙ not-false _ (c .before .before .if1 .left),
+      settings-said t ∙ not-false _ (c .before .if2 .left),
+      budget-said t ∙ not-false _ (c .if3 .left),
+      toZ-ofZ w32 (s .args .capacity) (s .fits .capacity),
+      toZ-ofZ w32 (s .args .budget) (s .fits .budget),
+    )
+
+pub sizes-spec : {M : Type 1} → statement M
+sizes-spec =
+    tie.close
+    (tie.spec
+    capacity-ok-requires
+    is-allowed-requires
+    budget-ok-requires
+    returns
+    returns-2
+    returns-3
+    returns-4)
