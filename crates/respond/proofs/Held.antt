@@ -1,6 +1,6 @@
 -- The start, the run and the listing go through, and the memory holds what was explored. Assumes nothing.
-use mathlib.Core.Path.{_≡_, refl, sym, ap, _∙_, subst}
-use mathlib.Core.Bool.{Bool, true, false}
+use mathlib.Core.Path.{_≡_, sym, ap, _∙_}
+use mathlib.Core.Bool.{true, false}
 use mathlib.Core.List.{List}
 use Prim.Native.Nat.{ℕ}
 use lib.Dec.{T}
@@ -12,7 +12,7 @@ use Rattle.semantics.specs.Constants.{AbstractState, initial}
 use Rattle.semantics.specs.Encoding.{decode, well-formed, chart-ok}
 use Rattle.semantics.specs.Memory.{Memory}
 use Rattle.semantics.specs.Listing.{listing-text}
-use Rattle.semantics.specs.Outcomes.{Outcome, has-verdict, started, resumed, put-in, start-outcome, run-outcome, listing-outcome}
+use Rattle.semantics.specs.Outcomes.{Outcome, has-verdict, started, put-in, start-outcome, run-outcome, listing-outcome}
 use Rattle.semantics.specs.Program.{explored}
 use Rattle.semantics.proofs.Stored.{Good}
 use Rattle.semantics.proofs.Encoded.{well-formed-split}
@@ -23,7 +23,7 @@ use Rattle.semantics.proofs.Calls.{start-goes, held-table, held-list, run-goes,
 use Rattle.form.specs.Form.{lent}
 use Rattle.walker.specs.declared.Called.{Called}
 use Rattle.walker.specs.Calls.{Ends}
-use Rattle.respond.specs.declared.Go.{Go}
+use Rattle.go_line.specs.declared.Go.{Go}
 use Rattle.respond.specs.Responded.{asking, Asked, Holds, Printed}
 
 -- what a call leaves, by the outcome that it has

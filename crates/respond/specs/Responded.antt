@@ -14,7 +14,7 @@ use Rattle.semantics.specs.Memory.{Memory}
 use Rattle.semantics.specs.Outcomes.{put-in}
 use Rattle.semantics.specs.Program.{go-line}
 use Rattle.semantics.specs.Program.{Go as Asking}
-use Rattle.respond.specs.declared.Go.{Go}
+use Rattle.go_line.specs.declared.Go.{Go}
 
 abbrev pub asking : Go → Asking
 asking g = record { settings = g .settings; capacity = g .capacity; budget = g .budget }

@@ -1,16 +1,19 @@
 // From input bytes to output bytes: all of the walk program but its reading and writing.
+use go_line::Go;
+use go_line::GoLine;
 use semantics::Analysis;
 use semantics::EdgeId;
 use semantics::Settings;
 use semantics::Verdict;
 ghost use mathlib.Core.Path.{_≡_};
 ghost use lib.Dec.{T};
-ghost use lib.ListN.{length};
+ghost use mathlib.Core.List.{_++_};
+ghost use lib.ListN.{length, drop};
 ghost use Rattle.semantics.specs.Encoding.{decode, well-formed};
 ghost use Rattle.semantics.specs.Listing.{listing-text, refused-text};
 ghost use Rattle.semantics.specs.Reading.{read};
 ghost use Rattle.semantics.specs.Outcomes.{started};
-ghost use Rattle.semantics.specs.Program.{explored, print-read};
+ghost use Rattle.semantics.specs.Program.{explored, print-read, output};
 ghost use Rattle.form.specs.Form.{lent};
 ghost use Rattle.writing.specs.Writing.{Put};
 ghost use Rattle.respond.specs.Responded.{asking, Asked, Lends, Holds, Printed};
@@ -18,13 +21,6 @@ ghost use Rattle.respond.specs.Responded.{asking, Asked, Lends, Holds, P
 const TAB: u8 = 9;
 
 const LF: u8 = 10;
-
-pub struct Go {
-    pub settings: Settings,
-    pub capacity: i32,
-    pub budget: i32,
-    pub chart: usize,
-}
 
 // The line of a refusal.
 fn put_refusal(out: &mut [u8], number: u32, line: usize) -> usize
@@ -98,4 +94,18 @@ fn put_chart(chart: &[u8], go: Go, out: &mut [u8]) -> usize
         return put_refusal(out, answer.number, answer.line);
     }
     put_listing(&words, go, out)
+}
+
+// What the program prints for an input: its bytes at the front of those lent, and how many they are.
+pub fn respond(input: &[u8], out: &mut [u8; 24576]) -> usize
+    ensures { λ r. ⌜ r ≡ length (output (now (input .entry))) ⌝ }
+    ensures { λ _. ⌜ now (out .exit) ≡ output (now (input .entry)) ++ drop (length (output (now (input .entry)))) (now (out .entry)) ⌝ }
+{
+    match go_line::read(input) {
+        GoLine::Refused(n) => put_refusal(out, n, 0),
+        GoLine::Accepted(go) => {
+            let at = go.chart;
+            put_chart(&input[at..], go, out)
+        }
+    }
 }

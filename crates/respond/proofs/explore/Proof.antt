@@ -1,58 +1,23 @@
 -- `respond::explore` meets its contract. Assumes nothing.
 use mathlib.Core.Path.{sym, _∙_}
+use borrow.Author.Needs.{needs, sfits-of}
 use denote.Ref.{now}
 use mir.Syntax.{w32}
 use mir.ValLaws.{toZ-ofZ}
 use Rattle.respond.proofs.Held.{stays, ran}
-use borrow.Author.Needs.{needs, sfits-of}
 use Rattle.respond.proofs.explore.Statement.{statement}
 use Rattle.respond.proofs.explore.Tie as tie
-use Rattle.respond.proofs.explore.Reads as reads
-use Rattle.respond.proofs.explore.Lts as lts
-use Rattle.respond.proofs.begin.Reads as begin-reads
-use Rattle.walker.proofs.has_verdict.Reads as has-verdict-reads
-use Rattle.walker.proofs.run.Reads as run-reads
 
--- src/lib.rt:69:9
-begin-requires : tie.Need-begin-requires
-begin-requires c κs = search needs
-
--- src/lib.rt:71:8
-has-verdict-requires : tie.Need-has-verdict-requires
-has-verdict-requires c κs = search needs
-
--- src/lib.rt:72:9
-same-length : tie.Need-same-length
-same-length c = search needs
-
--- src/lib.rt:72:9
-same-length-2 : tie.Need-same-length-2
-same-length-2 c = search needs
-
--- src/lib.rt:72:9
 returns : tie.Need-returns
-returns c = 
+returns c =
     let s = c .before .before .before .before .before .before .before in
     let k = c .before .before .before .before .begin in
     let a = s .args in
     let v = c .before .has-verdict in
     stays (now (a .chart)) (s .pre .0 .formed) (a .go) (s .pre .1) _ (k .ensures) (sym (v .ensures) ∙ c .if1 .taken)
 
--- src/lib.rt:74:9
-run-requires : tie.Need-run-requires
-run-requires c κs = search needs
-
--- src/lib.rt:65:1
-same-length-3 : tie.Need-same-length-3
-same-length-3 c = search needs
-
--- src/lib.rt:65:1
-same-length-4 : tie.Need-same-length-4
-same-length-4 c = search needs
-
--- src/lib.rt:65:1
 returns-2 : tie.Need-returns-2
-returns-2 c = 
+returns-2 c =
     let s = c .before .before .before .before .before .before .before .before .before .before .before .before .before .before in
     let k = c .before .before .before .before .before .before .before .before .before .before .before .begin in
     let a = s .args in
@@ -64,12 +29,12 @@ pub explore-spec : {M : Type 1} → statement M
 explore-spec =
     tie.close
     (tie.spec
-    begin-requires
-    has-verdict-requires
-    same-length
-    same-length-2
+    (λ c κs. search needs)
+    (λ c κs. search needs)
+    (λ c. search needs)
+    (λ c. search needs)
     returns
-    run-requires
-    same-length-3
-    same-length-4
+    (λ c κs. search needs)
+    (λ c. search needs)
+    (λ c. search needs)
     returns-2)

@@ -1,9 +1,9 @@
 -- `respond::put_refusal` meets its contract. Assumes nothing.
 use borrow.Author.Needs.{needs}
 use Rattle.semantics.specs.Text.{line-of}
-use Rattle.writing.proofs.Written.{put-then}
 use Rattle.respond.proofs.put_refusal.Statement.{statement}
 use Rattle.respond.proofs.put_refusal.Tie as tie
+use Rattle.writing.proofs.Written.{put-then}
 
 returns : tie.Need-returns
 unfolding line-of
