@@ -1,0 +1,113 @@
+// From input bytes to output bytes: all of the walk program but its reading and writing.
+use go_line::Go;
+use go_line::GoLine;
+use semantics::Analysis;
+use semantics::EdgeId;
+use semantics::Settings;
+use semantics::Verdict;
+ghost use mathlib.Core.Path.{_≡_};
+ghost use lib.Dec.{T};
+ghost use mathlib.Core.List.{_++_};
+ghost use lib.ListN.{length, drop};
+ghost use Rattle.semantics.specs.Encoding.{decode, well-formed};
+ghost use Rattle.semantics.specs.Listing.{listing-text, refused-text};
+ghost use Rattle.semantics.specs.Reading.{read};
+ghost use Rattle.semantics.specs.Outcomes.{started};
+ghost use Rattle.semantics.specs.Program.{explored, print-read, output};
+ghost use Rattle.form.specs.Form.{lent};
+ghost use Rattle.writing.specs.Writing.{Put};
+ghost use Rattle.respond.specs.Responded.{no-analysis, asking, Asked, Lends, Holds, Printed};
+
+const TAB: u8 = 9;
+
+const LF: u8 = 10;
+
+// The line of a refusal.
+fn put_refusal(out: &mut [u8], number: u32, line: usize) -> usize
+    ensures { λ r. ⌜ Put 0 (refused-text number line) (now (out .entry)) (now (out .exit)) r ⌝ }
+{
+    let first = writing::put_bytes(out, 0, b"refused\t");
+    let tab = writing::put_decimal(out, first, number as usize);
+    let second = writing::put_byte(out, tab, TAB);
+    let end = writing::put_decimal(out, second, line);
+    writing::put_byte(out, end, LF)
+}
+
+// A start asks for the record before it. There is none, and a start that goes through does not look at it.
+fn no_analysis(settings: Settings) -> Analysis
+    ensures { λ r. ⌜ r ≡ no-analysis settings ⌝ }
+{
+    Analysis {
+        settings,
+        capacity: 0,
+        iterations: 0,
+        used: 0,
+        waiting: 0,
+        verdict: Verdict::Open,
+        edge: EdgeId(0),
+    }
+}
+
+// The start, which goes through.
+fn begin(chart: &[i32], go: Go, table: &mut [i32], list: &mut [i32]) -> Analysis
+    requires { ⌜ Lends (now chart) (now table) (now list) × Asked go ⌝ }
+    ensures { λ r. ⌜ Holds (decode (now (chart .entry))) (started (decode (now (chart .entry))) (go .settings) (go .capacity)) (lent (now (table .exit)) (now (list .exit)) r) ⌝ }
+{
+    let settings = go.settings;
+    let a = no_analysis(settings);
+    let called = walker::start(chart, settings, go.capacity, a, table, list);
+    called.analysis
+}
+
+// The start, and the run unless the start gave a verdict.
+fn explore(chart: &[i32], go: Go, table: &mut [i32], list: &mut [i32]) -> Analysis
+    requires { ⌜ Lends (now chart) (now table) (now list) × Asked go ⌝ }
+    ensures { λ r. ⌜ Holds (decode (now (chart .entry))) (explored (decode (now (chart .entry))) (asking go)) (lent (now (table .exit)) (now (list .exit)) r) ⌝ }
+{
+    let a = begin(chart, go, table, list);
+    let verdict = a.verdict;
+    if analysis::has_verdict(verdict) {
+        return a;
+    }
+    let called = walker::run_by_value(chart, go.budget, a, table, list);
+    called.analysis
+}
+
+// The listing of an accepted chart.
+fn put_listing(chart: &[i32], go: Go, out: &mut [u8]) -> usize
+    requires { ⌜ T (well-formed (now chart)) × (length (now out) ≡ 24576) × Asked go ⌝ }
+    ensures { λ r. ⌜ Printed (listing-text (decode (now (chart .entry))) (explored (decode (now (chart .entry))) (asking go))) (now (out .entry)) (now (out .exit)) r ⌝ }
+{
+    let mut table = [0i32; 2304];
+    let mut list = [0i32; 256];
+    let a = explore(chart, go, &mut table, &mut list);
+    let answer = listing::listing(chart, a, &table, &list, out);
+    answer.length
+}
+
+// The chart's refusal, or its listing.
+fn put_chart(chart: &[u8], go: Go, out: &mut [u8]) -> usize
+    requires { ⌜ (length (now out) ≡ 24576) × Asked go ⌝ }
+    ensures { λ r. ⌜ Printed (print-read (asking go) (read (now (chart .entry)))) (now (out .entry)) (now (out .exit)) r ⌝ }
+{
+    let mut words = [0i32; 3163];
+    let answer = reader::read(chart, &mut words);
+    if answer.number != 0 {
+        return put_refusal(out, answer.number, answer.line);
+    }
+    put_listing(&words, go, out)
+}
+
+// What the program prints for an input: its bytes at the front of those lent, and how many they are.
+pub fn respond(input: &[u8], out: &mut [u8; 24576]) -> usize
+    ensures { λ r. ⌜ r ≡ length (output (now (input .entry))) ⌝ }
+    ensures { λ _. ⌜ now (out .exit) ≡ output (now (input .entry)) ++ drop (length (output (now (input .entry)))) (now (out .entry)) ⌝ }
+{
+    match go_line::read(input) {
+        GoLine::Refused(n) => put_refusal(out, n, 0),
+        GoLine::Accepted(go) => {
+            let at = go.chart;
+            put_chart(&input[at..], go, out)
+        }
+    }
+}
