@@ -6,8 +6,8 @@ use semantics::EdgeId;
 use semantics::Settings;
 use semantics::Verdict;
 ghost use mathlib.Core.Path.{_≡_};
-ghost use lib.Dec.{T};
 ghost use mathlib.Core.List.{_++_};
+ghost use lib.Dec.{T};
 ghost use lib.ListN.{length, drop};
 ghost use Rattle.semantics.specs.Encoding.{decode, well-formed};
 ghost use Rattle.semantics.specs.Listing.{listing-text, refused-text};
@@ -48,7 +48,8 @@ fn no_analysis(settings: Settings) -> Analysis
     }
 }
 
-// The start, which goes through.
+// The start. It goes through: the go line was accepted, and the words lent are enough. So its answer need not be looked at, and so
+// with the run and the listing.
 fn begin(chart: &[i32], go: Go, table: &mut [i32], list: &mut [i32]) -> Analysis
     requires { ⌜ Lends (now chart) (now table) (now list) × Asked go ⌝ }
     ensures { λ r. ⌜ Holds (decode (now (chart .entry))) (started (decode (now (chart .entry))) (go .settings) (go .capacity)) (lent (now (table .exit)) (now (list .exit)) r) ⌝ }
@@ -73,7 +74,7 @@ fn explore(chart: &[i32], go: Go, table: &mut [i32], list: &mut [i32]) -> Analys
     called.analysis
 }
 
-// The listing of an accepted chart.
+// The listing of an accepted chart. The words lent are those of the largest capacity: 256 slots of a location and 8 values.
 fn put_listing(chart: &[i32], go: Go, out: &mut [u8]) -> usize
     requires { ⌜ T (well-formed (now chart)) × (length (now out) ≡ 24576) × Asked go ⌝ }
     ensures { λ r. ⌜ Printed (listing-text (decode (now (chart .entry))) (explored (decode (now (chart .entry))) (asking go))) (now (out .entry)) (now (out .exit)) r ⌝ }
@@ -85,7 +86,7 @@ fn put_listing(chart: &[i32], go: Go, out: &mut [u8]) -> usize
     answer.length
 }
 
-// The chart's refusal, or its listing.
+// The chart's refusal, or its listing. The words lent are those of the largest chart.
 fn put_chart(chart: &[u8], go: Go, out: &mut [u8]) -> usize
     requires { ⌜ (length (now out) ≡ 24576) × Asked go ⌝ }
     ensures { λ r. ⌜ Printed (print-read (asking go) (read (now (chart .entry)))) (now (out .entry)) (now (out .exit)) r ⌝ }
