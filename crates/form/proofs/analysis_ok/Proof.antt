@@ -9,18 +9,6 @@ use Rattle.form.proofs.Facts.{passed, failed, both-parts}
 use Rattle.form.proofs.analysis_ok.Statement.{statement}
 use Rattle.form.proofs.analysis_ok.Tie as tie
 
-cast-capacity : tie.Need-cast-capacity
-cast-capacity c = search needs
-
-lent-ok-requires : tie.Need-lent-ok-requires
-lent-ok-requires c κs = search needs
-
-edge-count-requires : tie.Need-edge-count-requires
-edge-count-requires c κs = search needs
-
-record-ok-requires : tie.Need-record-ok-requires
-record-ok-requires c κs = search needs
-
 returns : tie.Need-returns
 returns c =
     let p = c .before .before .before in
@@ -40,9 +28,9 @@ pub analysis-ok-spec : {M : Type 1} → statement M
 analysis-ok-spec =
     tie.close
     (tie.spec
-    cast-capacity
-    lent-ok-requires
-    edge-count-requires
-    record-ok-requires
+    (λ c. search needs)
+    (λ c κs. search needs)
+    (λ c κs. search needs)
+    (λ c κs. search needs)
     returns
     returns-2)

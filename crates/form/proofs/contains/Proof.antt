@@ -26,12 +26,6 @@ abbrev μ-loop : tie.MeasureT-loop
 loop-holds : tie.Need-loop-holds Inv-loop μ-loop
 loop-holds c = (omega arith, refl)
 
-mul-y : tie.Need-mul-y Inv-loop μ-loop
-mul-y c = omega arith
-
-shared-slice-copy-out-y : tie.Need-shared-slice-copy-out-y Inv-loop μ-loop
-shared-slice-copy-out-y c = omega arith
-
 module _ (c : tie.After-y Inv-loop μ-loop) where
   abbrev list : List ℤ
   list = c .before .before .before .args .list .now
@@ -53,12 +47,6 @@ returns c =
     let p = c .before in
     sym (turn p true (bits-eq w32 {a = x p} {b = getD (list p) (i p) (pos 0)} (p .before .before .before .fits .x) (sfits-of (p .y .given)) (c .if1 .taken)))
 
-add-i : tie.Need-add-i Inv-loop μ-loop
-add-i c = omega arith
-
-loop-less : tie.Need-loop-less Inv-loop μ-loop
-loop-less c = omega arith
-
 loop-again : tie.Need-loop-again Inv-loop μ-loop
 loop-again c =
     let p = c .before in
@@ -79,10 +67,10 @@ contains-spec =
     Inv-loop
     μ-loop
     loop-holds
-    mul-y
-    shared-slice-copy-out-y
+    (λ c. omega arith)
+    (λ c. omega arith)
     returns
-    add-i
-    loop-less
+    (λ c. omega arith)
+    (λ c. omega arith)
     loop-again
     returns-2)

@@ -25,30 +25,6 @@ abbrev μ-loop : tie.MeasureT-loop
 loop-holds : tie.Need-loop-holds Inv-loop μ-loop
 loop-holds c = (omega arith, refl)
 
-mul-x : tie.Need-mul-x Inv-loop μ-loop
-mul-x c = omega arith
-
-shared-slice-copy-out-x : tie.Need-shared-slice-copy-out-x Inv-loop μ-loop
-shared-slice-copy-out-x c = omega arith
-
-add-i : tie.Need-add-i Inv-loop μ-loop
-add-i c = omega arith
-
-mul-contains : tie.Need-mul-contains Inv-loop μ-loop
-mul-contains c = search needs
-
-sub-contains : tie.Need-sub-contains Inv-loop μ-loop
-sub-contains c = search needs
-
-part-contains-start : tie.Need-part-contains-start Inv-loop μ-loop
-part-contains-start c = search needs
-
-part-contains-end : tie.Need-part-contains-end Inv-loop μ-loop
-part-contains-end c = search needs
-
-contains-requires : tie.Need-contains-requires Inv-loop μ-loop
-contains-requires c κs = search needs
-
 module _ (c : tie.After-contains Inv-loop μ-loop) where
   abbrev list : List ℤ
   list = c .before .before .before .before .before .args .list .now
@@ -68,9 +44,6 @@ module _ (c : tie.After-contains Inv-loop μ-loop) where
 returns : tie.Need-returns Inv-loop μ-loop
 returns c = sym (turn (c .before) true (c .if1 .taken))
 
-loop-less : tie.Need-loop-less Inv-loop μ-loop
-loop-less c = omega arith
-
 loop-again : tie.Need-loop-again Inv-loop μ-loop
 loop-again c = (omega arith, turn (c .before) false (c .if1 .left))
 
@@ -86,15 +59,15 @@ each-once-spec =
     Inv-loop
     μ-loop
     loop-holds
-    mul-x
-    shared-slice-copy-out-x
-    add-i
-    mul-contains
-    sub-contains
-    part-contains-start
-    part-contains-end
-    contains-requires
+    (λ c. omega arith)
+    (λ c. omega arith)
+    (λ c. omega arith)
+    (λ c. search needs)
+    (λ c. search needs)
+    (λ c. search needs)
+    (λ c. search needs)
+    (λ c κs. search needs)
     returns
-    loop-less
+    (λ c. omega arith)
     loop-again
     returns-2)

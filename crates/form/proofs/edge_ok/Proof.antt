@@ -3,11 +3,8 @@ use borrow.Author.Needs.{needs}
 use Rattle.form.proofs.edge_ok.Statement.{statement}
 use Rattle.form.proofs.edge_ok.Tie as tie
 
-is-alarm-requires : tie.Need-is-alarm-requires
-is-alarm-requires c κs = search needs
-
 returns : tie.Need-returns
 returns c = rw (c .is-alarm .ensures)
 
 pub edge-ok-spec : {M : Type 1} → statement M
-edge-ok-spec = tie.close (tie.spec is-alarm-requires returns)
+edge-ok-spec = tie.close (tie.spec (λ c κs. search needs) returns)

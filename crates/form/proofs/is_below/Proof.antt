@@ -18,9 +18,6 @@ returns c =
     let t : ltZ (s .args .x) (pos 0) ≡ true = rw (toZ-ofZ w32 (s .args .x) (s .fits .x)) at (c .if1 .taken) in
     sym (below-neg (s .args .n) (s .args .x) t)
 
-magnitude-requires : tie.Need-magnitude-requires
-magnitude-requires c κs = search needs
-
 returns-2 : tie.Need-returns-2
 returns-2 c =
     let s = c .before .before in
@@ -29,4 +26,4 @@ returns-2 c =
     ap (λ (m : ℕ). ltb m (s .args .n)) (c .magnitude .ensures .0 ∙ ap natAbs e) ∙ sym (below-pos (s .args .n) (s .args .x) t)
 
 pub is-below-spec : {M : Type 1} → statement M
-is-below-spec = tie.close (tie.spec returns magnitude-requires returns-2)
+is-below-spec = tie.close (tie.spec returns (λ c κs. search needs) returns-2)

@@ -109,9 +109,6 @@ slice-aggregate-waits-ok c =
     let s = c .before .before .before .before .before in
     sym (length-take-le (waiting s) (list s) (omega arith))
 
-waits-ok-requires : tie.Need-waits-ok-requires
-waits-ok-requires c κs = search needs
-
 returns-4 : tie.Need-returns-4
 returns-4 c =
     let p = c .before in
@@ -123,9 +120,6 @@ after-four c =
     let p = c .before in
     let s = p .before .before .before .before .before .before in
     passed (p .waits-ok .ensures) (not-false (p .waits-ok .result) (c .if4 .left)) (slots s && rest s) ∙ after-three (p .before .before)
-
-width-requires : tie.Need-width-requires
-width-requires c κs = search needs
 
 -- the words of the slots in use, and of the capacity, are in the table
 module _ (c : tie.After-width) where
@@ -162,9 +156,6 @@ part-all-zero-start c = omega (arith, below-room c)
 part-all-zero-end : tie.Need-part-all-zero-end
 part-all-zero-end c = omega (arith, below-room c, room c)
 
-all-zero-requires : tie.Need-all-zero-requires
-all-zero-requires c κs = search needs
-
 slots-tested : (c : tie.After-all-zero) → c .all-zero .result ≡ slots (start (c .before .before))
 slots-tested c =
     let p = c .before .before in
@@ -177,21 +168,6 @@ returns-5 : tie.Need-returns-5
 returns-5 c =
     let p = c .before in
     failed (slots-tested p) (not-true (p .all-zero .result) (c .if5 .taken)) (rest (start (p .before .before))) ∙ after-four (p .before .before .before)
-
-mul-all-zero-2 : tie.Need-mul-all-zero-2
-mul-all-zero-2 c = search needs
-
-sub-all-zero-2 : tie.Need-sub-all-zero-2
-sub-all-zero-2 c = search needs
-
-part-all-zero-start-2 : tie.Need-part-all-zero-start-2
-part-all-zero-start-2 c = search needs
-
-part-all-zero-end-2 : tie.Need-part-all-zero-end-2
-part-all-zero-end-2 c = search needs
-
-all-zero-requires-2 : tie.Need-all-zero-requires-2
-all-zero-requires-2 c κs = search needs
 
 returns-6 : tie.Need-returns-6
 returns-6 c =
@@ -211,20 +187,20 @@ lent-ok-spec =
     rows-ok-requires
     returns-3
     slice-aggregate-waits-ok
-    waits-ok-requires
+    (λ c κs. search needs)
     returns-4
-    width-requires
+    (λ c κs. search needs)
     mul-from
     mul-to
     mul-all-zero
     sub-all-zero
     part-all-zero-start
     part-all-zero-end
-    all-zero-requires
+    (λ c κs. search needs)
     returns-5
-    mul-all-zero-2
-    sub-all-zero-2
-    part-all-zero-start-2
-    part-all-zero-end-2
-    all-zero-requires-2
+    (λ c. search needs)
+    (λ c. search needs)
+    (λ c. search needs)
+    (λ c. search needs)
+    (λ c κs. search needs)
     returns-6)

@@ -5,15 +5,6 @@ use Rattle.form.proofs.Facts.{record-grouped}
 use Rattle.form.proofs.record_ok.Statement.{statement}
 use Rattle.form.proofs.record_ok.Tie as tie
 
-is-allowed-requires : tie.Need-is-allowed-requires
-is-allowed-requires c κs = search needs
-
-edge-ok-requires : tie.Need-edge-ok-requires
-edge-ok-requires c κs = search needs
-
-empty-if-safe-requires : tie.Need-empty-if-safe-requires
-empty-if-safe-requires c κs = search needs
-
 returns : tie.Need-returns
 returns c =
     let s = c .before .before .before .before .before .before .before .before .before .args in
@@ -28,4 +19,4 @@ returns c =
 
 pub record-ok-spec : {M : Type 1} → statement M
 record-ok-spec =
-    tie.close (tie.spec is-allowed-requires edge-ok-requires empty-if-safe-requires returns)
+    tie.close (tie.spec (λ c κs. search needs) (λ c κs. search needs) (λ c κs. search needs) returns)

@@ -14,15 +14,6 @@ use Rattle.form.proofs.Facts.{row-turn, tail}
 use Rattle.form.proofs.row_ok.Statement.{statement}
 use Rattle.form.proofs.row_ok.Tie as tie
 
-shared-slice-copy-out-location : tie.Need-shared-slice-copy-out-location
-shared-slice-copy-out-location c = search needs
-
-location-count-requires : tie.Need-location-count-requires
-location-count-requires c κs = search needs
-
-is-below-requires : tie.Need-is-below-requires
-is-below-requires c κs = search needs
-
 module _ (c : tie.After-is-below) where
   abbrev chart : List ℤ
   chart = c .before .before .before .args .chart .now
@@ -37,18 +28,6 @@ module _ (c : tie.After-is-below) where
   tested =
       let x = toZ-ofZ w32 location (sfits-of {z = location} (c .before .before .location .given)) in
       c .is-below .ensures ∙ (λ j. below (c .before .location-count .ensures .0 j) (x j))
-
-sub-values-ok : tie.Need-sub-values-ok
-sub-values-ok c = search needs
-
-part-values-ok-start : tie.Need-part-values-ok-start
-part-values-ok-start c = search needs
-
-part-values-ok-end : tie.Need-part-values-ok-end
-part-values-ok-end c = search needs
-
-values-ok-requires : tie.Need-values-ok-requires
-values-ok-requires c κs = search needs
 
 returns : tie.Need-returns
 returns c =
@@ -66,12 +45,12 @@ pub row-ok-spec : {M : Type 1} → statement M
 row-ok-spec =
     tie.close
     (tie.spec
-    shared-slice-copy-out-location
-    location-count-requires
-    is-below-requires
-    sub-values-ok
-    part-values-ok-start
-    part-values-ok-end
-    values-ok-requires
+    (λ c. search needs)
+    (λ c κs. search needs)
+    (λ c κs. search needs)
+    (λ c. search needs)
+    (λ c. search needs)
+    (λ c. search needs)
+    (λ c κs. search needs)
     returns
     returns-2)

@@ -26,9 +26,6 @@ Inv-loop chart table used w from₀ s₀ from s =
 abbrev μ-loop : tie.MeasureT-loop
 μ-loop chart table used w from₀ s₀ from s = used - s
 
-width-requires : tie.Need-width-requires Inv-loop μ-loop
-width-requires c κs = search needs
-
 loop-holds : tie.Need-loop-holds Inv-loop μ-loop
 loop-holds c = (omega arith, sym (zero-mul (c .width .result)), rw (sub-zero (c .before .args .used)))
 
@@ -57,12 +54,6 @@ add-to c = omega (arith, room c)
 mul-row-ok : tie.Need-mul-row-ok Inv-loop μ-loop
 mul-row-ok c = omega (arith, room c)
 
-sub-row-ok : tie.Need-sub-row-ok Inv-loop μ-loop
-sub-row-ok c = omega arith
-
-part-row-ok-start : tie.Need-part-row-ok-start Inv-loop μ-loop
-part-row-ok-start c = omega arith
-
 part-row-ok-end : tie.Need-part-row-ok-end Inv-loop μ-loop
 part-row-ok-end c = room c
 
@@ -87,12 +78,6 @@ turn c b h =
 returns : tie.Need-returns Inv-loop μ-loop
 returns c = sym (turn (c .before) false (not-true (c .before .row-ok .result) (c .if1 .taken)))
 
-add-s : tie.Need-add-s Inv-loop μ-loop
-add-s c = search needs
-
-loop-less : tie.Need-loop-less Inv-loop μ-loop
-loop-less c = search needs
-
 loop-again : tie.Need-loop-again Inv-loop μ-loop
 loop-again c =
     let l = c .before .before .before .before .loop in
@@ -110,16 +95,16 @@ rows-ok-spec =
     (tie.spec
     Inv-loop
     μ-loop
-    width-requires
+    (λ c κs. search needs)
     loop-holds
     add-to
     mul-row-ok
-    sub-row-ok
-    part-row-ok-start
+    (λ c. omega arith)
+    (λ c. omega arith)
     part-row-ok-end
     row-ok-requires
     returns
-    add-s
-    loop-less
+    (λ c. search needs)
+    (λ c. search needs)
     loop-again
     returns-2)

@@ -30,21 +30,6 @@ abbrev μ-loop : tie.MeasureT-loop
 loop-holds : tie.Need-loop-holds Inv-loop μ-loop
 loop-holds c = (omega arith, rw (sub-zero (length (c .args .values .now))))
 
-variable-low-requires : tie.Need-variable-low-requires Inv-loop μ-loop
-variable-low-requires c κs = omega arith
-
-variable-high-requires : tie.Need-variable-high-requires Inv-loop μ-loop
-variable-high-requires c κs = omega arith
-
-mul-x : tie.Need-mul-x Inv-loop μ-loop
-mul-x c = omega arith
-
-shared-slice-copy-out-x : tie.Need-shared-slice-copy-out-x Inv-loop μ-loop
-shared-slice-copy-out-x c = omega arith
-
-value-ok-requires : tie.Need-value-ok-requires Inv-loop μ-loop
-value-ok-requires c κs = search needs
-
 module _ (c : tie.After-value-ok Inv-loop μ-loop) where
   abbrev chart : List ℤ
   chart = c .before .before .before .before .before .before .args .chart .now
@@ -85,12 +70,6 @@ module _ (c : tie.After-value-ok Inv-loop μ-loop) where
 returns : tie.Need-returns Inv-loop μ-loop
 returns c = sym (turn (c .before) false (not-true (c .before .value-ok .result) (c .if1 .taken)))
 
-add-i : tie.Need-add-i Inv-loop μ-loop
-add-i c = omega arith
-
-loop-less : tie.Need-loop-less Inv-loop μ-loop
-loop-less c = omega arith
-
 loop-again : tie.Need-loop-again Inv-loop μ-loop
 loop-again c = (omega arith, turn (c .before) true (not-false (c .before .value-ok .result) (c .if1 .left)))
 
@@ -107,13 +86,13 @@ values-ok-spec =
     Inv-loop
     μ-loop
     loop-holds
-    variable-low-requires
-    variable-high-requires
-    mul-x
-    shared-slice-copy-out-x
-    value-ok-requires
+    (λ c κs. omega arith)
+    (λ c κs. omega arith)
+    (λ c. omega arith)
+    (λ c. omega arith)
+    (λ c κs. search needs)
     returns
-    add-i
-    loop-less
+    (λ c. omega arith)
+    (λ c. omega arith)
     loop-again
     returns-2)

@@ -6,12 +6,6 @@ use Rattle.form.proofs.Facts.{passed, failed}
 use Rattle.form.proofs.waits_ok.Statement.{statement}
 use Rattle.form.proofs.waits_ok.Tie as tie
 
-all-below-requires : tie.Need-all-below-requires
-all-below-requires c κs = search needs
-
-each-once-requires : tie.Need-each-once-requires
-each-once-requires c κs = search needs
-
 returns : tie.Need-returns
 returns c =
     let p = c .before .before in
@@ -21,4 +15,4 @@ returns-2 : tie.Need-returns-2
 returns-2 c = let p = c .before in failed (p .all-below .ensures) (c .if1 .left) (each-once (p .before .args .list .now))
 
 pub waits-ok-spec : {M : Type 1} → statement M
-waits-ok-spec = tie.close (tie.spec all-below-requires each-once-requires returns returns-2)
+waits-ok-spec = tie.close (tie.spec (λ c κs. search needs) (λ c κs. search needs) returns returns-2)

@@ -20,22 +20,10 @@ abbrev μ-loop : tie.MeasureT-loop
 loop-holds : tie.Need-loop-holds Inv-loop μ-loop
 loop-holds c = (omega arith, refl)
 
-shared-slice-read-byte-ok : tie.Need-shared-slice-read-byte-ok Inv-loop μ-loop
-shared-slice-read-byte-ok c = search needs
-
-byte-ok-requires : tie.Need-byte-ok-requires Inv-loop μ-loop
-byte-ok-requires c κs = search needs
-
 returns : tie.Need-returns Inv-loop μ-loop
 returns c =
     let k = c .before .before .before in
     sym (k .before .loop .inv .1 ∙ all-stop _ _ _ (k .loop-test .taken) (sym (c .before .byte-ok .ensures) ∙ not-true _ (c .if1 .taken)))
-
-add-i : tie.Need-add-i Inv-loop μ-loop
-add-i c = search needs
-
-loop-less : tie.Need-loop-less Inv-loop μ-loop
-loop-less c = search needs
 
 loop-again : tie.Need-loop-again Inv-loop μ-loop
 loop-again c =
@@ -52,10 +40,10 @@ bytes-ok-spec =
     Inv-loop
     μ-loop
     loop-holds
-    shared-slice-read-byte-ok
-    byte-ok-requires
+    (λ c. search needs)
+    (λ c κs. search needs)
     returns
-    add-i
-    loop-less
+    (λ c. search needs)
+    (λ c. search needs)
     loop-again
     returns-2)

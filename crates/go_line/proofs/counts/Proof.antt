@@ -9,21 +9,6 @@ use Rattle.go_line.specs.Asked.{askedRes, numbers}
 use Rattle.go_line.proofs.counts.Statement.{statement}
 use Rattle.go_line.proofs.counts.Tie as tie
 
-enum-told : tie.Need-enum-told
-enum-told c = search needs
-
-enum-known-capacity : tie.Need-enum-known-capacity
-enum-known-capacity c = search needs
-
-enum-told-2 : tie.Need-enum-told-2
-enum-told-2 c = search needs
-
-enum-known-budget : tie.Need-enum-known-budget
-enum-known-budget c = search needs
-
-sizes-requires : tie.Need-sizes-requires
-sizes-requires c κs = search needs
-
 returns : tie.Need-returns
 unfolding askedRes numbers numberSaid andThen
 returns c = simp (c .enum-told .given .1)
@@ -47,11 +32,11 @@ pub counts-spec : {M : Type 1} → statement M
 counts-spec =
     tie.close
     (tie.spec
-    enum-told
-    enum-known-capacity
-    enum-told-2
-    enum-known-budget
-    sizes-requires
+    (λ c. search needs)
+    (λ c. search needs)
+    (λ c. search needs)
+    (λ c. search needs)
+    (λ c κs. search needs)
     returns
     returns-2
     returns-3)

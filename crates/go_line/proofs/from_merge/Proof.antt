@@ -9,21 +9,6 @@ use Rattle.go_line.specs.Asked.{modeRes, askedRes}
 use Rattle.go_line.proofs.from_merge.Statement.{statement}
 use Rattle.go_line.proofs.from_merge.Tie as tie
 
-field-requires : tie.Need-field-requires
-field-requires c κs = search needs
-
-mode-field-requires : tie.Need-mode-field-requires
-mode-field-requires c κs = search needs
-
-enum-told : tie.Need-enum-told
-enum-told c = search needs
-
-enum-known-merge : tie.Need-enum-known-merge
-enum-known-merge c = search needs
-
-from-stop-requires : tie.Need-from-stop-requires
-from-stop-requires c κs = search needs
-
 returns : tie.Need-returns
 unfolding askedRes modeRes andThen
 returns c =
@@ -43,10 +28,10 @@ pub from-merge-spec : {M : Type 1} → statement M
 from-merge-spec =
     tie.close
     (tie.spec
-    field-requires
-    mode-field-requires
-    enum-told
-    enum-known-merge
-    from-stop-requires
+    (λ c κs. search needs)
+    (λ c κs. search needs)
+    (λ c. search needs)
+    (λ c. search needs)
+    (λ c κs. search needs)
     returns
     returns-2)

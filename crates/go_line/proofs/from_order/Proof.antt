@@ -10,33 +10,6 @@ use Rattle.go_line.proofs.Cut.{numbers-cut}
 use Rattle.go_line.proofs.from_order.Statement.{statement}
 use Rattle.go_line.proofs.from_order.Tie as tie
 
-field-requires : tie.Need-field-requires
-field-requires c κs = search needs
-
-order-field-requires : tie.Need-order-field-requires
-order-field-requires c κs = search needs
-
-enum-told : tie.Need-enum-told
-enum-told c = search needs
-
-enum-known-order : tie.Need-enum-known-order
-enum-known-order c = search needs
-
-field-requires-2 : tie.Need-field-requires-2
-field-requires-2 c κs = search needs
-
-number-requires : tie.Need-number-requires
-number-requires c κs = search needs
-
-field-requires-3 : tie.Need-field-requires-3
-field-requires-3 c κs = search needs
-
-number-requires-2 : tie.Need-number-requires-2
-number-requires-2 c κs = search needs
-
-counts-requires : tie.Need-counts-requires
-counts-requires c κs = search needs
-
 returns : tie.Need-returns
 unfolding askedRes orderRes andThen
 returns c =
@@ -56,14 +29,14 @@ pub from-order-spec : {M : Type 1} → statement M
 from-order-spec =
     tie.close
     (tie.spec
-    field-requires
-    order-field-requires
-    enum-told
-    enum-known-order
-    field-requires-2
-    number-requires
-    field-requires-3
-    number-requires-2
-    counts-requires
+    (λ c κs. search needs)
+    (λ c κs. search needs)
+    (λ c. search needs)
+    (λ c. search needs)
+    (λ c κs. search needs)
+    (λ c κs. search needs)
+    (λ c κs. search needs)
+    (λ c κs. search needs)
+    (λ c κs. search needs)
     returns
     returns-2)

@@ -21,28 +21,13 @@ fields-passed c = sym (c .before .filled .ensures) ∙ not-false (c .before .fil
 word-said : (c : tie.After-same-bytes) → same-bytes (nth (fields (now (c .before .before .before .before .before .before .args .line))) 0) (bytes "go") ≡ c .same-bytes .result
 word-said c = ap (λ (f : List ℕ). same-bytes f (bytes "go")) (sym (c .before .before .field .ensures)) ∙ sym (c .same-bytes .ensures)
 
-filled-requires : tie.Need-filled-requires
-filled-requires c κs = search needs
-
 returns : tie.Need-returns
 unfolding askedRes line-fields check
 returns c = rw (sym (c .before .filled .ensures) ∙ not-true (c .before .filled .result) (c .if1 .taken))
 
-field-requires : tie.Need-field-requires
-field-requires c κs = search needs
-
-slice-aggregate-same-bytes : tie.Need-slice-aggregate-same-bytes
-slice-aggregate-same-bytes c = search needs
-
-same-bytes-requires : tie.Need-same-bytes-requires
-same-bytes-requires c κs = search needs
-
 returns-2 : tie.Need-returns-2
 unfolding askedRes line-fields check
 returns-2 c = rw (fields-passed (c .before .before .before .before), word-said (c .before) ∙ not-true (c .before .same-bytes .result) (c .if2 .taken))
-
-from-merge-requires : tie.Need-from-merge-requires
-from-merge-requires c κs = search needs
 
 returns-3 : tie.Need-returns-3
 unfolding line-fields check
@@ -52,11 +37,11 @@ pub judged-spec : {M : Type 1} → statement M
 judged-spec =
     tie.close
     (tie.spec
-    filled-requires
+    (λ c κs. search needs)
     returns
-    field-requires
-    slice-aggregate-same-bytes
-    same-bytes-requires
+    (λ c κs. search needs)
+    (λ c. search needs)
+    (λ c κs. search needs)
     returns-2
-    from-merge-requires
+    (λ c κs. search needs)
     returns-3)

@@ -49,18 +49,12 @@ passed : (c : tie.Else3) → go-line (now (c .before .before .before .before .be
 unfolding by-end check
 passed c = judged-by (c .before .before .before .before .before) ∙ rw (c .before .before .before .before .if1 .left, bytes-passed (c .before), lt-ltb _ _ (ended c))
 
-line-end-requires : tie.Need-line-end-requires
-line-end-requires c κs = search needs
-
 returns : tie.Need-returns
 unfolding by-end check
 returns c = judged-by (c .before) ∙ rw (c .if1 .taken)
 
 slice-aggregate-bytes-ok : tie.Need-slice-aggregate-bytes-ok
 slice-aggregate-bytes-ok c = part-long (c .before .before)
-
-bytes-ok-requires : tie.Need-bytes-ok-requires
-bytes-ok-requires c κs = search needs
 
 returns-2 : tie.Need-returns-2
 unfolding by-end check
@@ -74,18 +68,6 @@ returns-3 c =
 
 slice-aggregate-judged : tie.Need-slice-aggregate-judged
 slice-aggregate-judged c = part-long (c .before .before .before .before .before .before)
-
-judged-requires : tie.Need-judged-requires
-judged-requires c κs = search needs
-
-enum-known-n : tie.Need-enum-known-n
-enum-known-n c = search needs
-
-enum-known-settings : tie.Need-enum-known-settings
-enum-known-settings c = search needs
-
-add-t17 : tie.Need-add-t17
-add-t17 c = search needs
 
 returns-4 : tie.Need-returns-4
 unfolding askedRes
@@ -108,16 +90,16 @@ pub read-spec : {M : Type 1} → statement M
 read-spec =
     tie.close
     (tie.spec
-    line-end-requires
+    (λ c κs. search needs)
     returns
     slice-aggregate-bytes-ok
-    bytes-ok-requires
+    (λ c κs. search needs)
     returns-2
     returns-3
     slice-aggregate-judged
-    judged-requires
-    enum-known-n
-    enum-known-settings
-    add-t17
+    (λ c κs. search needs)
+    (λ c. search needs)
+    (λ c. search needs)
+    (λ c. search needs)
     returns-4
     returns-5)

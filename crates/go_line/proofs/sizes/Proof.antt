@@ -26,15 +26,6 @@ budget-said c =
     let s = c .before .before .before in
     sym (c .budget-ok .ensures ∙ ap budget-ok (toZ-ofZ w32 (s .args .budget) (s .fits .budget)))
 
-capacity-ok-requires : tie.Need-capacity-ok-requires
-capacity-ok-requires c κs = search needs
-
-is-allowed-requires : tie.Need-is-allowed-requires
-is-allowed-requires c κs = search needs
-
-budget-ok-requires : tie.Need-budget-ok-requires
-budget-ok-requires c κs = search needs
-
 returns : tie.Need-returns
 unfolding askedRes sized check
 returns c = rw (capacity-said (c .before) ∙ not-true _ (c .if1 .taken))
@@ -68,9 +59,9 @@ pub sizes-spec : {M : Type 1} → statement M
 sizes-spec =
     tie.close
     (tie.spec
-    capacity-ok-requires
-    is-allowed-requires
-    budget-ok-requires
+    (λ c κs. search needs)
+    (λ c κs. search needs)
+    (λ c κs. search needs)
     returns
     returns-2
     returns-3

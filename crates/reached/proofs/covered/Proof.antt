@@ -56,12 +56,6 @@ add-to c = omega (arith, room c)
 mul-leq-row : tie.Need-mul-leq-row Inv-loop μ-loop
 mul-leq-row c = omega (arith, room c)
 
-sub-leq-row : tie.Need-sub-leq-row Inv-loop μ-loop
-sub-leq-row c = omega arith
-
-part-leq-row-start : tie.Need-part-leq-row-start Inv-loop μ-loop
-part-leq-row-start c = omega arith
-
 part-leq-row-end : tie.Need-part-leq-row-end Inv-loop μ-loop
 part-leq-row-end c = room c
 
@@ -72,12 +66,6 @@ leq-row-requires c κs =
 
 returns : tie.Need-returns Inv-loop μ-loop
 returns c = sym (turn (c .before) true (c .if1 .taken))
-
-add-s : tie.Need-add-s Inv-loop μ-loop
-add-s c = search needs
-
-loop-less : tie.Need-loop-less Inv-loop μ-loop
-loop-less c = search needs
 
 loop-again : tie.Need-loop-again Inv-loop μ-loop
 loop-again c =
@@ -99,12 +87,12 @@ covered-spec =
     loop-holds
     add-to
     mul-leq-row
-    sub-leq-row
-    part-leq-row-start
+    (λ c. omega arith)
+    (λ c. omega arith)
     part-leq-row-end
     leq-row-requires
     returns
-    add-s
-    loop-less
+    (λ c. search needs)
+    (λ c. search needs)
     loop-again
     returns-2)

@@ -49,12 +49,6 @@ add-to c = omega (arith, room c)
 mul-merge-row : tie.Need-mul-merge-row Inv-loop μ-loop
 mul-merge-row c = omega (arith, room c)
 
-sub-merge-row : tie.Need-sub-merge-row Inv-loop μ-loop
-sub-merge-row c = omega arith
-
-part-merge-row-start : tie.Need-part-merge-row-start Inv-loop μ-loop
-part-merge-row-start c = omega arith
-
 part-merge-row-end : tie.Need-part-merge-row-end Inv-loop μ-loop
 part-merge-row-end c = room c
 
@@ -68,12 +62,6 @@ wait-unless-requires c κs =
     let b = c .before .before .before .before .before in
     let p = b .before .pre .1 in
     (b .loop .inv .5, omega arith, omega arith, more (b .before .args .used) (length (b .loop .list)) (waits (b .loop .count) (b .loop .list)) (omega arith) (b .loop .inv .6))
-
-add-s : tie.Need-add-s Inv-loop μ-loop
-add-s c = search needs
-
-loop-less : tie.Need-loop-less Inv-loop μ-loop
-loop-less c = search needs
 
 loop-again : tie.Need-loop-again Inv-loop μ-loop
 loop-again c =
@@ -122,13 +110,13 @@ merge-slots-spec =
     loop-holds
     add-to
     mul-merge-row
-    sub-merge-row
-    part-merge-row-start
+    (λ c. omega arith)
+    (λ c. omega arith)
     part-merge-row-end
     merge-row-requires
     wait-unless-requires
-    add-s
-    loop-less
+    (λ c. search needs)
+    (λ c. search needs)
     loop-again
     same-length
     same-length-2

@@ -7,15 +7,6 @@ use Rattle.words.proofs.Words.{bits-eq, bits-ne}
 use Rattle.rows.proofs.leq_row.Statement.{statement}
 use Rattle.rows.proofs.leq_row.Tie as tie
 
-shared-slice-copy-out-l : tie.Need-shared-slice-copy-out-l
-shared-slice-copy-out-l c = search needs
-
-shared-slice-copy-out-m : tie.Need-shared-slice-copy-out-m
-shared-slice-copy-out-m c = search needs
-
-leq-values-requires : tie.Need-leq-values-requires
-leq-values-requires c κs = search needs
-
 returns : tie.Need-returns
 returns c =
     let p = c .before .before in
@@ -34,8 +25,8 @@ pub leq-row-spec : {M : Type 1} → statement M
 leq-row-spec =
     tie.close
     (tie.spec
-    shared-slice-copy-out-l
-    shared-slice-copy-out-m
-    leq-values-requires
+    (λ c. search needs)
+    (λ c. search needs)
+    (λ c κs. search needs)
     returns
     returns-2)

@@ -9,18 +9,6 @@ use Rattle.rows.proofs.Turns.{same-refl}
 use Rattle.rows.proofs.merge_row.Statement.{statement}
 use Rattle.rows.proofs.merge_row.Tie as tie
 
-shared-slice-copy-out-l : tie.Need-shared-slice-copy-out-l
-shared-slice-copy-out-l c = search needs
-
-slice-copy-out-m : tie.Need-slice-copy-out-m
-slice-copy-out-m c = search needs
-
-join-row-requires : tie.Need-join-row-requires
-join-row-requires c κs = search needs
-
-same-length : tie.Need-same-length
-same-length c = search needs
-
 returns : tie.Need-returns
 returns c =
     let p = c .before .before .before .before in
@@ -39,9 +27,9 @@ pub merge-row-spec : {M : Type 1} → statement M
 merge-row-spec =
     tie.close
     (tie.spec
-    shared-slice-copy-out-l
-    slice-copy-out-m
-    join-row-requires
-    same-length
+    (λ c. search needs)
+    (λ c. search needs)
+    (λ c κs. search needs)
+    (λ c. search needs)
     returns
     returns-2)

@@ -8,12 +8,6 @@ use Rattle.text.specs.Fields.{wordRes, operandRes}
 use Rattle.text.proofs.as_number.Statement.{statement}
 use Rattle.text.proofs.as_number.Tie as tie
 
-enum-known-w : tie.Need-enum-known-w
-enum-known-w c = search needs
-
-enum-known-w-2 : tie.Need-enum-known-w-2
-enum-known-w-2 c = search needs
-
 returns : tie.Need-returns
 unfolding operandRes wordRes andThen
 returns c = simp (c .before .w .given .1)
@@ -26,4 +20,4 @@ returns-2 c =
     simp (c .before .w2 .given .1, q)
 
 pub as-number-spec : {M : Type 1} → statement M
-as-number-spec = tie.close (tie.spec enum-known-w enum-known-w-2 returns returns-2)
+as-number-spec = tie.close (tie.spec (λ c. search needs) (λ c. search needs) returns returns-2)

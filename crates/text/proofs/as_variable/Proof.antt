@@ -5,12 +5,6 @@ use Rattle.text.specs.Fields.{indexRes, operandRes}
 use Rattle.text.proofs.as_variable.Statement.{statement}
 use Rattle.text.proofs.as_variable.Tie as tie
 
-enum-known-k : tie.Need-enum-known-k
-enum-known-k c = search needs
-
-enum-known-k-2 : tie.Need-enum-known-k-2
-enum-known-k-2 c = search needs
-
 returns : tie.Need-returns
 unfolding operandRes indexRes andThen
 returns c = simp (c .before .k .given .1)
@@ -20,4 +14,4 @@ unfolding operandRes indexRes andThen
 returns-2 c = simp (c .before .k2 .given .1)
 
 pub as-variable-spec : {M : Type 1} → statement M
-as-variable-spec = tie.close (tie.spec enum-known-k enum-known-k-2 returns returns-2)
+as-variable-spec = tie.close (tie.spec (λ c. search needs) (λ c. search needs) returns returns-2)

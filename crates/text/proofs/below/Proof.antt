@@ -11,12 +11,6 @@ use Rattle.text.proofs.Judged.{below-neg, below-yes, below-no}
 use Rattle.text.proofs.below.Statement.{statement}
 use Rattle.text.proofs.below.Tie as tie
 
-enum-told : tie.Need-enum-told
-enum-told c = search needs
-
-enum-known-n : tie.Need-enum-known-n
-enum-known-n c = search needs
-
 returns : tie.Need-returns
 unfolding indexRes numberSaid
 returns c =
@@ -25,9 +19,6 @@ returns c =
     let q : toZ w32 (ofZ w32 z) ≡ z = search needs in
     let t : ltZ z (pos 0) ≡ true = rw q at (c .if1 .taken) in
     simp (a .n .given .1) (sym (below-neg _ z t))
-
-magnitude-requires : tie.Need-magnitude-requires
-magnitude-requires c κs = search needs
 
 returns-2 : tie.Need-returns-2
 unfolding indexRes numberSaid
@@ -57,10 +48,10 @@ pub below-spec : {M : Type 1} → statement M
 below-spec =
     tie.close
     (tie.spec
-    enum-told
-    enum-known-n
+    (λ c. search needs)
+    (λ c. search needs)
     returns
-    magnitude-requires
+    (λ c κs. search needs)
     returns-2
     returns-3
     returns-4)

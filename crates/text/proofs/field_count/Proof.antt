@@ -20,24 +20,12 @@ abbrev μ-loop : tie.MeasureT-loop
 loop-holds : tie.Need-loop-holds Inv-loop μ-loop
 loop-holds c = (omega arith, omega arith, omega arith)
 
-shared-slice-read-parted : tie.Need-shared-slice-read-parted Inv-loop μ-loop
-shared-slice-read-parted c = search needs
-
-parted-requires : tie.Need-parted-requires Inv-loop μ-loop
-parted-requires c κs = search needs
-
 -- a tab is one field more
 few : (c : tie.After-parted Inv-loop μ-loop) → c .parted .result ≤ 1
 few c = let l = c .before .before .before in rw (c .parted .ensures) (tab-few (eqb (getD (now (l .before .before .args .line)) (l .loop .i) 0) 9))
 
 add-n : tie.Need-add-n Inv-loop μ-loop
 add-n c = omega (arith, few c)
-
-add-i : tie.Need-add-i Inv-loop μ-loop
-add-i c = search needs
-
-loop-less : tie.Need-loop-less Inv-loop μ-loop
-loop-less c = search needs
 
 loop-again : tie.Need-loop-again Inv-loop μ-loop
 loop-again c =
@@ -54,10 +42,10 @@ field-count-spec =
     Inv-loop
     μ-loop
     loop-holds
-    shared-slice-read-parted
-    parted-requires
+    (λ c. search needs)
+    (λ c κs. search needs)
     add-n
-    add-i
-    loop-less
+    (λ c. search needs)
+    (λ c. search needs)
     loop-again
     returns)

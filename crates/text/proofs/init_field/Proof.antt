@@ -9,18 +9,9 @@ use Rattle.text.proofs.Judged.{init-star, init-other}
 use Rattle.text.proofs.init_field.Statement.{statement}
 use Rattle.text.proofs.init_field.Tie as tie
 
-slice-aggregate-same-bytes : tie.Need-slice-aggregate-same-bytes
-slice-aggregate-same-bytes c = search needs
-
-same-bytes-requires : tie.Need-same-bytes-requires
-same-bytes-requires c κs = search needs
-
 returns : tie.Need-returns
 unfolding initRes
 returns c = sym (init-star _ _ _ (sym (c .before .same-bytes .ensures) ∙ c .if1 .taken))
-
-init-number-requires : tie.Need-init-number-requires
-init-number-requires c κs = search needs
 
 returns-2 : tie.Need-returns-2
 returns-2 c =
@@ -32,8 +23,8 @@ pub init-field-spec : {M : Type 1} → statement M
 init-field-spec =
     tie.close
     (tie.spec
-    slice-aggregate-same-bytes
-    same-bytes-requires
+    (λ c. search needs)
+    (λ c κs. search needs)
     returns
-    init-number-requires
+    (λ c κs. search needs)
     returns-2)

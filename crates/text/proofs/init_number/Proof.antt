@@ -13,18 +13,6 @@ use Rattle.text.proofs.Judged.{init-in, init-out}
 use Rattle.text.proofs.init_number.Statement.{statement}
 use Rattle.text.proofs.init_number.Tie as tie
 
-number-field-requires : tie.Need-number-field-requires
-number-field-requires c κs = search needs
-
-enum-known-n : tie.Need-enum-known-n
-enum-known-n c = search needs
-
-enum-known-z : tie.Need-enum-known-z
-enum-known-z c = search needs
-
-inside-requires : tie.Need-inside-requires
-inside-requires c κs = search needs
-
 returns : tie.Need-returns
 unfolding initRes wordRes andThen
 returns c =
@@ -64,10 +52,10 @@ pub init-number-spec : {M : Type 1} → statement M
 init-number-spec =
     tie.close
     (tie.spec
-    number-field-requires
-    enum-known-n
-    enum-known-z
-    inside-requires
+    (λ c κs. search needs)
+    (λ c. search needs)
+    (λ c. search needs)
+    (λ c κs. search needs)
     returns
     returns-2
     returns-3)

@@ -16,21 +16,9 @@ no1 c = sym (c .before .same-bytes .ensures) ∙ c .if1 .left
 no2 : (c : tie.Else2) → same-bytes (now (c .before .before .before .before .before .before .before .args .f)) (bytes "e") ≡ false
 no2 c = sym (c .before .same-bytes2 .ensures) ∙ c .if2 .left
 
-slice-aggregate-same-bytes : tie.Need-slice-aggregate-same-bytes
-slice-aggregate-same-bytes c = search needs
-
-same-bytes-requires : tie.Need-same-bytes-requires
-same-bytes-requires c κs = search needs
-
 returns : tie.Need-returns
 unfolding kind-field flagRes
 returns c = rw (sym (c .before .same-bytes .ensures) ∙ c .if1 .taken)
-
-slice-aggregate-same-bytes-2 : tie.Need-slice-aggregate-same-bytes-2
-slice-aggregate-same-bytes-2 c = search needs
-
-same-bytes-requires-2 : tie.Need-same-bytes-requires-2
-same-bytes-requires-2 c κs = search needs
 
 returns-2 : tie.Need-returns-2
 unfolding kind-field flagRes
@@ -48,10 +36,10 @@ pub kind-field-spec : {M : Type 1} → statement M
 kind-field-spec =
     tie.close
     (tie.spec
-    slice-aggregate-same-bytes
-    same-bytes-requires
+    (λ c. search needs)
+    (λ c κs. search needs)
     returns
-    slice-aggregate-same-bytes-2
-    same-bytes-requires-2
+    (λ c. search needs)
+    (λ c κs. search needs)
     returns-2
     returns-3)

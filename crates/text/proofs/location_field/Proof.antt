@@ -8,15 +8,9 @@ use Rattle.text.proofs.Digits.{below-or-cut}
 use Rattle.text.proofs.location_field.Statement.{statement}
 use Rattle.text.proofs.location_field.Tie as tie
 
-number-requires : tie.Need-number-requires
-number-requires c κs = search needs
-
-below-requires : tie.Need-below-requires
-below-requires c κs = search needs
-
 returns : tie.Need-returns
 unfolding location-field
 returns c = c .below .ensures ∙ ap (λ (n : NumberRead). below-or (c .before .before .before .args .count) (numberSaid n)) (c .before .number .ensures) ∙ below-or-cut _ _ (c .before .before .before .pre)
 
 pub location-field-spec : {M : Type 1} → statement M
-location-field-spec = tie.close (tie.spec number-requires below-requires returns)
+location-field-spec = tie.close (tie.spec (λ c κs. search needs) (λ c κs. search needs) returns)

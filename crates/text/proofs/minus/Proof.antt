@@ -10,21 +10,9 @@ use Rattle.text.proofs.Digits.{sub-fits, sub-back, minus-is}
 use Rattle.text.proofs.minus.Statement.{statement}
 use Rattle.text.proofs.minus.Tie as tie
 
-enum-told : tie.Need-enum-told
-enum-told c = search needs
-
-enum-known-n : tie.Need-enum-known-n
-enum-known-n c = search needs
-
 returns : tie.Need-returns
 unfolding numberRead naturalSaid
 returns c = simp (c .before .before .n .given .1, c .if1 .taken)
-
-cut-requires : tie.Need-cut-requires
-cut-requires c κs = search needs
-
-cast-t6 : tie.Need-cast-t6
-cast-t6 c = search needs
 
 sub-t7 : tie.Need-sub-t7
 sub-t7 c = sub-fits (c .cut .result) (omega arith)
@@ -43,11 +31,11 @@ pub minus-spec : {M : Type 1} → statement M
 minus-spec =
     tie.close
     (tie.spec
-    enum-told
-    enum-known-n
+    (λ c. search needs)
+    (λ c. search needs)
     returns
-    cut-requires
-    cast-t6
+    (λ c κs. search needs)
+    (λ c. search needs)
     sub-t7
     returns-2
     returns-3)

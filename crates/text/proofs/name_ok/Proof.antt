@@ -27,23 +27,11 @@ returns-2 c = sym (name-long (now (c .before .before .before .args .f)) (c .if2 
 loop-holds : tie.Need-loop-holds Inv-loop μ-loop
 loop-holds c = (omega arith, refl)
 
-shared-slice-read-name-byte : tie.Need-shared-slice-read-name-byte Inv-loop μ-loop
-shared-slice-read-name-byte c = search needs
-
-name-byte-requires : tie.Need-name-byte-requires Inv-loop μ-loop
-name-byte-requires c κs = search needs
-
 returns-3 : tie.Need-returns-3 Inv-loop μ-loop
 returns-3 c =
     let k = c .before .before .before in
     sym (name-all (now (k .before .before .before .before .before .args .f)) (k .before .before .before .if1 .left) (k .before .before .if2 .left) ∙ k .before .loop .inv .1
     ∙ all-stop _ _ _ (k .loop-test .taken) (sym (c .before .name-byte .ensures) ∙ not-true _ (c .if3 .taken)))
-
-add-i : tie.Need-add-i Inv-loop μ-loop
-add-i c = search needs
-
-loop-less : tie.Need-loop-less Inv-loop μ-loop
-loop-less c = search needs
 
 loop-again : tie.Need-loop-again Inv-loop μ-loop
 loop-again c =
@@ -64,10 +52,10 @@ name-ok-spec =
     returns
     returns-2
     loop-holds
-    shared-slice-read-name-byte
-    name-byte-requires
+    (λ c. search needs)
+    (λ c κs. search needs)
     returns-3
-    add-i
-    loop-less
+    (λ c. search needs)
+    (λ c. search needs)
     loop-again
     returns-4)

@@ -10,12 +10,6 @@ returns : tie.Need-returns
 unfolding naturalRead
 returns c = sym (ap naturalRead (natural-empty _ (c .if1 .taken)))
 
-shared-slice-read-if2 : tie.Need-shared-slice-read-if2
-shared-slice-read-if2 c = search needs
-
-digits-in-requires : tie.Need-digits-in-requires
-digits-in-requires c κs = search needs
-
 returns-2 : tie.Need-returns-2
 returns-2 c = c .digits-in .ensures ∙ ap naturalRead (sym (natural-digits _ (c .before .before .before .if1 .left) (c .before .if2 .taken)))
 
@@ -32,8 +26,8 @@ natural-in-spec =
     tie.close
     (tie.spec
     returns
-    shared-slice-read-if2
-    digits-in-requires
+    (λ c. search needs)
+    (λ c κs. search needs)
     returns-2
     returns-3
     returns-4)

@@ -20,9 +20,6 @@ abbrev μ-loop : tie.MeasureT-loop
 loop-holds : tie.Need-loop-holds Inv-loop μ-loop
 loop-holds c = (omega arith, refl)
 
-find-requires : tie.Need-find-requires Inv-loop μ-loop
-find-requires c κs = search needs
-
 returns : tie.Need-returns Inv-loop μ-loop
 returns c =
     let f = c .before .find .ensures in
@@ -34,12 +31,6 @@ returns-2 c =
     let f = c .before .before .find .ensures in
     let i = c .before .before .before .loop .inv in
     sym (i .1 ∙ full-last _ _ _ (f .is) (omega (arith, f .within)) (c .before .if1 .left) (c .if2 .taken))
-
-add-at : tie.Need-add-at Inv-loop μ-loop
-add-at c = search needs
-
-loop-less : tie.Need-loop-less Inv-loop μ-loop
-loop-less c = search needs
 
 loop-again : tie.Need-loop-again Inv-loop μ-loop
 loop-again c =
@@ -54,9 +45,9 @@ none-empty-spec =
     Inv-loop
     μ-loop
     loop-holds
-    find-requires
+    (λ c κs. search needs)
     returns
     returns-2
-    add-at
-    loop-less
+    (λ c. search needs)
+    (λ c. search needs)
     loop-again)

@@ -8,15 +8,9 @@ use Rattle.text.proofs.Digits.{small-or-cut}
 use Rattle.text.proofs.number_field.Statement.{statement}
 use Rattle.text.proofs.number_field.Tie as tie
 
-number-requires : tie.Need-number-requires
-number-requires c κs = search needs
-
-small-word-requires : tie.Need-small-word-requires
-small-word-requires c κs = search needs
-
 returns : tie.Need-returns
 unfolding number-field
 returns c = c .small-word .ensures ∙ ap (λ (n : NumberRead). small-or (numberSaid n)) (c .before .number .ensures) ∙ small-or-cut _
 
 pub number-field-spec : {M : Type 1} → statement M
-number-field-spec = tie.close (tie.spec number-requires small-word-requires returns)
+number-field-spec = tie.close (tie.spec (λ c κs. search needs) (λ c κs. search needs) returns)

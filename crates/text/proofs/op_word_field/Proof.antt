@@ -28,21 +28,9 @@ no5 c = sym (c .before .same-bytes5 .ensures) ∙ c .if5 .left
 no6 : (c : tie.Else6) → same-bytes (now (c .before .before .before .before .before .before .before .before .before .before .before .before .before .before .before .before .before .before .before .args .f)) (bytes "skip") ≡ false
 no6 c = sym (c .before .same-bytes6 .ensures) ∙ c .if6 .left
 
-slice-aggregate-same-bytes : tie.Need-slice-aggregate-same-bytes
-slice-aggregate-same-bytes c = search needs
-
-same-bytes-requires : tie.Need-same-bytes-requires
-same-bytes-requires c κs = search needs
-
 returns : tie.Need-returns
 unfolding op-word-field opWordRes
 returns c = rw (sym (c .before .same-bytes .ensures) ∙ c .if1 .taken)
-
-slice-aggregate-same-bytes-2 : tie.Need-slice-aggregate-same-bytes-2
-slice-aggregate-same-bytes-2 c = search needs
-
-same-bytes-requires-2 : tie.Need-same-bytes-requires-2
-same-bytes-requires-2 c κs = search needs
 
 returns-2 : tie.Need-returns-2
 unfolding op-word-field opWordRes
@@ -50,24 +38,12 @@ returns-2 c =
     let e1 = c .before .before .before in
     rw (no1 e1, sym (c .before .same-bytes2 .ensures) ∙ c .if2 .taken)
 
-slice-aggregate-same-bytes-3 : tie.Need-slice-aggregate-same-bytes-3
-slice-aggregate-same-bytes-3 c = search needs
-
-same-bytes-requires-3 : tie.Need-same-bytes-requires-3
-same-bytes-requires-3 c κs = search needs
-
 returns-3 : tie.Need-returns-3
 unfolding op-word-field opWordRes
 returns-3 c =
     let e2 = c .before .before .before in
     let e1 = e2 .before .before .before in
     rw (no1 e1, no2 e2, sym (c .before .same-bytes3 .ensures) ∙ c .if3 .taken)
-
-slice-aggregate-same-bytes-4 : tie.Need-slice-aggregate-same-bytes-4
-slice-aggregate-same-bytes-4 c = search needs
-
-same-bytes-requires-4 : tie.Need-same-bytes-requires-4
-same-bytes-requires-4 c κs = search needs
 
 returns-4 : tie.Need-returns-4
 unfolding op-word-field opWordRes
@@ -77,12 +53,6 @@ returns-4 c =
     let e1 = e2 .before .before .before in
     rw (no1 e1, no2 e2, no3 e3, sym (c .before .same-bytes4 .ensures) ∙ c .if4 .taken)
 
-slice-aggregate-same-bytes-5 : tie.Need-slice-aggregate-same-bytes-5
-slice-aggregate-same-bytes-5 c = search needs
-
-same-bytes-requires-5 : tie.Need-same-bytes-requires-5
-same-bytes-requires-5 c κs = search needs
-
 returns-5 : tie.Need-returns-5
 unfolding op-word-field opWordRes
 returns-5 c =
@@ -91,12 +61,6 @@ returns-5 c =
     let e2 = e3 .before .before .before in
     let e1 = e2 .before .before .before in
     rw (no1 e1, no2 e2, no3 e3, no4 e4, sym (c .before .same-bytes5 .ensures) ∙ c .if5 .taken)
-
-slice-aggregate-same-bytes-6 : tie.Need-slice-aggregate-same-bytes-6
-slice-aggregate-same-bytes-6 c = search needs
-
-same-bytes-requires-6 : tie.Need-same-bytes-requires-6
-same-bytes-requires-6 c κs = search needs
 
 returns-6 : tie.Need-returns-6
 unfolding op-word-field opWordRes
@@ -122,22 +86,22 @@ pub op-word-field-spec : {M : Type 1} → statement M
 op-word-field-spec =
     tie.close
     (tie.spec
-    slice-aggregate-same-bytes
-    same-bytes-requires
+    (λ c. search needs)
+    (λ c κs. search needs)
     returns
-    slice-aggregate-same-bytes-2
-    same-bytes-requires-2
+    (λ c. search needs)
+    (λ c κs. search needs)
     returns-2
-    slice-aggregate-same-bytes-3
-    same-bytes-requires-3
+    (λ c. search needs)
+    (λ c κs. search needs)
     returns-3
-    slice-aggregate-same-bytes-4
-    same-bytes-requires-4
+    (λ c. search needs)
+    (λ c κs. search needs)
     returns-4
-    slice-aggregate-same-bytes-5
-    same-bytes-requires-5
+    (λ c. search needs)
+    (λ c κs. search needs)
     returns-5
-    slice-aggregate-same-bytes-6
-    same-bytes-requires-6
+    (λ c. search needs)
+    (λ c κs. search needs)
     returns-6
     returns-7)

@@ -9,25 +9,10 @@ use Rattle.text.proofs.Judged.{operand-var, operand-num}
 use Rattle.text.proofs.operand_field.Statement.{statement}
 use Rattle.text.proofs.operand_field.Tie as tie
 
-first-requires : tie.Need-first-requires
-first-requires c κs = search needs
-
-target-field-requires : tie.Need-target-field-requires
-target-field-requires c κs = search needs
-
-as-variable-requires : tie.Need-as-variable-requires
-as-variable-requires c κs = search needs
-
 returns : tie.Need-returns
 returns c =
     let e = sym (c .before .before .before .first .ensures) ∙ c .before .before .if1 .taken in
     c .as-variable .ensures ∙ ap (λ (r : Res ℕ). andThen r (λ n. ok (var n))) (c .before .target-field .ensures) ∙ sym (operand-var _ _ e)
-
-number-field-requires : tie.Need-number-field-requires
-number-field-requires c κs = search needs
-
-as-number-requires : tie.Need-as-number-requires
-as-number-requires c κs = search needs
 
 returns-2 : tie.Need-returns-2
 returns-2 c =
@@ -39,10 +24,10 @@ pub operand-field-spec : {M : Type 1} → statement M
 operand-field-spec =
     tie.close
     (tie.spec
-    first-requires
-    target-field-requires
-    as-variable-requires
+    (λ c κs. search needs)
+    (λ c κs. search needs)
+    (λ c κs. search needs)
     returns
-    number-field-requires
-    as-number-requires
+    (λ c κs. search needs)
+    (λ c κs. search needs)
     returns-2)

@@ -10,18 +10,6 @@ use Rattle.text.specs.declared.NumberRead.the-variants as number
 use Rattle.text.proofs.plus.Statement.{statement}
 use Rattle.text.proofs.plus.Tie as tie
 
-enum-told : tie.Need-enum-told
-enum-told c = search needs
-
-enum-known-n : tie.Need-enum-known-n
-enum-known-n c = search needs
-
-cut-requires : tie.Need-cut-requires
-cut-requires c κs = search needs
-
-cast-t5 : tie.Need-cast-t5
-cast-t5 c = search needs
-
 returns : tie.Need-returns
 unfolding numberRead naturalSaid
 returns c = simp (c .enum-told .given .1)
@@ -31,4 +19,4 @@ unfolding numberRead naturalSaid
 returns-2 c = simp (c .before .before .n .given .1) (ap number.Is (toZ-pos w32 (omega arith) ∙ ap pos (c .cut .ensures)))
 
 pub plus-spec : {M : Type 1} → statement M
-plus-spec = tie.close (tie.spec enum-told enum-known-n cut-requires cast-t5 returns returns-2)
+plus-spec = tie.close (tie.spec (λ c. search needs) (λ c. search needs) (λ c κs. search needs) (λ c. search needs) returns returns-2)

@@ -10,15 +10,6 @@ use Rattle.text.specs.Fields.{numberSaid, wordRes}
 use Rattle.text.proofs.small_word.Statement.{statement}
 use Rattle.text.proofs.small_word.Tie as tie
 
-enum-told : tie.Need-enum-told
-enum-told c = search needs
-
-enum-known-n : tie.Need-enum-known-n
-enum-known-n c = search needs
-
-inside-requires : tie.Need-inside-requires
-inside-requires c κs = search needs
-
 returns : tie.Need-returns
 unfolding wordRes numberSaid check
 returns c =
@@ -45,9 +36,9 @@ pub small-word-spec : {M : Type 1} → statement M
 small-word-spec =
     tie.close
     (tie.spec
-    enum-told
-    enum-known-n
-    inside-requires
+    (λ c. search needs)
+    (λ c. search needs)
+    (λ c κs. search needs)
     returns
     returns-2
     returns-3)

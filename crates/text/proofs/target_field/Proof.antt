@@ -13,27 +13,9 @@ returns : tie.Need-returns
 unfolding indexRes
 returns c = sym (target-none _ _ (c .if1 .taken))
 
-shared-slice-read-if2 : tie.Need-shared-slice-read-if2
-shared-slice-read-if2 c = search needs
-
 returns-2 : tie.Need-returns-2
 unfolding indexRes
 returns-2 c = sym (target-other _ _ (c .if2 .taken))
-
-sub-unsigned : tie.Need-sub-unsigned
-sub-unsigned c = search needs
-
-part-unsigned-start : tie.Need-part-unsigned-start
-part-unsigned-start c = search needs
-
-part-unsigned-end : tie.Need-part-unsigned-end
-part-unsigned-end c = search needs
-
-unsigned-requires : tie.Need-unsigned-requires
-unsigned-requires c κs = search needs
-
-below-requires : tie.Need-below-requires
-below-requires c κs = search needs
 
 returns-3 : tie.Need-returns-3
 returns-3 c =
@@ -47,11 +29,11 @@ target-field-spec =
     tie.close
     (tie.spec
     returns
-    shared-slice-read-if2
+    (λ c. search needs)
     returns-2
-    sub-unsigned
-    part-unsigned-start
-    part-unsigned-end
-    unsigned-requires
-    below-requires
+    (λ c. search needs)
+    (λ c. search needs)
+    (λ c. search needs)
+    (λ c κs. search needs)
+    (λ c κs. search needs)
     returns-3)

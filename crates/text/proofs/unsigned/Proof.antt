@@ -8,14 +8,8 @@ use Rattle.text.proofs.Digits.{plus-cut}
 use Rattle.text.proofs.unsigned.Statement.{statement}
 use Rattle.text.proofs.unsigned.Tie as tie
 
-natural-in-requires : tie.Need-natural-in-requires
-natural-in-requires c κs = search needs
-
-plus-requires : tie.Need-plus-requires
-plus-requires c κs = search needs
-
 returns : tie.Need-returns
 returns c = c .plus .ensures ∙ ap (λ (n : Natural). numberRead (nonnegative (naturalSaid n))) (c .before .natural-in .ensures) ∙ plus-cut _
 
 pub unsigned-spec : {M : Type 1} → statement M
-unsigned-spec = tie.close (tie.spec natural-in-requires plus-requires returns)
+unsigned-spec = tie.close (tie.spec (λ c κs. search needs) (λ c κs. search needs) returns)

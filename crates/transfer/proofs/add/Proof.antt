@@ -10,24 +10,6 @@ use Rattle.transfer.specs.Transfer.{add-at}
 use Rattle.transfer.proofs.add.Statement.{statement}
 use Rattle.transfer.proofs.add.Tie as tie
 
-edge-target-requires : tie.Need-edge-target-requires
-edge-target-requires c κs = search needs
-
-first-operand-requires : tie.Need-first-operand-requires
-first-operand-requires c κs = search needs
-
-second-operand-requires : tie.Need-second-operand-requires
-second-operand-requires c κs = search needs
-
-sum-requires : tie.Need-sum-requires
-sum-requires c κs = search needs
-
-put-value-requires : tie.Need-put-value-requires
-put-value-requires c κs = search needs
-
-same-length : tie.Need-same-length
-same-length c = search needs
-
 returns : tie.Need-returns
 unfolding add-at
 returns c =
@@ -56,10 +38,10 @@ pub add-spec : {M : Type 1} → statement M
 add-spec =
     tie.close
     (tie.spec
-    edge-target-requires
-    first-operand-requires
-    second-operand-requires
-    sum-requires
-    put-value-requires
-    same-length
+    (λ c κs. search needs)
+    (λ c κs. search needs)
+    (λ c κs. search needs)
+    (λ c κs. search needs)
+    (λ c κs. search needs)
+    (λ c. search needs)
     returns)

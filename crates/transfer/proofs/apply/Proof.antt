@@ -19,58 +19,25 @@ module _ (c : tie.After-edge-operation) where
   not-code : (n : ℕ) → (c .edge-operation .result ≡ n → ⊥) → op ≡ n → ⊥
   not-code n h e = h (c .edge-operation .ensures .0 ∙ e)
 
-edge-operation-requires : tie.Need-edge-operation-requires
-edge-operation-requires c κs = search needs
-
-assign-requires : tie.Need-assign-requires
-assign-requires c κs = search needs
-
-add-requires : tie.Need-add-requires
-add-requires c κs = search needs
-
-sub-requires : tie.Need-sub-requires
-sub-requires c κs = search needs
-
-input-requires : tie.Need-input-requires
-input-requires c κs = search needs
-
-assume-requires : tie.Need-assume-requires
-assume-requires c κs = search needs
-
 returns : tie.Need-returns
 unfolding op-by
 returns c = rw (code (c .before) 0 (c .match .keys1))
-
-same-length : tie.Need-same-length
-same-length c = search needs
 
 returns-2 : tie.Need-returns-2
 unfolding op-by
 returns-2 c = let m = c .before .before .before in rw (code (m .before) 1 (m .match .keys2)) (c .before .assign .ensures)
 
-same-length-2 : tie.Need-same-length-2
-same-length-2 c = search needs
-
 returns-3 : tie.Need-returns-3
 unfolding op-by
 returns-3 c = let m = c .before .before .before in rw (code (m .before) 2 (m .match .keys3)) (c .before .add .ensures)
-
-same-length-3 : tie.Need-same-length-3
-same-length-3 c = search needs
 
 returns-4 : tie.Need-returns-4
 unfolding op-by
 returns-4 c = let m = c .before .before .before in rw (code (m .before) 3 (m .match .keys4)) (c .before .sub .ensures)
 
-same-length-4 : tie.Need-same-length-4
-same-length-4 c = search needs
-
 returns-5 : tie.Need-returns-5
 unfolding op-by
 returns-5 c = let m = c .before .before .before in rw (code (m .before) 4 (m .match .keys5)) (c .before .input .ensures)
-
-same-length-5 : tie.Need-same-length-5
-same-length-5 c = search needs
 
 returns-6 : tie.Need-returns-6
 unfolding op-by
@@ -91,20 +58,20 @@ pub apply-spec : {M : Type 1} → statement M
 apply-spec =
     tie.close
     (tie.spec
-    edge-operation-requires
-    assign-requires
-    add-requires
-    sub-requires
-    input-requires
-    assume-requires
+    (λ c κs. search needs)
+    (λ c κs. search needs)
+    (λ c κs. search needs)
+    (λ c κs. search needs)
+    (λ c κs. search needs)
+    (λ c κs. search needs)
     returns
-    same-length
+    (λ c. search needs)
     returns-2
-    same-length-2
+    (λ c. search needs)
     returns-3
-    same-length-3
+    (λ c. search needs)
     returns-4
-    same-length-4
+    (λ c. search needs)
     returns-5
-    same-length-5
+    (λ c. search needs)
     returns-6)

@@ -10,21 +10,6 @@ use Rattle.transfer.specs.Transfer.{assign-at}
 use Rattle.transfer.proofs.assign.Statement.{statement}
 use Rattle.transfer.proofs.assign.Tie as tie
 
-edge-target-requires : tie.Need-edge-target-requires
-edge-target-requires c κs = search needs
-
-first-operand-requires : tie.Need-first-operand-requires
-first-operand-requires c κs = search needs
-
-wide-requires : tie.Need-wide-requires
-wide-requires c κs = search needs
-
-put-value-requires : tie.Need-put-value-requires
-put-value-requires c κs = search needs
-
-same-length : tie.Need-same-length
-same-length c = search needs
-
 returns : tie.Need-returns
 unfolding assign-at
 returns c =
@@ -46,9 +31,9 @@ pub assign-spec : {M : Type 1} → statement M
 assign-spec =
     tie.close
     (tie.spec
-    edge-target-requires
-    first-operand-requires
-    wide-requires
-    put-value-requires
-    same-length
+    (λ c κs. search needs)
+    (λ c κs. search needs)
+    (λ c κs. search needs)
+    (λ c κs. search needs)
+    (λ c. search needs)
     returns)

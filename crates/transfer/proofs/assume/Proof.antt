@@ -41,24 +41,6 @@ module _ (c : tie.After-first-operand) where
   right-known : (ofZ w32 right ≡ ofZ w32 (pos 32768) → ⊥) → eqZ (operand-at (start .args .chart .now) (start .args .e .at + 4) (start .args .row .now)) (pos 32768) ≡ false
   right-known e = rw (c .first-operand .ensures) at (bits-ne w32 {a = right} {b = pos 32768} (sfits-of {z = right} (c .first-operand .ok)) (sfits-lit tt) e)
 
-edge-target-requires : tie.Need-edge-target-requires
-edge-target-requires c κs = search needs
-
-add-word-at : tie.Need-add-word-at
-add-word-at c = search needs
-
-word-at-requires : tie.Need-word-at-requires
-word-at-requires c κs = search needs
-
-first-operand-requires : tie.Need-first-operand-requires
-first-operand-requires c κs = search needs
-
-refine-requires : tie.Need-refine-requires
-refine-requires c κs = search needs
-
-same-length : tie.Need-same-length
-same-length c = search needs
-
 returns : tie.Need-returns
 unfolding assume-at tested-by
 returns c =
@@ -70,15 +52,6 @@ returns c =
     let q = toZ-ofZ w32 y (sfits-of {z = y} (o .first-operand .ok)) ∙ o .first-operand .ensures in
     rw (left-top o (h .if1 .taken)) (c .before .refine .ensures ∙ λ i. refine-by (a .chart .now) (a .n) (p i) (q i) (a .row .now))
 
-first-variable-requires : tie.Need-first-variable-requires
-first-variable-requires c κs = search needs
-
-refine-requires-2 : tie.Need-refine-requires-2
-refine-requires-2 c κs = search needs
-
-same-length-2 : tie.Need-same-length-2
-same-length-2 c = search needs
-
 returns-2 : tie.Need-returns-2
 unfolding assume-at tested-by
 returns-2 c =
@@ -89,12 +62,6 @@ returns-2 c =
     let p = m .first-variable .ensures .0 in
     let q = toZ-ofZ w32 x (sfits-of {z = x} (o .before .before .word-at .ok)) ∙ left-is o in
     rw (left-known o (m .before .before .if1 .left), right-top o (m .before .if2 .taken)) (c .before .refine2 .ensures ∙ λ i. refine-by (a .chart .now) (a .n) (p i) (q i) (a .row .now))
-
-holds-requires : tie.Need-holds-requires
-holds-requires c κs = search needs
-
-same-length-3 : tie.Need-same-length-3
-same-length-3 c = search needs
 
 returns-3 : tie.Need-returns-3
 unfolding assume-at tested-by
@@ -112,17 +79,17 @@ pub assume-spec : {M : Type 1} → statement M
 assume-spec =
     tie.close
     (tie.spec
-    edge-target-requires
-    add-word-at
-    word-at-requires
-    first-operand-requires
-    refine-requires
-    same-length
+    (λ c κs. search needs)
+    (λ c. search needs)
+    (λ c κs. search needs)
+    (λ c κs. search needs)
+    (λ c κs. search needs)
+    (λ c. search needs)
     returns
-    first-variable-requires
-    refine-requires-2
-    same-length-2
+    (λ c κs. search needs)
+    (λ c κs. search needs)
+    (λ c. search needs)
     returns-2
-    holds-requires
-    same-length-3
+    (λ c κs. search needs)
+    (λ c. search needs)
     returns-3)

@@ -20,12 +20,6 @@ Inv-loop chart out₀ n k₀ out k =
 abbrev μ-loop : tie.MeasureT-loop
 μ-loop chart out₀ n k₀ out k = n - k
 
-var-count-requires : tie.Need-var-count-requires Inv-loop μ-loop
-var-count-requires c κs = search needs
-
-slice-set-of-out : tie.Need-slice-set-of-out Inv-loop μ-loop
-slice-set-of-out c = omega arith
-
 loop-holds : tie.Need-loop-holds Inv-loop μ-loop
 loop-holds c =
     let o = c .before .args .out .now in
@@ -34,18 +28,6 @@ loop-holds c =
 
 variable-init-requires : tie.Need-variable-init-requires Inv-loop μ-loop
 variable-init-requires c κs = omega (arith, c .before .before .var-count .ensures .1)
-
-add-k : tie.Need-add-k Inv-loop μ-loop
-add-k c = omega arith
-
-mul-x : tie.Need-mul-x Inv-loop μ-loop
-mul-x c = omega arith
-
-slice-set-from-x : tie.Need-slice-set-from-x Inv-loop μ-loop
-slice-set-from-x c = omega arith
-
-loop-less : tie.Need-loop-less Inv-loop μ-loop
-loop-less c = omega arith
 
 loop-again : tie.Need-loop-again Inv-loop μ-loop
 loop-again c =
@@ -86,14 +68,14 @@ initial-spec =
     (tie.spec
     Inv-loop
     μ-loop
-    var-count-requires
-    slice-set-of-out
+    (λ c κs. search needs)
+    (λ c. omega arith)
     loop-holds
     variable-init-requires
-    add-k
-    mul-x
-    slice-set-from-x
-    loop-less
+    (λ c. omega arith)
+    (λ c. omega arith)
+    (λ c. omega arith)
+    (λ c. omega arith)
     loop-again
     same-length
     returns)

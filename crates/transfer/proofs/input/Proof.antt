@@ -6,24 +6,6 @@ use Rattle.transfer.specs.Transfer.{input-at}
 use Rattle.transfer.proofs.input.Statement.{statement}
 use Rattle.transfer.proofs.input.Tie as tie
 
-edge-target-requires : tie.Need-edge-target-requires
-edge-target-requires c κs = search needs
-
-first-value-requires : tie.Need-first-value-requires
-first-value-requires c κs = search needs
-
-second-value-requires : tie.Need-second-value-requires
-second-value-requires c κs = search needs
-
-join-word-requires : tie.Need-join-word-requires
-join-word-requires c κs = search needs
-
-put-requires : tie.Need-put-requires
-put-requires c κs = search needs
-
-same-length : tie.Need-same-length
-same-length c = search needs
-
 returns : tie.Need-returns
 unfolding input-at
 returns c =
@@ -48,10 +30,10 @@ pub input-spec : {M : Type 1} → statement M
 input-spec =
     tie.close
     (tie.spec
-    edge-target-requires
-    first-value-requires
-    second-value-requires
-    join-word-requires
-    put-requires
-    same-length
+    (λ c κs. search needs)
+    (λ c κs. search needs)
+    (λ c κs. search needs)
+    (λ c κs. search needs)
+    (λ c κs. search needs)
+    (λ c. search needs)
     returns)

@@ -10,12 +10,6 @@ use Rattle.transfer.specs.Transfer.{error-row}
 use Rattle.transfer.proofs.is_error.Statement.{statement}
 use Rattle.transfer.proofs.is_error.Tie as tie
 
-location-of-requires : tie.Need-location-of-requires
-location-of-requires c κs = search needs
-
-is-error-location-requires : tie.Need-is-error-location-requires
-is-error-location-requires c κs = search needs
-
 returns : tie.Need-returns
 unfolding error-row
 returns c =
@@ -24,4 +18,4 @@ returns c =
     c .is-error-location .ensures ∙ ap (λ (n : ℕ). eqZ (getD ws (3 + 3 * count ws 0 + 17 * n) (pos 0)) (pos 1)) (l .location-of .ensures .0)
 
 pub is-error-spec : {M : Type 1} → statement M
-is-error-spec = tie.close (tie.spec location-of-requires is-error-location-requires returns)
+is-error-spec = tie.close (tie.spec (λ c κs. search needs) (λ c κs. search needs) returns)

@@ -5,12 +5,6 @@ use mir.ValLaws.{toZ-ofZ}
 use Rattle.transfer.proofs.lies_within.Statement.{statement}
 use Rattle.transfer.proofs.lies_within.Tie as tie
 
-wide-requires : tie.Need-wide-requires
-wide-requires c κs = search needs
-
-wide-requires-2 : tie.Need-wide-requires-2
-wide-requires-2 c κs = search needs
-
 returns : tie.Need-returns
 returns c =
     let s = c .before .before in
@@ -27,4 +21,4 @@ returns c =
     )
 
 pub lies-within-spec : {M : Type 1} → statement M
-lies-within-spec = tie.close (tie.spec wide-requires wide-requires-2 returns)
+lies-within-spec = tie.close (tie.spec (λ c κs. search needs) (λ c κs. search needs) returns)

@@ -9,9 +9,6 @@ use Rattle.transfer.proofs.Places.{placed}
 use Rattle.transfer.proofs.location_word.Statement.{statement}
 use Rattle.transfer.proofs.location_word.Tie as tie
 
-cast-result : tie.Need-cast-result
-cast-result c = search needs
-
 returns : tie.Need-returns
 returns c = toZ-pos w32 (c .if1 .taken) ∙ sym (placed (c .before .args .l .0) (c .if1 .taken))
 
@@ -20,4 +17,4 @@ unfolding location-word
 returns-2 c = rw (le-ltb (c .before .args .l .0) 2147483648 (c .if1 .left))
 
 pub location-word-spec : {M : Type 1} → statement M
-location-word-spec = tie.close (tie.spec cast-result returns returns-2)
+location-word-spec = tie.close (tie.spec (λ c. search needs) returns returns-2)

@@ -13,15 +13,6 @@ returns c =
     let s = c .before in
     rw (bits-eq w32 {a = s .args .tag} {b = pos 0} (s .fits .tag) (sfits-lit tt) (c .if1 .taken), toZ-ofZ w32 (s .args .w) (s .fits .w))
 
-magnitude-requires : tie.Need-magnitude-requires
-magnitude-requires c κs = search needs
-
-add-word-at : tie.Need-add-word-at
-add-word-at c = search needs
-
-word-at-requires : tie.Need-word-at-requires
-word-at-requires c κs = search needs
-
 returns-2 : tie.Need-returns-2
 returns-2 c =
     let m = c .before in
@@ -36,4 +27,4 @@ returns-2 c =
     )
 
 pub operand-spec : {M : Type 1} → statement M
-operand-spec = tie.close (tie.spec returns magnitude-requires add-word-at word-at-requires returns-2)
+operand-spec = tie.close (tie.spec returns (λ c κs. search needs) (λ c. search needs) (λ c κs. search needs) returns-2)

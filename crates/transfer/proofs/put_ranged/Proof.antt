@@ -43,25 +43,10 @@ fits c =
     let b = c .before in
     within-fits (lo b) (hi b) (start b .args .z) (sfits-of {z = lo b} (b .before .before .variable-low .ok)) (sfits-of {z = hi b} (b .before .variable-high .ok)) (sym (told b) ∙ c .if1 .taken)
 
-variable-low-requires : tie.Need-variable-low-requires
-variable-low-requires c κs = search needs
-
-variable-high-requires : tie.Need-variable-high-requires
-variable-high-requires c κs = search needs
-
-lies-within-requires : tie.Need-lies-within-requires
-lies-within-requires c κs = search needs
-
 cast-x : tie.Need-cast-x
 cast-x c =
     let s = c .before .before .before .before in
     rw (toZ-ofZ w64 (s .args .z) (s .fits .z)) (fits c)
-
-put-requires : tie.Need-put-requires
-put-requires c κs = search needs
-
-same-length : tie.Need-same-length
-same-length c = search needs
 
 returns : tie.Need-returns
 unfolding set-ranged
@@ -79,11 +64,11 @@ pub put-ranged-spec : {M : Type 1} → statement M
 put-ranged-spec =
     tie.close
     (tie.spec
-    variable-low-requires
-    variable-high-requires
-    lies-within-requires
+    (λ c κs. search needs)
+    (λ c κs. search needs)
+    (λ c κs. search needs)
     cast-x
-    put-requires
-    same-length
+    (λ c κs. search needs)
+    (λ c. search needs)
     returns
     returns-2)

@@ -7,21 +7,9 @@ use Rattle.transfer.specs.Transfer.{set-value}
 use Rattle.transfer.proofs.put_value.Statement.{statement}
 use Rattle.transfer.proofs.put_value.Tie as tie
 
-put-requires : tie.Need-put-requires
-put-requires c κs = search needs
-
-same-length : tie.Need-same-length
-same-length c = search needs
-
 returns : tie.Need-returns
 unfolding set-value
 returns c = rw (c .before .before .before .if1 .taken, c .before .put .ensures)
-
-put-ranged-requires : tie.Need-put-ranged-requires
-put-ranged-requires c κs = search needs
-
-same-length-2 : tie.Need-same-length-2
-same-length-2 c = search needs
 
 returns-2 : tie.Need-returns-2
 unfolding set-value
@@ -32,4 +20,4 @@ returns-2 c =
 pub put-value-spec : {M : Type 1} → statement M
 put-value-spec =
     tie.close
-    (tie.spec put-requires same-length returns put-ranged-requires same-length-2 returns-2)
+    (tie.spec (λ c κs. search needs) (λ c. search needs) returns (λ c κs. search needs) (λ c. search needs) returns-2)

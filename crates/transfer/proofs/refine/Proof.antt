@@ -17,15 +17,6 @@ returns c =
     let s = c .before .before in
     rw (eq-eqb (s .args .n) 5 (c .before .if1 .taken), bits-eq w32 {a = s .args .x} {b = pos 32768} (s .fits .x) (sfits-lit tt) (c .if2 .taken))
 
-wide-requires : tie.Need-wide-requires
-wide-requires c κs = search needs
-
-put-ranged-requires : tie.Need-put-ranged-requires
-put-ranged-requires c κs = search needs
-
-same-length : tie.Need-same-length
-same-length c = search needs
-
 returns-2 : tie.Need-returns-2
 unfolding refine-by
 returns-2 c =
@@ -41,4 +32,4 @@ returns-3 c = rw (ne-eqb (c .before .args .n) 5 (c .if1 .left))
 
 pub refine-spec : {M : Type 1} → statement M
 refine-spec =
-    tie.close (tie.spec returns wide-requires put-ranged-requires same-length returns-2 returns-3)
+    tie.close (tie.spec returns (λ c κs. search needs) (λ c κs. search needs) (λ c. search needs) returns-2 returns-3)

@@ -11,34 +11,10 @@ use Rattle.transfer.specs.Transfer.{post-at}
 use Rattle.transfer.proofs.successor.Statement.{statement}
 use Rattle.transfer.proofs.successor.Tie as tie
 
-edge-from-requires : tie.Need-edge-from-requires
-edge-from-requires c κs = search needs
-
-location-of-requires : tie.Need-location-of-requires
-location-of-requires c κs = search needs
-
-same-location-requires : tie.Need-same-location-requires
-same-location-requires c κs = search needs
-
 -- the test that the edge leaves the row's location
 module _ (c : tie.After-same-location) where
   leaves : c .same-location .result ≡ eqb (count (c .before .before .before .args .chart .now) (c .before .before .before .args .e .at)) (count (c .before .before .before .args .row .now) 0)
   leaves = c .same-location .ensures ∙ rw (c .before .before .edge-from .ensures .0, c .before .location-of .ensures .0)
-
-copy-words-requires : tie.Need-copy-words-requires
-copy-words-requires c κs = search needs
-
-edge-to-requires : tie.Need-edge-to-requires
-edge-to-requires c κs = search needs
-
-location-word-requires : tie.Need-location-word-requires
-location-word-requires c κs = search needs
-
-slice-set-from-out : tie.Need-slice-set-from-out
-slice-set-from-out c = search needs
-
-apply-requires : tie.Need-apply-requires
-apply-requires c κs = search needs
 
 same-length : tie.Need-same-length
 same-length c =
@@ -63,14 +39,14 @@ pub successor-spec : {M : Type 1} → statement M
 successor-spec =
     tie.close
     (tie.spec
-    edge-from-requires
-    location-of-requires
-    same-location-requires
-    copy-words-requires
-    edge-to-requires
-    location-word-requires
-    slice-set-from-out
-    apply-requires
+    (λ c κs. search needs)
+    (λ c κs. search needs)
+    (λ c κs. search needs)
+    (λ c κs. search needs)
+    (λ c κs. search needs)
+    (λ c κs. search needs)
+    (λ c. search needs)
+    (λ c κs. search needs)
     same-length
     returns
     returns-2)

@@ -24,12 +24,6 @@ abbrev μ-loop : tie.MeasureT-loop
 loop-holds : tie.Need-loop-holds Inv-loop μ-loop
 loop-holds c = (omega arith, refl)
 
-mul-x : tie.Need-mul-x Inv-loop μ-loop
-mul-x c = search needs
-
-shared-slice-copy-out-x : tie.Need-shared-slice-copy-out-x Inv-loop μ-loop
-shared-slice-copy-out-x c = search needs
-
 returns : tie.Need-returns Inv-loop μ-loop
 returns c =
     let b = c .before .before .before in
@@ -37,12 +31,6 @@ returns c =
     let k = toZ-ofZ w32 (a .k) (b .before .fits .k) in
     let h : any-word (a .k) (a .s .now) ≡ any-word (a .k) (drop (b .loop .i) (a .s .now)) = rw k at (b .loop .inv .1) in
     sym (h ∙ any-turn (a .k) (a .s .now) (b .loop .i) true (c .before .before .loop-test .taken) (bits-eq w32 {a = a .k} {b = getD (a .s .now) (b .loop .i) (pos 0)} (b .before .fits .k) (sfits-of (c .before .x .given)) (c .if1 .taken)))
-
-add-i : tie.Need-add-i Inv-loop μ-loop
-add-i c = search needs
-
-loop-less : tie.Need-loop-less Inv-loop μ-loop
-loop-less c = search needs
 
 loop-again : tie.Need-loop-again Inv-loop μ-loop
 loop-again c =
@@ -67,10 +55,10 @@ any-word-spec =
     Inv-loop
     μ-loop
     loop-holds
-    mul-x
-    shared-slice-copy-out-x
+    (λ c. search needs)
+    (λ c. search needs)
     returns
-    add-i
-    loop-less
+    (λ c. search needs)
+    (λ c. search needs)
     loop-again
     returns-2)

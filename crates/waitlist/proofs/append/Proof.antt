@@ -8,23 +8,8 @@ use Rattle.waitlist.proofs.Laws.{put-last}
 use Rattle.waitlist.proofs.append.Statement.{statement}
 use Rattle.waitlist.proofs.append.Tie as tie
 
-cast-k : tie.Need-cast-k
-cast-k c = search needs
-
-mul-k : tie.Need-mul-k
-mul-k c = search needs
-
-slice-set-from-k : tie.Need-slice-set-from-k
-slice-set-from-k c = search needs
-
-add-result : tie.Need-add-result
-add-result c = search needs
-
-same-length : tie.Need-same-length
-same-length c = search needs
-
 returns : tie.Need-returns
 returns c = rw (toZ-pos w32 (c .args .slot .0) (omega arith)) (put-last (c .pre .0) (c .args .slot .0) (c .pre .1))
 
 pub append-spec : {M : Type 1} → statement M
-append-spec = tie.close (tie.spec cast-k mul-k slice-set-from-k add-result same-length returns)
+append-spec = tie.close (tie.spec (λ c. search needs) (λ c. search needs) (λ c. search needs) (λ c. search needs) (λ c. search needs) returns)

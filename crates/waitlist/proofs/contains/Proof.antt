@@ -12,14 +12,8 @@ use Rattle.waitlist.proofs.Laws.{front, any-some}
 use Rattle.waitlist.proofs.contains.Statement.{statement}
 use Rattle.waitlist.proofs.contains.Tie as tie
 
-cast-k : tie.Need-cast-k
-cast-k c = search needs
-
 slice-aggregate-any-word : tie.Need-slice-aggregate-any-word
 slice-aggregate-any-word c = sym (length-take-le (c .before .args .count) (c .before .args .list .now) (c .before .pre .0 .fits))
-
-any-word-requires : tie.Need-any-word-requires
-any-word-requires c κs = search needs
 
 returns : tie.Need-returns
 returns c =
@@ -28,4 +22,4 @@ returns c =
     c .any-word .ensures ∙ rw (toZ-pos w32 (a .slot .0) (omega arith)) (ap (any-word (pos (a .slot .0))) (front p) ∙ any-some (a .slot .0) (waits (a .count) (a .list .now)))
 
 pub contains-spec : {M : Type 1} → statement M
-contains-spec = tie.close (tie.spec cast-k slice-aggregate-any-word any-word-requires returns)
+contains-spec = tie.close (tie.spec (λ c. search needs) slice-aggregate-any-word (λ c κs. search needs) returns)

@@ -13,18 +13,6 @@ returns c =
     let s = c .before in
     rw (bits-eq w32 {a = s .args .x} {b = s .args .k} (s .fits .x) (s .fits .k) (c .if1 .taken)) (refl, refl)
 
-mul-x : tie.Need-mul-x
-mul-x c = search needs
-
-slice-set-from-x : tie.Need-slice-set-from-x
-slice-set-from-x c = search needs
-
-add-result : tie.Need-add-result
-add-result c = search needs
-
-same-length : tie.Need-same-length
-same-length c = search needs
-
 returns-2 : tie.Need-returns-2
 returns-2 c =
     let s = c .before in
@@ -32,4 +20,4 @@ returns-2 c =
 
 pub keep-word-spec : {M : Type 1} → statement M
 keep-word-spec =
-    tie.close (tie.spec returns mul-x slice-set-from-x add-result same-length returns-2)
+    tie.close (tie.spec returns (λ c. search needs) (λ c. search needs) (λ c. search needs) (λ c. search needs) returns-2)

@@ -8,18 +8,6 @@ use Rattle.waitlist.proofs.Moves.{put-first}
 use Rattle.waitlist.proofs.prepend.Statement.{statement}
 use Rattle.waitlist.proofs.prepend.Tie as tie
 
-cast-k : tie.Need-cast-k
-cast-k c = search needs
-
-push-front-requires : tie.Need-push-front-requires
-push-front-requires c κs = search needs
-
-add-result : tie.Need-add-result
-add-result c = search needs
-
-same-length : tie.Need-same-length
-same-length c = search needs
-
 returns : tie.Need-returns
 returns c =
     let s = c .before .before .before in
@@ -27,4 +15,4 @@ returns c =
     rw (c .before .push-front .ensures, q) (put-first (s .args .slot .0) (s .pre .0) (s .pre .1))
 
 pub prepend-spec : {M : Type 1} → statement M
-prepend-spec = tie.close (tie.spec cast-k push-front-requires add-result same-length returns)
+prepend-spec = tie.close (tie.spec (λ c. search needs) (λ c κs. search needs) (λ c. search needs) (λ c. search needs) returns)

@@ -23,32 +23,11 @@ abbrev μ-loop : tie.MeasureT-loop
 loop-holds : tie.Need-loop-holds Inv-loop μ-loop
 loop-holds c = (omega arith, refl, refl)
 
-mul-y : tie.Need-mul-y Inv-loop μ-loop
-mul-y c = search needs
-
-slice-copy-out-y : tie.Need-slice-copy-out-y Inv-loop μ-loop
-slice-copy-out-y c = search needs
-
-mul-carry : tie.Need-mul-carry Inv-loop μ-loop
-mul-carry c = search needs
-
-slice-set-from-carry : tie.Need-slice-set-from-carry Inv-loop μ-loop
-slice-set-from-carry c = search needs
-
-add-i : tie.Need-add-i Inv-loop μ-loop
-add-i c = search needs
-
-loop-less : tie.Need-loop-less Inv-loop μ-loop
-loop-less c = search needs
-
 loop-again : tie.Need-loop-again Inv-loop μ-loop
 loop-again c =
     let b = c .before .before in
     let y = toZ-ofZ w32 (getD (b .loop .s) (b .loop .i) (pos 0)) (sfits-of (c .y .given)) in
     rw y (simp length-set (omega arith), (simp length-set) ∙ b .loop .inv .1, b .loop .inv .2 ∙ push-turn (b .loop .s) (b .loop .i) (toZ w32 (b .loop .carry)) (omega arith))
-
-same-length : tie.Need-same-length Inv-loop μ-loop
-same-length c = search needs
 
 returns : tie.Need-returns Inv-loop μ-loop
 returns c =
@@ -63,12 +42,12 @@ push-front-spec =
     Inv-loop
     μ-loop
     loop-holds
-    mul-y
-    slice-copy-out-y
-    mul-carry
-    slice-set-from-carry
-    add-i
-    loop-less
+    (λ c. search needs)
+    (λ c. search needs)
+    (λ c. search needs)
+    (λ c. search needs)
+    (λ c. search needs)
+    (λ c. search needs)
     loop-again
-    same-length
+    (λ c. search needs)
     returns)

@@ -8,21 +8,12 @@ use Rattle.waitlist.proofs.Laws.{held, kept, back-room}
 use Rattle.waitlist.proofs.put_back.Statement.{statement}
 use Rattle.waitlist.proofs.put_back.Tie as tie
 
-remove-requires : tie.Need-remove-requires
-remove-requires c κs = search needs
-
-enum-told : tie.Need-enum-told
-enum-told c = search needs
-
 prepend-requires : tie.Need-prepend-requires
 prepend-requires c κs =
     let r = c .before .before .before .before in
     let s = r .before .before in
     let m = back-room (length (s .args .list .now)) (s .args .slot .0) (waits (s .args .count) (s .args .list .now)) (s .pre .3) (s .pre .1) in
     (kept (r .remove .ensures), omega (arith, m, r .remove .ensures .count, r .remove .kept .0), omega arith)
-
-enum-told-2 : tie.Need-enum-told-2
-enum-told-2 c = search needs
 
 append-requires : tie.Need-append-requires
 append-requires c κs =
@@ -31,16 +22,10 @@ append-requires c κs =
     let m = back-room (length (s .args .list .now)) (s .args .slot .0) (waits (s .args .count) (s .args .list .now)) (s .pre .3) (s .pre .1) in
     (kept (r .remove .ensures), omega (arith, m, r .remove .ensures .count, r .remove .kept .0), omega arith)
 
-same-length : tie.Need-same-length
-same-length c = search needs
-
 returns : tie.Need-returns
 returns c =
     let r = c .before .before .before .before .before .before in
     rw (c .before .before .before .enum-told .given .1, ← held (r .remove .ensures)) (c .before .prepend .ensures)
-
-same-length-2 : tie.Need-same-length-2
-same-length-2 c = search needs
 
 returns-2 : tie.Need-returns-2
 returns-2 c =
@@ -51,12 +36,12 @@ pub put-back-spec : {M : Type 1} → statement M
 put-back-spec =
     tie.close
     (tie.spec
-    remove-requires
-    enum-told
+    (λ c κs. search needs)
+    (λ c. search needs)
     prepend-requires
-    enum-told-2
+    (λ c. search needs)
     append-requires
-    same-length
+    (λ c. search needs)
     returns
-    same-length-2
+    (λ c. search needs)
     returns-2)

@@ -9,15 +9,6 @@ use Rattle.waitlist.proofs.Moves.{put-others}
 use Rattle.waitlist.proofs.remove.Statement.{statement}
 use Rattle.waitlist.proofs.remove.Tie as tie
 
-cast-k : tie.Need-cast-k
-cast-k c = search needs
-
-remove-word-requires : tie.Need-remove-word-requires
-remove-word-requires c κs = search needs
-
-same-length : tie.Need-same-length
-same-length c = search needs
-
 returns : tie.Need-returns
 returns c =
     let s = c .before .before .before in
@@ -26,4 +17,4 @@ returns c =
     put-others (s .args .slot .0) (r .last .0) (r .result) (s .pre .0) (r .kept .0) (r .ensures .0) (rw q at (r .ensures .1)) (r .ensures .2)
 
 pub remove-spec : {M : Type 1} → statement M
-remove-spec = tie.close (tie.spec cast-k remove-word-requires same-length returns)
+remove-spec = tie.close (tie.spec (λ c. search needs) (λ c κs. search needs) (λ c. search needs) returns)

@@ -23,28 +23,10 @@ abbrev μ-loop : tie.MeasureT-loop
 loop-holds : tie.Need-loop-holds Inv-loop μ-loop
 loop-holds c = removing-start (toZ w32 (ofZ w32 (c .args .k))) (c .args .list .now) (c .args .count) (c .pre)
 
-mul-x : tie.Need-mul-x Inv-loop μ-loop
-mul-x c = search needs
-
-slice-copy-out-x : tie.Need-slice-copy-out-x Inv-loop μ-loop
-slice-copy-out-x c = search needs
-
-mul-list : tie.Need-mul-list Inv-loop μ-loop
-mul-list c = search needs
-
-slice-set-of-list : tie.Need-slice-set-of-list Inv-loop μ-loop
-slice-set-of-list c = search needs
-
 keep-word-requires : tie.Need-keep-word-requires Inv-loop μ-loop
 keep-word-requires c κs =
     let b = c .before .before .before in
     omega (arith, length-set (b .loop .list) (b .loop .i) (pos 0), b .loop .inv .below, b .loop .inv .size, c .before .before .loop-test .taken, b .before .pre)
-
-add-i : tie.Need-add-i Inv-loop μ-loop
-add-i c = search needs
-
-loop-less : tie.Need-loop-less Inv-loop μ-loop
-loop-less c = search needs
 
 loop-again : tie.Need-loop-again Inv-loop μ-loop
 loop-again c =
@@ -61,9 +43,6 @@ loop-again c =
     let e0 : kw .result ≡ next-place (eqZ x K) (b .loop .j) = rw (z, w) at (kw .ensures .0) in
     rw (e1, e0) (remove-turn K (a .list .now) (a .count) (b .loop .list) (b .loop .j) (b .loop .i) (b .loop .inv) (c .before .before .before .before .loop-test .taken) (s .pre))
 
-same-length : tie.Need-same-length Inv-loop μ-loop
-same-length c = search needs
-
 returns : tie.Need-returns Inv-loop μ-loop
 returns c =
     let b = c .before in
@@ -78,13 +57,13 @@ remove-word-spec =
     Inv-loop
     μ-loop
     loop-holds
-    mul-x
-    slice-copy-out-x
-    mul-list
-    slice-set-of-list
+    (λ c. search needs)
+    (λ c. search needs)
+    (λ c. search needs)
+    (λ c. search needs)
     keep-word-requires
-    add-i
-    loop-less
+    (λ c. search needs)
+    (λ c. search needs)
     loop-again
-    same-length
+    (λ c. search needs)
     returns)

@@ -19,44 +19,14 @@ Inv-loop s₀ last i₀ s i = (i ≤ last) × (length s ≡ length s₀) × (las
 abbrev μ-loop : tie.MeasureT-loop
 μ-loop s₀ last i₀ s i = last - i
 
-sub-last : tie.Need-sub-last Inv-loop μ-loop
-sub-last c = search needs
-
 loop-holds : tie.Need-loop-holds Inv-loop μ-loop
 loop-holds c = (omega arith, refl, omega arith, refl)
-
-add-next : tie.Need-add-next Inv-loop μ-loop
-add-next c = search needs
-
-mul-x : tie.Need-mul-x Inv-loop μ-loop
-mul-x c = search needs
-
-slice-copy-out-x : tie.Need-slice-copy-out-x Inv-loop μ-loop
-slice-copy-out-x c = search needs
-
-mul-x-2 : tie.Need-mul-x-2 Inv-loop μ-loop
-mul-x-2 c = search needs
-
-slice-set-from-x : tie.Need-slice-set-from-x Inv-loop μ-loop
-slice-set-from-x c = search needs
-
-loop-less : tie.Need-loop-less Inv-loop μ-loop
-loop-less c = search needs
 
 loop-again : tie.Need-loop-again Inv-loop μ-loop
 loop-again c =
     let b = c .before .before in
     let q = toZ-ofZ w32 (getD (b .loop .s) (b .loop .i + 1) (pos 0)) (sfits-of (c .x .given)) in
     (omega arith, rw q (length-set (b .loop .s) (b .loop .i) (getD (b .loop .s) (b .loop .i + 1) (pos 0)) ∙ b .loop .inv .1), b .loop .inv .2, rw q (b .loop .inv .3 ∙ shift-turn (b .loop .s) (b .loop .i) (omega arith)))
-
-mul-s : tie.Need-mul-s Inv-loop μ-loop
-mul-s c = search needs
-
-slice-set-of-s : tie.Need-slice-set-of-s Inv-loop μ-loop
-slice-set-of-s c = search needs
-
-same-length : tie.Need-same-length Inv-loop μ-loop
-same-length c = search needs
 
 returns : tie.Need-returns Inv-loop μ-loop
 returns c =
@@ -70,16 +40,16 @@ shift-down-spec =
     (tie.spec
     Inv-loop
     μ-loop
-    sub-last
+    (λ c. search needs)
     loop-holds
-    add-next
-    mul-x
-    slice-copy-out-x
-    mul-x-2
-    slice-set-from-x
-    loop-less
+    (λ c. search needs)
+    (λ c. search needs)
+    (λ c. search needs)
+    (λ c. search needs)
+    (λ c. search needs)
+    (λ c. search needs)
     loop-again
-    mul-s
-    slice-set-of-s
-    same-length
+    (λ c. search needs)
+    (λ c. search needs)
+    (λ c. search needs)
     returns)

@@ -14,21 +14,6 @@ use Rattle.waitlist.proofs.Moves.{take-last-held}
 use Rattle.waitlist.proofs.take_new.Statement.{statement}
 use Rattle.waitlist.proofs.take_new.Tie as tie
 
-sub-at : tie.Need-sub-at
-sub-at c = search needs
-
-mul-w : tie.Need-mul-w
-mul-w c = search needs
-
-slice-copy-out-w : tie.Need-slice-copy-out-w
-slice-copy-out-w c = search needs
-
-mul-list : tie.Need-mul-list
-mul-list c = search needs
-
-slice-set-of-list : tie.Need-slice-set-of-list
-slice-set-of-list c = search needs
-
 cast-t5 : tie.Need-cast-t5
 cast-t5 c =
     let s = c .before in
@@ -36,9 +21,6 @@ cast-t5 c =
     let f = sfits-of {z = z} (c .w .given) in
     let t = take-last-held (waits (s .args .count) (s .args .list .now)) (s .pre .0) (s .pre .1) in
     rw (toZ-ofZ w32 z f) (subst (λ (v : ℤ). T (nonNeg v)) (sym (t .1)) tt, fits-natAbs tt f)
-
-same-length : tie.Need-same-length
-same-length c = search needs
 
 returns : tie.Need-returns
 returns c =
@@ -51,4 +33,4 @@ returns c =
 pub take-new-spec : {M : Type 1} → statement M
 take-new-spec =
     tie.close
-    (tie.spec sub-at mul-w slice-copy-out-w mul-list slice-set-of-list cast-t5 same-length returns)
+    (tie.spec (λ c. search needs) (λ c. search needs) (λ c. search needs) (λ c. search needs) (λ c. search needs) cast-t5 (λ c. search needs) returns)

@@ -16,12 +16,6 @@ use Rattle.waitlist.proofs.Moves.{take-first-held}
 use Rattle.waitlist.proofs.take_old.Statement.{statement}
 use Rattle.waitlist.proofs.take_old.Tie as tie
 
-slice-copy-out-w : tie.Need-slice-copy-out-w
-slice-copy-out-w c = search needs
-
-slice-relend-prefix-shift-down : tie.Need-slice-relend-prefix-shift-down
-slice-relend-prefix-shift-down c = search needs
-
 slice-aggregate-shift-down : tie.Need-slice-aggregate-shift-down
 slice-aggregate-shift-down c =
     let s = c .before .before in
@@ -41,9 +35,6 @@ cast-t9 c =
     let t = take-first-held (waits (s .args .count) (s .args .list .now)) (s .pre .0) (s .pre .1) in
     rw (toZ-ofZ w32 z f) (subst (λ (v : ℤ). T (nonNeg v)) (sym (t .1)) tt, fits-natAbs tt f)
 
-same-length : tie.Need-same-length
-same-length c = search needs
-
 returns : tie.Need-returns
 returns c =
     let w = c .before .before .before in
@@ -57,10 +48,10 @@ pub take-old-spec : {M : Type 1} → statement M
 take-old-spec =
     tie.close
     (tie.spec
-    slice-copy-out-w
-    slice-relend-prefix-shift-down
+    (λ c. search needs)
+    (λ c. search needs)
     slice-aggregate-shift-down
     shift-down-requires
     cast-t9
-    same-length
+    (λ c. search needs)
     returns)

@@ -12,12 +12,6 @@ use Rattle.waitlist.proofs.Laws.{queue-room}
 use Rattle.waitlist.proofs.wait.Statement.{statement}
 use Rattle.waitlist.proofs.wait.Tie as tie
 
-contains-requires : tie.Need-contains-requires
-contains-requires c κs = search needs
-
-same-length : tie.Need-same-length
-same-length c = search needs
-
 returns : tie.Need-returns
 returns c =
     let h = c .before .contains .ensures in
@@ -31,9 +25,6 @@ append-requires c κs =
     let m = queue-room (length (s .args .list .now)) (s .args .slot .0) (waits (s .args .count) (s .args .list .now)) (s .pre .3) (s .pre .1) h in
     (s .pre .0, omega (arith, s .pre .0 .count, m), omega arith)
 
-same-length-2 : tie.Need-same-length-2
-same-length-2 c = search needs
-
 returns-2 : tie.Need-returns-2
 returns-2 c =
     let s = c .before .before .before .before .before .before in
@@ -43,4 +34,4 @@ returns-2 c =
 pub wait-spec : {M : Type 1} → statement M
 wait-spec =
     tie.close
-    (tie.spec contains-requires same-length returns append-requires same-length-2 returns-2)
+    (tie.spec (λ c κs. search needs) (λ c. search needs) returns append-requires (λ c. search needs) returns-2)

@@ -7,14 +7,8 @@ use Rattle.waitlist.proofs.wait_unless.Tie as tie
 returns : tie.Need-returns
 returns c = rw (c .if1 .taken) (c .before .pre .0)
 
-wait-requires : tie.Need-wait-requires
-wait-requires c κs = search needs
-
-same-length : tie.Need-same-length
-same-length c = search needs
-
 returns-2 : tie.Need-returns-2
 returns-2 c = rw (c .before .before .before .if1 .left) (c .before .wait .ensures)
 
 pub wait-unless-spec : {M : Type 1} → statement M
-wait-unless-spec = tie.close (tie.spec returns wait-requires same-length returns-2)
+wait-unless-spec = tie.close (tie.spec returns (λ c κs. search needs) (λ c. search needs) returns-2)

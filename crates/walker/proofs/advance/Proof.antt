@@ -23,18 +23,6 @@ none c = let s = c .before .before .before .before in rw (sym (toZ-ofZ w32 (s .a
 passes : (c : tie.Else1) → let s = c .before .before .before .before .args in RunPasses (now (s .chart)) (s .budget) (lent (now (s .table)) (now (s .list)) (s .a))
 passes c = let s = c .before .before .before .before .args in run-passes (now (s .chart)) (s .budget) (lent (now (s .table)) (now (s .list)) (s .a)) (none c)
 
-run-refusal-requires : tie.Need-run-refusal-requires
-run-refusal-requires c κs = search needs
-
-refused-requires : tie.Need-refused-requires
-refused-requires c κs = search needs
-
-same-length : tie.Need-same-length
-same-length c = search needs
-
-same-length-2 : tie.Need-same-length-2
-same-length-2 c = search needs
-
 returns : tie.Need-returns
 unfolding run-outcome
 returns c =
@@ -59,15 +47,6 @@ run-through-requires c κs =
     let h = enough (decode (now (s .args .chart))) (s .args .a .capacity) (length (now (s .args .table))) (length (now (s .args .list))) (p .room) in
     (p .chart, h .0, h .1, p .form)
 
-gone-through-requires : tie.Need-gone-through-requires
-gone-through-requires c κs = search needs
-
-same-length-3 : tie.Need-same-length-3
-same-length-3 c = search needs
-
-same-length-4 : tie.Need-same-length-4
-same-length-4 c = search needs
-
 returns-2 : tie.Need-returns-2
 unfolding run-outcome
 returns-2 c =
@@ -82,14 +61,14 @@ pub advance-spec : {M : Type 1} → statement M
 advance-spec =
     tie.close
     (tie.spec
-    run-refusal-requires
-    refused-requires
-    same-length
-    same-length-2
+    (λ c κs. search needs)
+    (λ c κs. search needs)
+    (λ c. search needs)
+    (λ c. search needs)
     returns
     cast-run-through
     run-through-requires
-    gone-through-requires
-    same-length-3
-    same-length-4
+    (λ c κs. search needs)
+    (λ c. search needs)
+    (λ c. search needs)
     returns-2)

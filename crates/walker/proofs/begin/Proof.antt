@@ -14,12 +14,6 @@ slice-aggregate-begin-with c = sym (length-take-le (c .before .before .before .a
 begin-with-requires : tie.Need-begin-with-requires
 begin-with-requires c κs = rw (length-take-le (c .before .before .before .args .width) _ (c .before .before .before .pre .1)) (c .before .before .before .pre .0)
 
-same-length : tie.Need-same-length
-same-length c = search needs
-
-same-length-2 : tie.Need-same-length-2
-same-length-2 c = search needs
-
 returns : tie.Need-returns
 returns c =
     let s = c .before .before .before .before .before .before .before in
@@ -32,6 +26,6 @@ begin-spec =
     array-borrow-prefix-row
     slice-aggregate-begin-with
     begin-with-requires
-    same-length
-    same-length-2
+    (λ c. search needs)
+    (λ c. search needs)
     returns)

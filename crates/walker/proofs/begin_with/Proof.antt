@@ -8,9 +8,6 @@ use lib.ListN.{length}
 use Rattle.walker.proofs.begin_with.Statement.{statement}
 use Rattle.walker.proofs.begin_with.Tie as tie
 
-initial-requires : tie.Need-initial-requires
-initial-requires c κs = search needs
-
 start-core-requires : tie.Need-start-core-requires
 start-core-requires c κs =
     let i = c .before .before .before .before .initial in
@@ -18,15 +15,6 @@ start-core-requires c κs =
     let p = s .pre in
     let l : length (i .last .1 .0) ≡ length (now (s .args .row)) = i .kept .1 .0 in
     (omega (arith, l, p .wide), omega (arith, p .some), omega (arith, p .few), p .table ∙ ap (λ (n : ℕ). s .args .capacity * n) (sym l), p .list, p .allowed)
-
-same-length : tie.Need-same-length
-same-length c = search needs
-
-same-length-2 : tie.Need-same-length-2
-same-length-2 c = search needs
-
-same-length-3 : tie.Need-same-length-3
-same-length-3 c = search needs
 
 returns : tie.Need-returns
 returns c =
@@ -37,4 +25,4 @@ returns c =
 pub begin-with-spec : {M : Type 1} → statement M
 begin-with-spec =
     tie.close
-    (tie.spec initial-requires start-core-requires same-length same-length-2 same-length-3 returns)
+    (tie.spec (λ c κs. search needs) start-core-requires (λ c. search needs) (λ c. search needs) (λ c. search needs) returns)

@@ -15,9 +15,6 @@ use Rattle.form.proofs.Facts.{enough}
 use Rattle.walker.proofs.run_refusal.Statement.{statement}
 use Rattle.walker.proofs.run_refusal.Tie as tie
 
-budget-ok-requires : tie.Need-budget-ok-requires
-budget-ok-requires c κs = search needs
-
 -- what the tests say
 budget-said : (c : tie.After-budget-ok) → budget-ok (c .before .args .budget) ≡ c .budget-ok .result
 budget-said c = sym (c .budget-ok .ensures ∙ ap budget-ok (toZ-ofZ w32 (c .before .args .budget) (c .before .fits .budget)))
@@ -42,14 +39,8 @@ still-open c = sym (c .before .has-verdict .ensures) ∙ c .if5 .left
 returns : tie.Need-returns
 returns c = rw (budget-said (c .before) ∙ not-true (c .before .budget-ok .result) (c .if1 .taken)) refl
 
-well-formed-requires : tie.Need-well-formed-requires
-well-formed-requires c κs = search needs
-
 returns-2 : tie.Need-returns-2
 returns-2 c = rw (budget-passed (c .before .before), sym (c .before .well-formed .ensures) ∙ not-true (c .before .well-formed .result) (c .if2 .taken)) refl
-
-is-short-requires : tie.Need-is-short-requires
-is-short-requires c κs = search needs
 
 returns-3 : tie.Need-returns-3
 returns-3 c = rw (budget-passed (c .before .before .before .before), chart-passed (c .before .before), sym (c .before .is-short .ensures) ∙ c .if3 .taken) refl
@@ -67,9 +58,6 @@ returns-4 c =
       lent-enough (c .before .before),
       sym (c .before .analysis-ok .ensures) ∙ not-true (c .before .analysis-ok .result) (c .if4 .taken),
     ) refl
-
-has-verdict-requires : tie.Need-has-verdict-requires
-has-verdict-requires c κs = search needs
 
 returns-5 : tie.Need-returns-5
 returns-5 c =
@@ -109,15 +97,15 @@ pub run-refusal-spec : {M : Type 1} → statement M
 run-refusal-spec =
     tie.close
     (tie.spec
-    budget-ok-requires
+    (λ c κs. search needs)
     returns
-    well-formed-requires
+    (λ c κs. search needs)
     returns-2
-    is-short-requires
+    (λ c κs. search needs)
     returns-3
     analysis-ok-requires
     returns-4
-    has-verdict-requires
+    (λ c κs. search needs)
     returns-5
     returns-6
     returns-7)

@@ -28,15 +28,6 @@ many c = c .edge-count .ensures .0 ∙ sym (edges-count (now (c .before .before 
 fits : (c : tie.After-edge-count) → c .before .before .args .a .capacity * c .before .width .result ≤ length (now (c .before .before .args .table))
 fits c = rw (wide c) (c .before .before .pre .1)
 
-width-requires : tie.Need-width-requires
-width-requires c κs = search needs
-
-edge-count-requires : tie.Need-edge-count-requires
-edge-count-requires c κs = search needs
-
-cast-places : tie.Need-cast-places
-cast-places c = search needs
-
 mul-size : tie.Need-mul-size
 mul-size c = let w = c .before .before in let s = w .before in omega (arith, words-fit (now (s .args .chart)) (w .width .result) (w .width .ensures .0) (s .pre .0) (s .args .a .capacity) (omega arith))
 
@@ -60,12 +51,6 @@ run-core-requires c κs =
     let m = lent (now (s .args .table)) (now (s .args .list)) (s .args .a) in
     rw (wide g, many g) (entered (decode ws) m (s .pre .1) (s .pre .2) (s .pre .3), iterations-few (decode ws) m (s .pre .3), narrow ws (s .pre .0), edges-near ws (s .pre .0))
 
-same-length : tie.Need-same-length
-same-length c = search needs
-
-same-length-2 : tie.Need-same-length-2
-same-length-2 c = search needs
-
 returns : tie.Need-returns
 returns c =
     let g = c .before .before .before .before .before .before in
@@ -79,15 +64,15 @@ pub run-through-spec : {M : Type 1} → statement M
 run-through-spec =
     tie.close
     (tie.spec
-    width-requires
-    edge-count-requires
-    cast-places
+    (λ c κs. search needs)
+    (λ c κs. search needs)
+    (λ c. search needs)
     mul-size
     slice-relend-prefix-run-core
     slice-aggregate-run-core
     slice-relend-prefix-run-core-2
     slice-aggregate-run-core-2
     run-core-requires
-    same-length
-    same-length-2
+    (λ c. search needs)
+    (λ c. search needs)
     returns)

@@ -24,12 +24,6 @@ none c = let s = c .before .before in rw (sym (toZ-ofZ w32 (s .args .capacity) (
 passes : (c : tie.Else1) → let s = c .before .before .args in StartPasses (now (s .chart)) (s .settings) (s .capacity) (length (now (s .table))) (length (now (s .list)))
 passes c = let s = c .before .before .args in start-passes (now (s .chart)) (s .settings) (s .capacity) (length (now (s .table))) (length (now (s .list))) (none c)
 
-start-refusal-requires : tie.Need-start-refusal-requires
-start-refusal-requires c κs = search needs
-
-refused-requires : tie.Need-refused-requires
-refused-requires c κs = search needs
-
 returns : tie.Need-returns
 unfolding start-outcome
 returns c =
@@ -54,15 +48,6 @@ start-through-requires c κs =
     let h = enough (decode (now (s .args .chart))) (natAbs (s .args .capacity)) (length (now (s .args .table))) (length (now (s .args .list))) (p .room) in
     rw (toZ-ofZ w32 (s .args .capacity) (s .fits .capacity)) (p .chart, p .settings, k .some, k .few, h .0, h .1)
 
-gone-through-requires : tie.Need-gone-through-requires
-gone-through-requires c κs = search needs
-
-same-length : tie.Need-same-length
-same-length c = search needs
-
-same-length-2 : tie.Need-same-length-2
-same-length-2 c = search needs
-
 returns-2 : tie.Need-returns-2
 unfolding start-outcome
 returns-2 c =
@@ -77,12 +62,12 @@ pub start-spec : {M : Type 1} → statement M
 start-spec =
     tie.close
     (tie.spec
-    start-refusal-requires
-    refused-requires
+    (λ c κs. search needs)
+    (λ c κs. search needs)
     returns
     cast-start-through
     start-through-requires
-    gone-through-requires
-    same-length
-    same-length-2
+    (λ c κs. search needs)
+    (λ c. search needs)
+    (λ c. search needs)
     returns-2)

@@ -15,9 +15,6 @@ use Rattle.walker.proofs.Sized.{counted}
 use Rattle.walker.proofs.start_refusal.Statement.{statement}
 use Rattle.walker.proofs.start_refusal.Tie as tie
 
-capacity-ok-requires : tie.Need-capacity-ok-requires
-capacity-ok-requires c κs = search needs
-
 -- what the tests say
 capacity-said : (c : tie.After-capacity-ok) → capacity-ok (c .before .args .capacity) ≡ c .capacity-ok .result
 capacity-said c = sym (c .capacity-ok .ensures ∙ ap capacity-ok (toZ-ofZ w32 (c .before .args .capacity) (c .before .fits .capacity)))
@@ -34,14 +31,8 @@ chart-passed c = sym (c .before .well-formed .ensures) ∙ not-false (c .before 
 returns : tie.Need-returns
 returns c = rw (capacity-said (c .before) ∙ not-true (c .before .capacity-ok .result) (c .if1 .taken)) refl
 
-is-allowed-requires : tie.Need-is-allowed-requires
-is-allowed-requires c κs = search needs
-
 returns-2 : tie.Need-returns-2
 returns-2 c = rw (capacity-passed (c .before .before), sym (c .before .is-allowed .ensures) ∙ not-true (c .before .is-allowed .result) (c .if2 .taken)) refl
-
-well-formed-requires : tie.Need-well-formed-requires
-well-formed-requires c κs = search needs
 
 returns-3 : tie.Need-returns-3
 returns-3 c = rw (capacity-passed (c .before .before .before .before), settings-passed (c .before .before), sym (c .before .well-formed .ensures) ∙ not-true (c .before .well-formed .result) (c .if3 .taken)) refl
@@ -51,9 +42,6 @@ cast-is-short c =
     let s = c .before .before .before .before .before .before in
     let k = counted (s .args .capacity) (from-true (capacity-passed (c .before .before .before .before))) in
     rw (toZ-ofZ w32 (s .args .capacity) (s .fits .capacity)) (k .sign, omega (arith, k .few))
-
-is-short-requires : tie.Need-is-short-requires
-is-short-requires c κs = search needs
 
 returns-4 : tie.Need-returns-4
 returns-4 c =
@@ -81,13 +69,13 @@ pub start-refusal-spec : {M : Type 1} → statement M
 start-refusal-spec =
     tie.close
     (tie.spec
-    capacity-ok-requires
+    (λ c κs. search needs)
     returns
-    is-allowed-requires
+    (λ c κs. search needs)
     returns-2
-    well-formed-requires
+    (λ c κs. search needs)
     returns-3
     cast-is-short
-    is-short-requires
+    (λ c κs. search needs)
     returns-4
     returns-5)

@@ -17,9 +17,6 @@ use Rattle.walker.proofs.start_through.Tie as tie
 fits : (c : tie.After-width) → c .before .args .capacity * c .width .result ≤ length (now (c .before .args .table))
 fits c = rw (width-is (now (c .before .args .chart)) (c .width .result) (c .width .ensures .0)) (c .before .pre .4)
 
-width-requires : tie.Need-width-requires
-width-requires c κs = search needs
-
 mul-size : tie.Need-mul-size
 mul-size c = let s = c .before in omega (arith, words-fit (now (s .args .chart)) (c .width .result) (c .width .ensures .0) (s .pre .0) (s .args .capacity) (omega arith))
 
@@ -28,9 +25,6 @@ slice-relend-prefix-begin c = fits c
 
 slice-aggregate-begin : tie.Need-slice-aggregate-begin
 slice-aggregate-begin c = sym (length-take-le _ (now (c .before .before .args .table)) (fits (c .before)))
-
-slice-relend-prefix-begin-2 : tie.Need-slice-relend-prefix-begin-2
-slice-relend-prefix-begin-2 c = search needs
 
 slice-aggregate-begin-2 : tie.Need-slice-aggregate-begin-2
 slice-aggregate-begin-2 c = sym (length-take-le _ (now (c .before .before .before .args .list)) (c .before .before .before .pre .5))
@@ -50,12 +44,6 @@ begin-requires c κs =
       thin (now (s .args .chart)) (w .width .result) (w .width .ensures .0) (s .pre .0),
     )
 
-same-length : tie.Need-same-length
-same-length c = search needs
-
-same-length-2 : tie.Need-same-length-2
-same-length-2 c = search needs
-
 returns : tie.Need-returns
 returns c =
     let w = c .before .before .before .before .before in
@@ -68,13 +56,13 @@ pub start-through-spec : {M : Type 1} → statement M
 start-through-spec =
     tie.close
     (tie.spec
-    width-requires
+    (λ c κs. search needs)
     mul-size
     slice-relend-prefix-begin
     slice-aggregate-begin
-    slice-relend-prefix-begin-2
+    (λ c. search needs)
     slice-aggregate-begin-2
     begin-requires
-    same-length
-    same-length-2
+    (λ c. search needs)
+    (λ c. search needs)
     returns)

@@ -25,14 +25,6 @@ abbrev μ-loop : tie.MeasureT-loop
 loop-holds : tie.Need-loop-holds Inv-loop μ-loop
 loop-holds c = (omega arith, refl)
 
--- src/lib.rt:63:17
-mul-x : tie.Need-mul-x Inv-loop μ-loop
-mul-x c = omega arith
-
--- src/lib.rt:63:17
-shared-slice-copy-out-x : tie.Need-shared-slice-copy-out-x Inv-loop μ-loop
-shared-slice-copy-out-x c = omega arith
-
 -- src/lib.rt:65:13
 abbrev word : tie.After-x Inv-loop μ-loop → ℤ
 word c = getD (c .before .before .before .args .s .now) (c .before .before .loop .i) (pos 0)
@@ -46,14 +38,6 @@ turn c =
 returns : tie.Need-returns Inv-loop μ-loop
 returns c =
     rw (turn (c .before), bits-ne w32 {a = word (c .before)} {b = pos 0} (sfits-of (c .before .x .given)) (sfits-lit tt) (c .if1 .taken))
-
--- src/lib.rt:67:9
-add-i : tie.Need-add-i Inv-loop μ-loop
-add-i c = omega arith
-
--- src/lib.rt:62:5
-loop-less : tie.Need-loop-less Inv-loop μ-loop
-loop-less c = omega arith
 
 -- src/lib.rt:62:5
 loop-again : tie.Need-loop-again Inv-loop μ-loop
@@ -71,10 +55,10 @@ all-zero-spec =
     Inv-loop
     μ-loop
     loop-holds
-    mul-x
-    shared-slice-copy-out-x
+    (λ c. omega arith)
+    (λ c. omega arith)
     returns
-    add-i
-    loop-less
+    (λ c. omega arith)
+    (λ c. omega arith)
     loop-again
     returns-2)

@@ -20,32 +20,12 @@ abbrev μ-loop : tie.MeasureT-loop
 loop-holds : tie.Need-loop-holds Inv-loop μ-loop
 loop-holds c = (omega arith, refl, refl)
 
--- src/lib.rt:270:9
-mul-s : tie.Need-mul-s Inv-loop μ-loop
-mul-s c = search needs
-
--- src/lib.rt:270:9
-slice-set-of-s : tie.Need-slice-set-of-s Inv-loop μ-loop
-slice-set-of-s c = search needs
-
--- src/lib.rt:271:9
-add-i : tie.Need-add-i Inv-loop μ-loop
-add-i c = search needs
-
--- src/lib.rt:269:5
-loop-less : tie.Need-loop-less Inv-loop μ-loop
-loop-less c = search needs
-
 -- src/lib.rt:269:5
 loop-again : tie.Need-loop-again Inv-loop μ-loop
 loop-again c =
     let b = c .before in
     let n = length-set (b .loop .s) (b .loop .i) (pos 0) in
     (omega (arith, n, c .loop-test .taken), n ∙ b .loop .inv .1, zero-turn (b .loop .s) (b .loop .i) (omega arith) (b .loop .inv .2))
-
--- src/lib.rt:265:1
-same-length : tie.Need-same-length Inv-loop μ-loop
-same-length c = search needs
 
 -- src/lib.rt:265:1
 returns : tie.Need-returns Inv-loop μ-loop
@@ -61,10 +41,10 @@ fill-zero-spec =
     Inv-loop
     μ-loop
     loop-holds
-    mul-s
-    slice-set-of-s
-    add-i
-    loop-less
+    (λ c. search needs)
+    (λ c. search needs)
+    (λ c. search needs)
+    (λ c. search needs)
     loop-again
-    same-length
+    (λ c. search needs)
     returns)

@@ -12,9 +12,6 @@ use Rattle.words.proofs.Words.{not-neg, abs-small, below-fits, below-is
 use Rattle.words.proofs.magnitude.Statement.{statement}
 use Rattle.words.proofs.magnitude.Tie as tie
 
-wide-requires : tie.Need-wide-requires
-wide-requires c κs = search needs
-
 -- the word is below 0
 neg : (c : tie.After-wide) → ltZ (c .before .before .args .w) (pos 0) ≡ true
 neg c = rw (toZ-ofZ w32 (c .before .before .args .w) (c .before .before .fits .w)) at (c .before .if1 .taken)
@@ -46,4 +43,4 @@ returns-2 : tie.Need-returns-2
 returns-2 c = let s = c .before in rw (toZ-ofZ w32 (s .args .w) (s .fits .w)) (refl, abs-small (s .args .w) (s .fits .w))
 
 pub magnitude-spec : {M : Type 1} → statement M
-magnitude-spec = tie.close (tie.spec wide-requires sub-below cast-result returns cast-result-2 returns-2)
+magnitude-spec = tie.close (tie.spec (λ c κs. search needs) sub-below cast-result returns cast-result-2 returns-2)

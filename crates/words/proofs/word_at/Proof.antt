@@ -5,21 +5,9 @@ use lib.ListN.{List·getD-eq-default}
 use Rattle.words.proofs.word_at.Statement.{statement}
 use Rattle.words.proofs.word_at.Tie as tie
 
--- src/lib.rt:21:16
-mul-result : tie.Need-mul-result
-mul-result c = search needs
-
--- src/lib.rt:21:16
-shared-slice-copy-out-result : tie.Need-shared-slice-copy-out-result
-shared-slice-copy-out-result c = search needs
-
--- src/lib.rt:21:9
-returns : tie.Need-returns
-returns c = search needs
-
 -- src/lib.rt:17:1
 returns-2 : tie.Need-returns-2
 returns-2 c = sym (List·getD-eq-default (c .before .args .s .now) (pos 0) {n = c .before .args .i} (c .if1 .left))
 
 pub word-at-spec : {M : Type 1} → statement M
-word-at-spec = tie.close (tie.spec mul-result shared-slice-copy-out-result returns returns-2)
+word-at-spec = tie.close (tie.spec (λ c. search needs) (λ c. search needs) (λ c. search needs) returns-2)

@@ -6,20 +6,8 @@ use Rattle.writing.proofs.Written.{written-set, written-past}
 use Rattle.writing.proofs.put_byte.Statement.{statement}
 use Rattle.writing.proofs.put_byte.Tie as tie
 
-slice-write-out : tie.Need-slice-write-out
-slice-write-out c = search needs
-
-add-result : tie.Need-add-result
-add-result c = search needs
-
-same-length : tie.Need-same-length
-same-length c = search needs
-
 returns : tie.Need-returns
 returns c = record { bytes = sym (written-set _ _ _ (c .if1 .taken)); place = omega arith; small = omega arith }
-
-next-requires : tie.Need-next-requires
-next-requires c κs = search needs
 
 returns-2 : tie.Need-returns-2
 returns-2 c = record { bytes = sym (written-past _ _ _ (c .before .if1 .left)); place = c .next .ensures; small = omega arith }
@@ -28,9 +16,9 @@ pub put-byte-spec : {M : Type 1} → statement M
 put-byte-spec =
     tie.close
     (tie.spec
-    slice-write-out
-    add-result
-    same-length
+    (λ c. search needs)
+    (λ c. search needs)
+    (λ c. search needs)
     returns
-    next-requires
+    (λ c κs. search needs)
     returns-2)

@@ -14,18 +14,6 @@ use Rattle.writing.proofs.Decimals.{decimalZ-below, decimalZ-else}
 use Rattle.writing.proofs.put_signed.Statement.{statement}
 use Rattle.writing.proofs.put_signed.Tie as tie
 
-put-byte-requires : tie.Need-put-byte-requires
-put-byte-requires c κs = search needs
-
-magnitude-requires : tie.Need-magnitude-requires
-magnitude-requires c κs = search needs
-
-put-decimal-requires : tie.Need-put-decimal-requires
-put-decimal-requires c κs = search needs
-
-same-length : tie.Need-same-length
-same-length c = search needs
-
 returns : tie.Need-returns
 returns c =
     let s = c .before .before .before .before .before .before .before .before .before .before .before in
@@ -33,15 +21,6 @@ returns c =
     let t : ltZ (s .args .z) (pos 0) ≡ true = rw q at (c .before .before .before .before .before .before .before .before .before .if1 .taken) in
     let e : c .before .before .before .magnitude .result ≡ natAbs (s .args .z) = rw q at (c .before .before .before .magnitude .ensures .0) in
     put-same (ap (λ (n : ℕ). 45 ∷ decimal n) e ∙ sym (decimalZ-below (s .args .z) t)) (put-then (c .before .before .before .before .before .before .before .put-byte .ensures) (c .before .before .put-decimal .ensures))
-
-magnitude-requires-2 : tie.Need-magnitude-requires-2
-magnitude-requires-2 c κs = search needs
-
-put-decimal-requires-2 : tie.Need-put-decimal-requires-2
-put-decimal-requires-2 c κs = search needs
-
-same-length-2 : tie.Need-same-length-2
-same-length-2 c = search needs
 
 returns-2 : tie.Need-returns-2
 returns-2 c =
@@ -55,12 +34,12 @@ pub put-signed-spec : {M : Type 1} → statement M
 put-signed-spec =
     tie.close
     (tie.spec
-    put-byte-requires
-    magnitude-requires
-    put-decimal-requires
-    same-length
+    (λ c κs. search needs)
+    (λ c κs. search needs)
+    (λ c κs. search needs)
+    (λ c. search needs)
     returns
-    magnitude-requires-2
-    put-decimal-requires-2
-    same-length-2
+    (λ c κs. search needs)
+    (λ c κs. search needs)
+    (λ c. search needs)
     returns-2)
