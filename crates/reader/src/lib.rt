@@ -95,20 +95,21 @@ fn read_lines(text: &[u8], words: &mut [i32]) -> semantics::Answer
     };
     let mut at = 0;
     let mut n = 1;
-    while at < text.len() {
-        let end = text::line_end(text, at);
-        match step(t, &mut table, &mut names, &text[at..end]) {
+    loop {
+        let lines::Line::Text { start, end, next } = lines::line_from(text, at) else {
+            return finish(t, &table, words);
+        };
+        match step(t, &mut table, &mut names, &text[start..end]) {
             Step::Refused(k) => {
                 return refused(k, n);
             }
-            Step::Go(next) => {
-                t = next;
+            Step::Go(after) => {
+                t = after;
             }
         }
-        at = end + 1;
+        at = next;
         n += 1;
     }
-    finish(t, &table, words)
 }
 
 // The bytes, then the LF of the last line, then the lines.

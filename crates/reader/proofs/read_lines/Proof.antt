@@ -7,18 +7,20 @@ use denote.Ref.{now}
 use borrow.Author.Needs.{needs}
 use Rattle.semantics.specs.Outcomes.{held-by}
 use Rattle.semantics.specs.Reading.{Reading, nothing-read}
+use Rattle.lines.proofs.Places.{Lies, some-line, no-line}
 use Rattle.reader.proofs.Going.{Along, judged-stop, judged-on, judged-end}
 use Rattle.reader.proofs.read_lines.Statement.{statement}
 use Rattle.reader.proofs.read_lines.Tie as tie
 
 abbrev Inv-loop : tie.InvT-loop
-Inv-loop text words table₀ names₀ t₀ at₀ n₀ table names t at n = (at ≤ length text + 1) × (n ≤ at + 1) × (length table ≡ 3160) × (length names ≡ 128) × Along text t table names at n
+Inv-loop text words₀ table₀ names₀ t₀ at₀ n₀ words table names t at n = (words ≡ words₀) × (at ≤ length text + 1) × (n ≤ at + 1) × (length table ≡ 3160) × (length names ≡ 128) × Along text t table names at n
 
 abbrev μ-loop : tie.MeasureT-loop
-μ-loop text words table₀ names₀ t₀ at₀ n₀ table names t at n = length text - at
+μ-loop text words₀ table₀ names₀ t₀ at₀ n₀ words table names t at n = length text - at
 
 loop-holds : tie.Need-loop-holds Inv-loop μ-loop
 loop-holds c = (
+  refl,
   omega arith,
   omega arith,
   refl,
@@ -32,8 +34,34 @@ loop-holds c = (
   },
 )
 
-line-end-requires : tie.Need-line-end-requires Inv-loop μ-loop
-line-end-requires c κs = search needs
+-- where the line lies that was found
+lies : (c : tie.After-start Inv-loop μ-loop) → Lies (now (c .before .before .before .before .before .args .text)) (c .before .before .before .loop .at) (c .start .given .0 .0) (c .start .given .0 .1 .0) (c .start .given .0 .1 .1 .0)
+lies c = some-line _ _ (sym (c .before .before .line-from .ensures) ∙ c .start .given .1)
+
+line-from-requires : tie.Need-line-from-requires Inv-loop μ-loop
+line-from-requires c κs = search needs
+
+enum-known-start : tie.Need-enum-known-start Inv-loop μ-loop
+enum-known-start c = search needs
+
+enum-told : tie.Need-enum-told Inv-loop μ-loop
+enum-told c = search needs
+
+slice-aggregate-finish : tie.Need-slice-aggregate-finish Inv-loop μ-loop
+slice-aggregate-finish c = search needs
+
+finish-requires : tie.Need-finish-requires Inv-loop μ-loop
+finish-requires c κs = let l = c .before .before .before .before .before .loop .inv in (l .5 .few, l .3)
+
+same-length : tie.Need-same-length Inv-loop μ-loop
+same-length c = search needs
+
+returns : tie.Need-returns Inv-loop μ-loop
+returns c = let l = c .before .before .before .before .before .before .before .loop in
+    let a = l .inv .5 in
+    let d = a .read .chart in
+    let q = a .is ∙ judged-end _ _ _ _ (no-line _ _ (sym (c .before .before .before .before .before .before .line-from .ensures) ∙ c .before .before .before .before .enum-told .given .1)) in
+    (rw (sym q, l .inv .0) at (c .before .finish .ensures .0 d (a .held)), rw (sym q, l .inv .0) at (c .before .finish .ensures .1 d (a .held)))
 
 slice-aggregate-step : tie.Need-slice-aggregate-step Inv-loop μ-loop
 slice-aggregate-step c = search needs
@@ -42,16 +70,16 @@ slice-aggregate-step-2 : tie.Need-slice-aggregate-step-2 Inv-loop μ-loop
 slice-aggregate-step-2 c = search needs
 
 sub-step : tie.Need-sub-step Inv-loop μ-loop
-sub-step c = c .before .before .line-end .ensures .after
+sub-step c = let l = lies (c .before .before .before) in omega (arith, l .begins, l .ends)
 
 part-step-start : tie.Need-part-step-start Inv-loop μ-loop
-part-step-start c = c .before .before .line-end .ensures .after
+part-step-start c = let l = lies (c .before .before .before) in omega (arith, l .begins, l .ends)
 
 part-step-end : tie.Need-part-step-end Inv-loop μ-loop
-part-step-end c = omega (arith, c .before .before .line-end .ensures .within, c .before .before .before .loop-test .taken)
+part-step-end c = lies (c .before .before .before) .within
 
 step-requires : tie.Need-step-requires Inv-loop μ-loop
-step-requires c κs = let l = c .before .before .before .before .before .loop .inv in (l .4 .few, l .2, l .3)
+step-requires c κs = let l = c .before .before .before .before .before .before .before .loop .inv in (l .5 .few, l .3, l .4)
 
 enum-known-k : tie.Need-enum-known-k Inv-loop μ-loop
 enum-known-k c = search needs
@@ -59,58 +87,45 @@ enum-known-k c = search needs
 refused-requires : tie.Need-refused-requires Inv-loop μ-loop
 refused-requires c κs = search needs
 
-returns : tie.Need-returns Inv-loop μ-loop
-returns c = let l = c .before .before .before .before .before .before .before .before .before .before .before .before .loop in
-    let a = l .inv .4 in
-    let w = now (c .before .before .before .before .before .before .before .before .before .before .before .before .before .before .args .words) in
-    let q = a .is ∙ judged-stop _ _ _ _ _ (c .before .before .before .before .before .before .before .before .before .before .before .loop-test .taken) (c .before .before .before .before .before .before .before .before .before .before .line-end .ensures .is) (rw (c .before .before .k .given .1) at (c .before .before .before .before .before .before .step .ensures (a .read) (a .held) (a .names-held))) in
-    (c .refused .ensures ∙ ap (λ (o : Reading). held-by o w .answer) (sym q), ap (λ (o : Reading). held-by o w .words) (sym q))
+same-length-2 : tie.Need-same-length-2 Inv-loop μ-loop
+same-length-2 c = ap length (c .before .before .before .before .before .before .before .before .before .before .before .before .before .before .loop .inv .0)
 
-enum-known-next : tie.Need-enum-known-next Inv-loop μ-loop
-enum-known-next c = search needs
+returns-2 : tie.Need-returns-2 Inv-loop μ-loop
+returns-2 c = let i = c .before .before .before .before .before .before .before .before .before .before .before .before .before .before .loop .inv in
+    let a = i .5 in
+    let l = lies (c .before .before .before .before .before .before .before .before .before .before .before) in
+    let w = now (c .before .before .before .before .before .before .before .before .before .before .before .before .before .before .before .before .args .words) in
+    let f = rw (c .before .before .k .given .1, l .begins) at (c .before .before .before .before .before .before .step .ensures (a .read) (a .held) (a .names-held)) in
+    let q = a .is ∙ judged-stop _ _ _ _ _ (l .here) (l .ends) f in
+    (c .refused .ensures ∙ ap (λ (o : Reading). held-by o w .answer) (sym q), i .0 ∙ ap (λ (o : Reading). held-by o w .words) (sym q))
 
-add-at : tie.Need-add-at Inv-loop μ-loop
-add-at c = omega (arith, c .before .before .before .before .before .before .before .before .before .line-end .ensures .within, c .before .before .before .before .before .before .before .before .before .before .loop-test .taken)
+enum-known-after : tie.Need-enum-known-after Inv-loop μ-loop
+enum-known-after c = search needs
 
 add-n : tie.Need-add-n Inv-loop μ-loop
-add-n c = omega (arith, c .before .before .before .before .before .before .before .before .before .before .loop-test .taken, c .before .before .before .before .before .before .before .before .before .before .before .loop .inv .1)
+add-n c = omega (arith, lies (c .before .before .before .before .before .before .before .before .before .before) .here, c .before .before .before .before .before .before .before .before .before .before .before .before .before .loop .inv .2)
 
 loop-less : tie.Need-loop-less Inv-loop μ-loop
-loop-less c = omega (arith, c .before .before .before .before .before .before .before .before .before .line-end .ensures .after, c .before .before .before .before .before .before .before .before .before .before .loop-test .taken)
+loop-less c = let l = lies (c .before .before .before .before .before .before .before .before .before .before) in omega (arith, l .here, l .ends, l .on)
 
 loop-again : tie.Need-loop-again Inv-loop μ-loop
-loop-again c = let l = c .before .before .before .before .before .before .before .before .before .before .before .loop in
-    let a = l .inv .4 in
-    let f = c .before .before .before .before .before .before .before .before .before .line-end .ensures in
-    let g = rw (c .before .next .given .1) at (c .before .before .before .before .before .step .ensures (a .read) (a .held) (a .names-held)) in (
-      omega (arith, f .within, c .before .before .before .before .before .before .before .before .before .before .loop-test .taken),
-      omega (arith, f .after, l .inv .1),
-      c .before .before .before .before .before .step .kept .1 .0 ∙ l .inv .2,
-      c .before .before .before .before .before .step .kept .1 .1 .0 ∙ l .inv .3,
+loop-again c = let i = c .before .before .before .before .before .before .before .before .before .before .before .before .before .loop .inv in
+    let a = i .5 in
+    let l = lies (c .before .before .before .before .before .before .before .before .before .before) in
+    let g = rw (c .before .after .given .1, l .begins) at (c .before .before .before .before .before .step .ensures (a .read) (a .held) (a .names-held)) in (
+      i .0,
+      omega (arith, l .within, l .on),
+      omega (arith, l .ends, l .on, i .2),
+      c .before .before .before .before .before .step .kept .1 .0 ∙ i .3,
+      c .before .before .before .before .before .step .kept .1 .1 .0 ∙ i .4,
       record {
         read = g .read;
         few = g .few;
         held = g .held;
         names-held = g .names-held;
-        is = a .is ∙ judged-on _ _ _ _ _ (c .before .before .before .before .before .before .before .before .before .before .loop-test .taken) (f .is) (g .is);
+        is = rw (l .on) (a .is ∙ judged-on _ _ _ _ _ (l .here) (l .ends) (g .is));
       },
     )
-
-slice-aggregate-finish : tie.Need-slice-aggregate-finish Inv-loop μ-loop
-slice-aggregate-finish c = search needs
-
-finish-requires : tie.Need-finish-requires Inv-loop μ-loop
-finish-requires c κs = let l = c .before .before .before .loop .inv in (l .4 .few, l .2)
-
-same-length : tie.Need-same-length Inv-loop μ-loop
-same-length c = search needs
-
-returns-2 : tie.Need-returns-2 Inv-loop μ-loop
-returns-2 c = let a = c .before .before .before .before .before .loop .inv .4 in
-    let w = now (c .before .before .before .before .before .before .before .args .words) in
-    let q = a .is ∙ judged-end _ _ _ _ (c .before .before .before .before .loop-test .left) in
-    let d = a .read .chart in
-    (c .before .finish .ensures .0 d (a .held) ∙ ap (λ (o : Reading). held-by o w .answer) (sym q), c .before .finish .ensures .1 d (a .held) ∙ ap (λ (o : Reading). held-by o w .words) (sym q))
 
 pub read-lines-spec : {M : Type 1} → statement M
 read-lines-spec =
@@ -119,7 +134,13 @@ read-lines-spec =
     Inv-loop
     μ-loop
     loop-holds
-    line-end-requires
+    line-from-requires
+    enum-known-start
+    enum-told
+    slice-aggregate-finish
+    finish-requires
+    same-length
+    returns
     slice-aggregate-step
     slice-aggregate-step-2
     sub-step
@@ -128,13 +149,9 @@ read-lines-spec =
     step-requires
     enum-known-k
     refused-requires
-    returns
-    enum-known-next
-    add-at
+    same-length-2
+    returns-2
+    enum-known-after
     add-n
     loop-less
-    loop-again
-    slice-aggregate-finish
-    finish-requires
-    same-length
-    returns-2)
+    loop-again)
