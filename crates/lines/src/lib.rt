@@ -1,7 +1,7 @@
 // Going down a text line by line. `line_at` does the work on the slice and a place; a `Reader` holds both, and the functions over it
 // are thin and proved by hand.
 ghost use mathlib.Core.Path.{_≡_};
-ghost use Rattle.lines.specs.Lines.{line-of};
+ghost use Rattle.lines.specs.Lines.{line-of, place-after};
 
 // The lent text, and the reader's place in it: where the next line begins.
 pub struct Reader<'a> {
@@ -34,16 +34,30 @@ fn line_at(text: &[u8], at: usize) -> Line
     }
 }
 
+// The place after a line; at the end of the text the reader stays.
+pub fn place_after(l: Line, at: usize) -> usize
+    ensures { λ r. ⌜ r ≡ place-after l at ⌝ }
+{
+    match l {
+        Line::Text {
+            start: _,
+            end: _,
+            next,
+        } => next,
+        Line::End => at,
+    }
+}
+
+// A reader at the start of a text.
+pub fn open<'a>(text: &'a [u8]) -> Reader<'a>
+    ensures { λ r. ⌜ (r .text ≡ text .entry) × (r .at ≡ 0) ⌝ }
+{
+    Reader { text, at: 0 }
+}
+
 // The line at the reader's place.
-fn current<'a>(r: Reader<'a>) -> Line
+pub fn current<'a>(r: Reader<'a>) -> Line
     ensures { λ l. ⌜ l ≡ line-of (now (r .entry .text)) (r .entry .at) ⌝ }
 {
     line_at(r.text, r.at)
-}
-
-// A reader is made at a place of the text, and asked. Whoever calls this needs no proof by hand.
-pub fn line_from(text: &[u8], at: usize) -> Line
-    ensures { λ l. ⌜ l ≡ line-of (now (text .entry)) at ⌝ }
-{
-    current(Reader { text, at })
 }
