@@ -1,18 +1,14 @@
 // Reading a chart file: from its bytes to the words of the encoded chart, or the refusal's number and line.
 ghost use mathlib.Core.Path.{_≡_};
-ghost use mathlib.Core.Bool.{true};
-ghost use mathlib.Core.List.{map};
-ghost use Prim.Native.Nat.{ℕ, _<_};
 ghost use lib.ListN.{length};
 ghost use lib.Dec.{ltb};
 ghost use Rattle.semantics.specs.Lists.{is-empty};
-ghost use Rattle.semantics.specs.Text.{lines, fields};
+ghost use Rattle.semantics.specs.Text.{fields};
 ghost use Rattle.semantics.specs.Chart.{Chart};
 ghost use Rattle.semantics.specs.Encoding.{encode};
-ghost use Rattle.semantics.specs.Reading.{So-far, judge, ended, judged, nothing-read, refused-at, bad-byte-line, open-line};
+ghost use Rattle.semantics.specs.Reading.{So-far, judge, ended, refused-at, bad-byte-line, open-line};
 ghost use Rattle.semantics.specs.Outcomes.{refused-by, held-unless, held-by, read-outcome};
-ghost use Rattle.lines.specs.Lines.{line-of, place-after};
-ghost use Rattle.reader.specs.Held.{Few, Rows, Names, Stepped, goes-on, nothing-judged, Came, Stands, Ready};
+ghost use Rattle.reader.specs.Held.{Few, Rows, Names, Stepped, lines-judged, goes-on, nothing-judged, Came, Ready, Advanced};
 
 mod edge;
 mod location;
@@ -108,7 +104,7 @@ fn advance(
     l: lines::Line,
 ) -> Progress
     requires { ⌜ Ready (now text) p l × (length (now table) ≡ 3160) × (length (now names) ≡ 128) ⌝ }
-    ensures { λ r. ⌜ ((at : ℕ) → l ≡ line-of (now (text .entry)) at → p .going ≡ true → Stands (now (text .entry)) at p (now (table .entry)) (now (names .entry)) → Stands (now (text .entry)) (place-after l at) r (now (table .exit)) (now (names .exit)) × (r .going ≡ true → at < length (now (text .entry)))) ⌝ }
+    ensures { λ r. ⌜ Advanced (now (text .entry)) l p (now (table .entry)) (now (names .entry)) r (now (table .exit)) (now (names .exit)) ⌝ }
 {
     let s = p.step;
     let Step::Go(t) = s else {
@@ -167,8 +163,8 @@ fn go_down(text: &[u8], table: &mut [i32], names: &mut [i32]) -> Progress
 // All the lines. The rows are held apart until the last line is judged, so that a refusal has written nothing; they are those of
 // 8 variables, 64 locations and 256 edges at most.
 fn read_lines(text: &[u8], words: &mut [i32]) -> semantics::Answer
-    ensures { λ r. ⌜ r ≡ held-by (judged 1 nothing-read (map fields (lines (now (text .entry))))) (now (words .entry)) .answer ⌝ }
-    ensures { λ _. ⌜ now (words .exit) ≡ held-by (judged 1 nothing-read (map fields (lines (now (text .entry))))) (now (words .entry)) .words ⌝ }
+    ensures { λ r. ⌜ r ≡ held-by (lines-judged (now (text .entry))) (now (words .entry)) .answer ⌝ }
+    ensures { λ _. ⌜ now (words .exit) ≡ held-by (lines-judged (now (text .entry))) (now (words .entry)) .words ⌝ }
 {
     let mut table = [0i32; 3160];
     let mut names = [0i32; 128];
@@ -182,8 +178,8 @@ fn read_lines(text: &[u8], words: &mut [i32]) -> semantics::Answer
 
 // The bytes, then the LF of the last line, then the lines.
 fn read_text(text: &[u8], words: &mut [i32]) -> semantics::Answer
-    ensures { λ r. ⌜ r ≡ held-by (refused-at (bad-byte-line 1 (now (text .entry))) 2 (refused-at (open-line 0 10 (now (text .entry))) 3 (judged 1 nothing-read (map fields (lines (now (text .entry))))))) (now (words .entry)) .answer ⌝ }
-    ensures { λ _. ⌜ now (words .exit) ≡ held-by (refused-at (bad-byte-line 1 (now (text .entry))) 2 (refused-at (open-line 0 10 (now (text .entry))) 3 (judged 1 nothing-read (map fields (lines (now (text .entry))))))) (now (words .entry)) .words ⌝ }
+    ensures { λ r. ⌜ r ≡ held-by (refused-at (bad-byte-line 1 (now (text .entry))) 2 (refused-at (open-line 0 10 (now (text .entry))) 3 (lines-judged (now (text .entry))))) (now (words .entry)) .answer ⌝ }
+    ensures { λ _. ⌜ now (words .exit) ≡ held-by (refused-at (bad-byte-line 1 (now (text .entry))) 2 (refused-at (open-line 0 10 (now (text .entry))) 3 (lines-judged (now (text .entry))))) (now (words .entry)) .words ⌝ }
 {
     match scan::bad_byte(text) {
         scan::Fault::Line(n) => refused(2, n),

@@ -50,7 +50,7 @@ use denote.Signature.{plain}
 use Rattle.lines.specs.Lines.{line-of, place-after}
 use Rattle.lines.specs.declared.Reader.{Reader}
 use Rattle.lines.specs.declared.Line.{Line}
-use Rattle.reader.specs.Held.{nothing-judged, Came, Stands, Ready}
+use Rattle.reader.specs.Held.{nothing-judged, Came, Stands, Ready, Advanced}
 use Rattle.reader.specs.declared.Progress.{Progress}
 use Rattle.reader.proofs.Again.{LentAgain, lends, back}
 use Rattle.reader.proofs.Going.{at-first, ready, turns, fewer}
@@ -268,10 +268,6 @@ module _ {M : Type 1} (𝓤 : URA M) (H : Heap 𝓤) (A : Atoms 𝓤) (W : Given
   abbrev Lasts : Type 0
   Lasts = Unit {0} × (List ℤ × (List ℤ × (Unit {0} × (Unit {0} × Unit {0}))))
 
-  -- what `advance` says
-  abbrev Said : Progress → List ℤ → List ℤ → Line → Progress → List ℤ → List ℤ → Type 0
-  Said p ts ns l r ts′ ns′ = (m : ℕ) → l ≡ line-of (now s) m → p .going ≡ true → Stands (now s) m p ts ns → Stands (now s) (place-after l m) r ts′ ns′ × (r .going ≡ true → m < length (now s))
-
   exits : (p : Progress) → Is Y.the-row p (pv p ∷ []) → (ts ns : List ℤ) → length ts ≡ length ys → length ns ≡ length zs → Came (now s) (p .line) (p .step) ts
       → ent 𝓤 (⋆ 𝓤 H A (Tok ∷ ‵ OwnS ∷ ‵ (OwnT ts) ∷ ‵ (flft κ₁ q₁) ∷ ‵ (OwnN ns) ∷ ‵ (flft κ₂ q₂) ∷ [])) (Post (pv p))
   exits p p-is ts ns et en e =
@@ -297,7 +293,7 @@ module _ {M : Type 1} (𝓤 : URA M) (H : Heap 𝓤) (A : Atoms 𝓤) (W : Given
 
     -- the state after a turn
     next-state : (x : State) → x .p .going ≡ true → (l : Line) → l ≡ line-of (now s) (x .m) → (m′ : ℕ) → m′ ≡ place-after l (x .m) → m′ < 2 ^ 64
-        → (r : Progress) {u : Val} → Is Y.the-row r (u ∷ []) → (ts ns : List ℤ) → length ts ≡ length (x .ts) → length ns ≡ length (x .ns) → Said (x .p) (x .ts) (x .ns) l r ts ns → State
+        → (r : Progress) {u : Val} → Is Y.the-row r (u ∷ []) → (ts ns : List ℤ) → length ts ≡ length (x .ts) → length ns ≡ length (x .ns) → Advanced (now s) l (x .p) (x .ts) (x .ns) r ts ns → State
     next-state x g l el m′ em ok r {u} r-is ts ns et en e = record {
       m = m′;
       p = r;
@@ -310,7 +306,7 @@ module _ {M : Type 1} (𝓤 : URA M) (H : Heap 𝓤) (A : Atoms 𝓤) (W : Given
       stands = rw em (e (x .m) el g (x .stands) .0);
     }
 
-    next-falls : (x : State) → x .p .going ≡ true → (l : Line) → l ≡ line-of (now s) (x .m) → (m′ : ℕ) → m′ ≡ place-after l (x .m) → (r : Progress) (ts ns : List ℤ) → Said (x .p) (x .ts) (x .ns) l r ts ns
+    next-falls : (x : State) → x .p .going ≡ true → (l : Line) → l ≡ line-of (now s) (x .m) → (m′ : ℕ) → m′ ≡ place-after l (x .m) → (r : Progress) (ts ns : List ℤ) → Advanced (now s) l (x .p) (x .ts) (x .ns) r ts ns
         → turns (r .going) (length (now s)) m′ < rank (now s) (length ys) (length zs) x
     next-falls x g l el m′ em r ts ns e = rw (g, em, el) (fewer (now s) (x .m) (r .going) (e (x .m) el g (x .stands) .1))
 
@@ -392,8 +388,8 @@ module _ {M : Type 1} (𝓤 : URA M) (H : Heap 𝓤) (A : Atoms 𝓤) (W : Given
           calls-at-last ! fm (Advance 𝓤 H A at-mem run) known-advance (to-advance (x .p) (x .ts) (x .ns) l u ν₁ ν₂ δ₁ δ₂)
           (and-then ! (load ! (from ! (stop !)) (look ! 21 refl)) (and-then ! (load ! (from ! (stop !)) (look ! 9 refl)) (and-then ! (load ! (from ! (stop !)) (look ! 5 refl)) (and-then ! (load ! (from ! (stop !)) (look ! 29 refl)) (and-then ! (load ! (from ! (stop !)) (look ! 19 refl)) (no-more !)))))) (λ u″.
           use1 W (later (some (λ (r : Progress). (Toks ν₁ ν₂ ⊛ ‵ (Y.the-row .own r (u″ ∷ []))) ⊛ raw (ensured 𝓤 H A advance.ended (advance.clauses 𝓤 H A at-mem run) (ν₁ ∷ [], (ν₂ ∷ [], (κ₀, tt))) (aA (x .p) (x .ts) (x .ns) l δ₁ δ₂) tt r)))) (id⊢ 𝓤 _) $ await ! tt $ pick ! (λ r.
-          split ! $ move ! (1 ∷ []) $ use1 W (some (λ (ws : Lasts). ‵ (lasts advance.ended (ν₁ ∷ [], (ν₂ ∷ [], (κ₀, tt))) (aA (x .p) (x .ts) (x .ns) l δ₁ δ₂) ws) ⊛ raw (fact 𝓤 (Said (x .p) (x .ts) (x .ns) l r (ws .1 .0) (ws .1 .1 .0))))) (id⊢ 𝓤 _) $ pick ! (λ ws.
-          split ! $ move ! (1 ∷ []) $ heard ! (Said (x .p) (x .ts) (x .ns) l r (ws .1 .0) (ws .1 .1 .0)) (λ e. fsplit ! $ drop ! $ fsplit ! $ fsplit ! $ move ! (1 ∷ []) $ feqL ! (λ et. move ! (1 ∷ []) $ fsplit ! $ fsplit ! $ move ! (1 ∷ []) $ feqL ! (λ en. move ! (1 ∷ []) $ drop ! $
+          split ! $ move ! (1 ∷ []) $ use1 W (some (λ (ws : Lasts). ‵ (lasts advance.ended (ν₁ ∷ [], (ν₂ ∷ [], (κ₀, tt))) (aA (x .p) (x .ts) (x .ns) l δ₁ δ₂) ws) ⊛ raw (fact 𝓤 (Advanced (now s) l (x .p) (x .ts) (x .ns) r (ws .1 .0) (ws .1 .1 .0))))) (id⊢ 𝓤 _) $ pick ! (λ ws.
+          split ! $ move ! (1 ∷ []) $ heard ! (Advanced (now s) l (x .p) (x .ts) (x .ns) r (ws .1 .0) (ws .1 .1 .0)) (λ e. fsplit ! $ drop ! $ fsplit ! $ fsplit ! $ move ! (1 ∷ []) $ feqL ! (λ et. move ! (1 ∷ []) $ fsplit ! $ fsplit ! $ move ! (1 ∷ []) $ feqL ! (λ en. move ! (1 ∷ []) $ drop ! $
           -- [the last names; the last table; the tokens and the result; what s owns; what is kept of the names; of the table; what the reader owns; _13; …]
           move ! (2 ∷ []) $ split ! $ move ! (1 ∷ []) $ peeks ! Y.the-row (Is Y.the-row) (shows 𝓤 H A Y.the-row) r (u″ ∷ []) (λ r-is. drop ! $
           -- the two lifetimes are ended, and both slices come back
