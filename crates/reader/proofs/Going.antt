@@ -1,9 +1,10 @@
 -- A line by its kind, and reading goes on by one line. Assumes nothing.
-use mathlib.Core.Path.{_≡_}
-use mathlib.Core.Bool.{true, false}
+use mathlib.Core.Path.{_≡_, refl, _∙_}
+use mathlib.Core.Bool.{Bool, true, false}
 use mathlib.Core.List.{List, map}
-use Prim.Native.Nat.{ℕ, _+_, _-_, _≤_, _<_}
+use Prim.Native.Nat.{ℕ, suc, _+_, _-_, _≤_, _<_}
 use native.Mathlib.Numerals.{add-one}
+use native.Mathlib.Omega.{arith}
 use lib.ListN.{length, take, drop}
 use lib.IntN.{ℤ}
 use Rattle.semantics.specs.Lists.{is-empty}
@@ -11,8 +12,14 @@ use Rattle.semantics.specs.Text.{bytes, same-bytes, lines, fields}
 use Rattle.semantics.specs.Reading.{fail, ok, nth, So-far, nothing-read, var-line, loc-line, edge-line, judge, refused, ended, judged}
 use Rattle.text.specs.Fields.{up-to}
 use Rattle.text.proofs.Lines.{lines-at, lines-done}
-use Rattle.reader.specs.Held.{Few, Rows, Names}
+use Rattle.lines.specs.Lines.{line-of, place-after}
+use Rattle.lines.specs.declared.Line.{Line}
+use Rattle.lines.proofs.Places.{Lies, line-some}
+use Rattle.reader.specs.Held.{Stepped, goes-on, nothing-judged, Along, Through, Goes, Stands-by, Stands, Few-of, Ready}
+use Rattle.reader.specs.declared.Progress.{Progress}
 use Rattle.reader.specs.declared.tally.Tally.{Tally}
+use Rattle.reader.specs.declared.tally.Step.{Step}
+use Rattle.reader.specs.declared.tally.Step.the-variants as step
 
 -- ---- by the kind
 
@@ -50,10 +57,54 @@ pub judged-end : (text : List ℕ) (at n : ℕ) (s : So-far) → length text ≤
 unfolding judged
 judged-end text at n s h = rw (lines-done text at h)
 
--- what the code holds at line n, which begins at `at`: what was read so far
-pub record Along (text : List ℕ) (t : Tally) (table names : List ℤ) (at n : ℕ) : Type 0 where
-  pub read : So-far
-  pub few : Few t
-  pub held : Rows t table (read .chart)
-  pub names-held : Names (t .vars) names (read .names)
-  pub is : judged 1 nothing-read (map fields (lines text)) ≡ judged n read (map fields (lines (drop at text)))
+-- ---- where reading stands
+
+module _ {text : List ℕ} {at line : ℕ} {t : Tally} {table names : List ℤ} (a : Along text at line t table names) where
+  -- the text is at its end
+  pub all-judged : length text ≤ at → Through text t table
+  all-judged h = record { chart = a .read .chart; few = a .few; held = a .held; is = a .is ∙ judged-end text at (line + 1) (a .read) h }
+
+  -- one line more
+  pub line-judged : {start end next : ℕ} → Lies text at start end next → (r : Step) (table′ names′ : List ℤ) → Stepped r (judge (a .read) (fields (take (end - start) (drop start text)))) table′ names′
+      → Stands-by (goes-on r) text next (line + 1) r table′ names′
+  line-judged l (step.Refused k) table′ names′ h = a .is ∙ judged-stop text at _ (line + 1) (a .read) (l .here) (l .ends) (rw (l .begins) at h)
+  line-judged l (step.Go u) table′ names′ h = record {
+    read = h .read;
+    few = h .few;
+    held = h .held;
+    names-held = h .names-held;
+    counted = omega (arith, a .counted, l .ends, l .on);
+    is = rw (l .on) (a .is ∙ judged-on text at _ (line + 1) (a .read) (l .here) (l .ends) (rw (l .begins) at (h .is)));
+  }
+
+pub at-first : (text : List ℕ) (table names : List ℤ) → Stands text 0 nothing-judged table names
+at-first text table names = record {
+  read = nothing-read;
+  few = record { vars = omega arith; locs = omega arith; edges = omega arith };
+  held = record { vars = refl; locs = refl; edges = refl; rows = refl; named = refl };
+  names-held = record { count = refl; rows = refl; named = refl };
+  counted = omega arith;
+  is = refl;
+}
+
+module _ (text : List ℕ) (at : ℕ) (table names : List ℤ) where
+  few-now : (line : ℕ) (s : Step) → Goes text at line s table names → Few-of s
+  few-now line (step.Refused k) h = absurd h
+  few-now line (step.Go t) h = h .few
+
+  counted-now : (line : ℕ) (s : Step) → Goes text at line s table names → line ≤ at
+  counted-now line (step.Refused k) h = absurd h
+  counted-now line (step.Go t) h = h .counted
+
+  -- what `advance` asks
+  pub ready : (p : Progress) (l : Line) → l ≡ line-of text at → p .going ≡ true → Stands text at p table names → Ready text p l
+  ready p l e g h = record { at = at; is = e; few = few-now (p .line) (p .step) (rw g at h); counted = counted-now (p .line) (p .step) (rw g at h) }
+
+-- how many turns are left at most, in a text of n bytes
+abbrev pub turns : Bool → ℕ → ℕ → ℕ
+turns true n at = suc (n - at)
+turns false n at = 0
+
+pub fewer : (text : List ℕ) (at : ℕ) (b : Bool) → (b ≡ true → at < length text) → turns b (length text) (place-after (line-of text at) at) < turns true (length text) at
+fewer text at false h = omega arith
+fewer text at true h = rw (line-some text at (h refl) refl) (omega (arith, h refl))

@@ -7,3 +7,4 @@ pub mod Holding
 pub mod Wording
 pub mod Reading
 pub mod Going
+pub mod Again

@@ -1,16 +1,19 @@
 -- What was read so far as the code holds it: counts, the table of rows, and the names of the variables. Assumes nothing.
 use mathlib.Core.Path.{_≡_}
-use mathlib.Core.Bool.{true}
-use mathlib.Core.List.{List, [], _∷_, _++_}
-use Prim.Native.Nat.{ℕ, _+_, _*_, _≤_}
-use lib.ListN.{length, take}
+use mathlib.Core.Bool.{Bool, true, false}
+use mathlib.Core.List.{List, [], _∷_, _++_, map}
+use Prim.Native.Nat.{ℕ, _+_, _*_, _≤_, _<_}
+use lib.ListN.{length, take, drop}
 use lib.IntN.{ℤ}
-use Rattle.semantics.specs.Lists.{all, each}
-use Rattle.semantics.specs.Text.{name-ok}
+use Rattle.semantics.specs.Lists.{all, each, is-empty}
+use Rattle.semantics.specs.Text.{name-ok, lines, fields}
 use Rattle.semantics.specs.Chart.{Chart}
 use Rattle.semantics.specs.Encoding.{var-words, loc-words, edge-words}
-use Rattle.semantics.specs.Reading.{Res, fail, ok, So-far}
+use Rattle.semantics.specs.Reading.{Res, fail, ok, So-far, Reading, nothing-read, refused, ended, judged}
+use Rattle.lines.specs.Lines.{line-of, place-after}
+use Rattle.lines.specs.declared.Line.{Line}
 use Rattle.reader.specs.Rows.{name-row}
+use Rattle.reader.specs.declared.Progress.{Progress}
 use Rattle.reader.specs.declared.tally.Tally.{Tally}
 use Rattle.reader.specs.declared.tally.Step.{Step}
 use Rattle.reader.specs.declared.tally.Step.the-variants as step
@@ -59,3 +62,66 @@ pub record Gone (r : Res So-far) (t : Tally) (table names : List ℤ) : Type 0 w
 abbrev pub Stepped : Step → Res So-far → List ℤ → List ℤ → Type 0
 Stepped (step.Refused k) r table names = r ≡ fail k
 Stepped (step.Go t) r table names = Gone r t table names
+
+-- ---- "The reader goes down the chart file line by line" (document 01, The chart file)
+
+-- what the lines of a text come to
+abbrev pub lines-judged : List ℕ → Reading
+lines-judged text = judged 1 nothing-read (map fields (lines text))
+
+abbrev pub goes-on : Step → Bool
+goes-on (step.Refused k) = false
+goes-on (step.Go t) = true
+
+-- before the first line
+abbrev pub nothing-judged : Progress
+nothing-judged = record { going = true; line = 0; step = step.Go (record { vars = 0; locs = 0; edges = 0 }) }
+
+-- so many lines are judged, and the reader is at the place `at`: what was read so far, and what is left
+pub record Along (text : List ℕ) (at line : ℕ) (t : Tally) (table names : List ℤ) : Type 0 where
+  pub read : So-far
+  pub few : Few t
+  pub held : Rows t table (read .chart)
+  pub names-held : Names (t .vars) names (read .names)
+  pub counted : line ≤ at
+  pub is : lines-judged text ≡ judged (line + 1) read (map fields (lines (drop at text)))
+
+-- all the lines are judged
+pub record Through (text : List ℕ) (t : Tally) (table : List ℤ) : Type 0 where
+  pub chart : Chart
+  pub few : Few t
+  pub held : Rows t table chart
+  pub is : lines-judged text ≡ ended (is-empty (chart .locs)) chart
+
+-- reading goes on after a line, which was not refused
+abbrev pub Goes : List ℕ → ℕ → ℕ → Step → List ℤ → List ℤ → Type 0
+Goes text at line (step.Refused k) table names = ⊥
+Goes text at line (step.Go t) table names = Along text at line t table names
+
+-- reading is over: the last line was refused, or there is no other
+abbrev pub Came : List ℕ → ℕ → Step → List ℤ → Type 0
+Came text line (step.Refused k) table = lines-judged text ≡ refused k line
+Came text line (step.Go t) table = Through text t table
+
+abbrev pub Stands-by : Bool → List ℕ → ℕ → ℕ → Step → List ℤ → List ℤ → Type 0
+Stands-by true text at line s table names = Goes text at line s table names
+Stands-by false text at line s table names = Came text line s table
+
+-- where reading stands, with the reader at the place `at`
+abbrev pub Stands : List ℕ → ℕ → Progress → List ℤ → List ℤ → Type 0
+Stands text at p table names = Stands-by (p .going) text at (p .line) (p .step) table names
+
+abbrev pub Few-of : Step → Type 0
+Few-of (step.Refused k) = Unit {0}
+Few-of (step.Go t) = Few t
+
+-- what it takes to judge l: it is a line of the text, and the counts are those of lines before it
+pub record Ready (text : List ℕ) (p : Progress) (l : Line) : Type 0 where
+  pub at : ℕ
+  pub is : l ≡ line-of text at
+  pub few : Few-of (p .step)
+  pub counted : p .line ≤ at
+
+-- by the line l reading goes from p to r, and comes to no other line where there is none
+abbrev pub Advanced : List ℕ → Line → Progress → List ℤ → List ℤ → Progress → List ℤ → List ℤ → Type 0
+Advanced text l p table names r table′ names′ = (at : ℕ) → l ≡ line-of text at → p .going ≡ true → Stands text at p table names → Stands text (place-after l at) r table′ names′ × (r .going ≡ true → at < length text)

@@ -1,15 +1,14 @@
 // Reading a chart file: from its bytes to the words of the encoded chart, or the refusal's number and line.
 ghost use mathlib.Core.Path.{_≡_};
-ghost use mathlib.Core.List.{map};
 ghost use lib.ListN.{length};
 ghost use lib.Dec.{ltb};
 ghost use Rattle.semantics.specs.Lists.{is-empty};
-ghost use Rattle.semantics.specs.Text.{lines, fields};
+ghost use Rattle.semantics.specs.Text.{fields};
 ghost use Rattle.semantics.specs.Chart.{Chart};
 ghost use Rattle.semantics.specs.Encoding.{encode};
-ghost use Rattle.semantics.specs.Reading.{So-far, judge, ended, judged, nothing-read, refused-at, bad-byte-line, open-line};
+ghost use Rattle.semantics.specs.Reading.{So-far, judge, ended, refused-at, bad-byte-line, open-line};
 ghost use Rattle.semantics.specs.Outcomes.{refused-by, held-unless, held-by, read-outcome};
-ghost use Rattle.reader.specs.Held.{Few, Rows, Names, Stepped};
+ghost use Rattle.reader.specs.Held.{Few, Rows, Names, Stepped, lines-judged, goes-on, nothing-judged, Came, Ready, Advanced};
 
 mod edge;
 mod location;
@@ -80,41 +79,102 @@ fn step(t: Tally, table: &mut [i32], names: &mut [i32], line: &[u8]) -> Step
     Step::Refused(4)
 }
 
-// The lines, one by one. The rows are held apart until the last line is judged, so that a refusal has written nothing; they
-// are those of 8 variables, 64 locations and 256 edges at most.
+// Where reading stands: whether it goes on, the lines judged so far, and what the last of them came to.
+struct Progress {
+    going: bool,
+    line: usize,
+    step: Step,
+}
+
+fn goes(s: Step) -> bool
+    ensures { λ r. ⌜ r ≡ goes-on s ⌝ }
+{
+    match s {
+        Step::Refused(_) => false,
+        Step::Go(_) => true,
+    }
+}
+
+// One line more; or the text is at its end.
+fn advance(
+    p: Progress,
+    table: &mut [i32],
+    names: &mut [i32],
+    text: &[u8],
+    l: lines::Line,
+) -> Progress
+    requires { ⌜ Ready (now text) p l × (length (now table) ≡ 3160) × (length (now names) ≡ 128) ⌝ }
+    ensures { λ r. ⌜ Advanced (now (text .entry)) l p (now (table .entry)) (now (names .entry)) r (now (table .exit)) (now (names .exit)) ⌝ }
+{
+    let s = p.step;
+    let Step::Go(t) = s else {
+        return p;
+    };
+    let lines::Line::Text { start, end, .. } = l else {
+        return Progress {
+            going: false,
+            line: p.line,
+            step: s,
+        };
+    };
+    let after = step(t, table, names, &text[start..end]);
+    Progress {
+        going: goes(after),
+        line: p.line + 1,
+        step: after,
+    }
+}
+
+// Before the first line.
+fn begun() -> Progress
+    ensures { λ r. ⌜ r ≡ nothing-judged ⌝ }
+{
+    Progress {
+        going: true,
+        line: 0,
+        step: Step::Go(Tally {
+            vars: 0,
+            locs: 0,
+            edges: 0,
+        }),
+    }
+}
+
+// The reader goes down the text line by line, and each line is judged. Proved by hand: the reader lies in a local.
+fn go_down(text: &[u8], table: &mut [i32], names: &mut [i32]) -> Progress
+    requires { ⌜ (length (now table) ≡ 3160) × (length (now names) ≡ 128) ⌝ }
+    ensures { λ r. ⌜ Came (now (text .entry)) (r .line) (r .step) (now (table .exit)) ⌝ }
+{
+    let mut r = lines::open(text);
+    let mut p = begun();
+    while p.going {
+        let l = lines::current(r);
+        r.at = lines::place_after(l, r.at);
+        p = advance(p, table, names, text, l);
+    }
+    p
+}
+
+// All the lines. The rows are held apart until the last line is judged, so that a refusal has written nothing; they are those of
+// 8 variables, 64 locations and 256 edges at most.
 fn read_lines(text: &[u8], words: &mut [i32]) -> semantics::Answer
-    ensures { λ r. ⌜ r ≡ held-by (judged 1 nothing-read (map fields (lines (now (text .entry))))) (now (words .entry)) .answer ⌝ }
-    ensures { λ _. ⌜ now (words .exit) ≡ held-by (judged 1 nothing-read (map fields (lines (now (text .entry))))) (now (words .entry)) .words ⌝ }
+    ensures { λ r. ⌜ r ≡ held-by (lines-judged (now (text .entry))) (now (words .entry)) .answer ⌝ }
+    ensures { λ _. ⌜ now (words .exit) ≡ held-by (lines-judged (now (text .entry))) (now (words .entry)) .words ⌝ }
 {
     let mut table = [0i32; 3160];
     let mut names = [0i32; 128];
-    let mut t = Tally {
-        vars: 0,
-        locs: 0,
-        edges: 0,
-    };
-    let mut at = 0;
-    let mut n = 1;
-    while at < text.len() {
-        let end = text::line_end(text, at);
-        match step(t, &mut table, &mut names, &text[at..end]) {
-            Step::Refused(k) => {
-                return refused(k, n);
-            }
-            Step::Go(next) => {
-                t = next;
-            }
-        }
-        at = end + 1;
-        n += 1;
+    let p = go_down(text, &mut table, &mut names);
+    let s = p.step;
+    match s {
+        Step::Refused(k) => refused(k, p.line),
+        Step::Go(t) => finish(t, &table, words),
     }
-    finish(t, &table, words)
 }
 
 // The bytes, then the LF of the last line, then the lines.
 fn read_text(text: &[u8], words: &mut [i32]) -> semantics::Answer
-    ensures { λ r. ⌜ r ≡ held-by (refused-at (bad-byte-line 1 (now (text .entry))) 2 (refused-at (open-line 0 10 (now (text .entry))) 3 (judged 1 nothing-read (map fields (lines (now (text .entry))))))) (now (words .entry)) .answer ⌝ }
-    ensures { λ _. ⌜ now (words .exit) ≡ held-by (refused-at (bad-byte-line 1 (now (text .entry))) 2 (refused-at (open-line 0 10 (now (text .entry))) 3 (judged 1 nothing-read (map fields (lines (now (text .entry))))))) (now (words .entry)) .words ⌝ }
+    ensures { λ r. ⌜ r ≡ held-by (refused-at (bad-byte-line 1 (now (text .entry))) 2 (refused-at (open-line 0 10 (now (text .entry))) 3 (lines-judged (now (text .entry))))) (now (words .entry)) .answer ⌝ }
+    ensures { λ _. ⌜ now (words .exit) ≡ held-by (refused-at (bad-byte-line 1 (now (text .entry))) 2 (refused-at (open-line 0 10 (now (text .entry))) 3 (lines-judged (now (text .entry))))) (now (words .entry)) .words ⌝ }
 {
     match scan::bad_byte(text) {
         scan::Fault::Line(n) => refused(2, n),

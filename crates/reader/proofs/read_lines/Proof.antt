@@ -1,140 +1,65 @@
 -- `reader::read_lines` meets its contract. Assumes nothing.
-use mathlib.Core.Path.{_≡_, refl, sym, ap, _∙_}
-use Prim.Native.Nat.{_+_, _-_, _≤_}
-use native.Mathlib.Omega.{arith}
-use lib.ListN.{length}
+use mathlib.Core.Path.{_≡_, sym, ap, _∙_}
 use denote.Ref.{now}
 use borrow.Author.Needs.{needs}
 use Rattle.semantics.specs.Outcomes.{held-by}
-use Rattle.semantics.specs.Reading.{Reading, nothing-read}
-use Rattle.reader.proofs.Going.{Along, judged-stop, judged-on, judged-end}
+use Rattle.semantics.specs.Reading.{Reading, refused}
+use Rattle.reader.specs.Held.{Through, lines-judged}
 use Rattle.reader.proofs.read_lines.Statement.{statement}
 use Rattle.reader.proofs.read_lines.Tie as tie
 
-abbrev Inv-loop : tie.InvT-loop
-Inv-loop text words table₀ names₀ t₀ at₀ n₀ table names t at n = (at ≤ length text + 1) × (n ≤ at + 1) × (length table ≡ 3160) × (length names ≡ 128) × Along text t table names at n
+slice-aggregate-go-down : tie.Need-slice-aggregate-go-down
+slice-aggregate-go-down c = search needs
 
-abbrev μ-loop : tie.MeasureT-loop
-μ-loop text words table₀ names₀ t₀ at₀ n₀ table names t at n = length text - at
+slice-aggregate-go-down-2 : tie.Need-slice-aggregate-go-down-2
+slice-aggregate-go-down-2 c = search needs
 
-loop-holds : tie.Need-loop-holds Inv-loop μ-loop
-loop-holds c = (
-  omega arith,
-  omega arith,
-  refl,
-  refl,
-  record {
-    read = nothing-read;
-    few = record { vars = omega arith; locs = omega arith; edges = omega arith };
-    held = record { vars = refl; locs = refl; edges = refl; rows = refl; named = refl };
-    names-held = record { count = refl; rows = refl; named = refl };
-    is = refl;
-  },
-)
+go-down-requires : tie.Need-go-down-requires
+go-down-requires c κs = search needs
 
-line-end-requires : tie.Need-line-end-requires Inv-loop μ-loop
-line-end-requires c κs = search needs
+enum-known-s : tie.Need-enum-known-s
+enum-known-s c = search needs
 
-slice-aggregate-step : tie.Need-slice-aggregate-step Inv-loop μ-loop
-slice-aggregate-step c = search needs
-
-slice-aggregate-step-2 : tie.Need-slice-aggregate-step-2 Inv-loop μ-loop
-slice-aggregate-step-2 c = search needs
-
-sub-step : tie.Need-sub-step Inv-loop μ-loop
-sub-step c = c .before .before .line-end .ensures .after
-
-part-step-start : tie.Need-part-step-start Inv-loop μ-loop
-part-step-start c = c .before .before .line-end .ensures .after
-
-part-step-end : tie.Need-part-step-end Inv-loop μ-loop
-part-step-end c = omega (arith, c .before .before .line-end .ensures .within, c .before .before .before .loop-test .taken)
-
-step-requires : tie.Need-step-requires Inv-loop μ-loop
-step-requires c κs = let l = c .before .before .before .before .before .loop .inv in (l .4 .few, l .2, l .3)
-
-enum-known-k : tie.Need-enum-known-k Inv-loop μ-loop
-enum-known-k c = search needs
-
-refused-requires : tie.Need-refused-requires Inv-loop μ-loop
+refused-requires : tie.Need-refused-requires
 refused-requires c κs = search needs
 
-returns : tie.Need-returns Inv-loop μ-loop
-returns c = let l = c .before .before .before .before .before .before .before .before .before .before .before .before .loop in
-    let a = l .inv .4 in
-    let w = now (c .before .before .before .before .before .before .before .before .before .before .before .before .before .before .args .words) in
-    let q = a .is ∙ judged-stop _ _ _ _ _ (c .before .before .before .before .before .before .before .before .before .before .before .loop-test .taken) (c .before .before .before .before .before .before .before .before .before .before .line-end .ensures .is) (rw (c .before .before .k .given .1) at (c .before .before .before .before .before .before .step .ensures (a .read) (a .held) (a .names-held))) in
-    (c .refused .ensures ∙ ap (λ (o : Reading). held-by o w .answer) (sym q), ap (λ (o : Reading). held-by o w .words) (sym q))
+enum-known-s-2 : tie.Need-enum-known-s-2
+enum-known-s-2 c = search needs
 
-enum-known-next : tie.Need-enum-known-next Inv-loop μ-loop
-enum-known-next c = search needs
-
-add-at : tie.Need-add-at Inv-loop μ-loop
-add-at c = omega (arith, c .before .before .before .before .before .before .before .before .before .line-end .ensures .within, c .before .before .before .before .before .before .before .before .before .before .loop-test .taken)
-
-add-n : tie.Need-add-n Inv-loop μ-loop
-add-n c = omega (arith, c .before .before .before .before .before .before .before .before .before .before .loop-test .taken, c .before .before .before .before .before .before .before .before .before .before .before .loop .inv .1)
-
-loop-less : tie.Need-loop-less Inv-loop μ-loop
-loop-less c = omega (arith, c .before .before .before .before .before .before .before .before .before .line-end .ensures .after, c .before .before .before .before .before .before .before .before .before .before .loop-test .taken)
-
-loop-again : tie.Need-loop-again Inv-loop μ-loop
-loop-again c = let l = c .before .before .before .before .before .before .before .before .before .before .before .loop in
-    let a = l .inv .4 in
-    let f = c .before .before .before .before .before .before .before .before .before .line-end .ensures in
-    let g = rw (c .before .next .given .1) at (c .before .before .before .before .before .step .ensures (a .read) (a .held) (a .names-held)) in (
-      omega (arith, f .within, c .before .before .before .before .before .before .before .before .before .before .loop-test .taken),
-      omega (arith, f .after, l .inv .1),
-      c .before .before .before .before .before .step .kept .1 .0 ∙ l .inv .2,
-      c .before .before .before .before .before .step .kept .1 .1 .0 ∙ l .inv .3,
-      record {
-        read = g .read;
-        few = g .few;
-        held = g .held;
-        names-held = g .names-held;
-        is = a .is ∙ judged-on _ _ _ _ _ (c .before .before .before .before .before .before .before .before .before .before .loop-test .taken) (f .is) (g .is);
-      },
-    )
-
-slice-aggregate-finish : tie.Need-slice-aggregate-finish Inv-loop μ-loop
+slice-aggregate-finish : tie.Need-slice-aggregate-finish
 slice-aggregate-finish c = search needs
 
-finish-requires : tie.Need-finish-requires Inv-loop μ-loop
-finish-requires c κs = let l = c .before .before .before .loop .inv in (l .4 .few, l .2)
+through : (c : tie.After-s2) → Through (now (c .before .before .before .before .before .before .before .before .args .text)) (c .s2 .given .0 .0) (c .before .before .before .before .go-down .last .1 .0)
+through c = rw (c .s2 .given .1) at (c .before .before .before .before .go-down .ensures)
 
-same-length : tie.Need-same-length Inv-loop μ-loop
+finish-requires : tie.Need-finish-requires
+finish-requires c κs = (through (c .before .before .before) .few, c .before .before .before .before .before .before .before .go-down .kept .1 .0)
+
+returns : tie.Need-returns
+returns c = let w = now (c .before .before .before .before .before .before .before .before .before .before .args .words) in
+    let q : lines-judged (now (c .before .before .before .before .before .before .before .before .before .before .args .text)) ≡ refused (c .before .before .s .given .0 .0) (c .before .before .before .before .before .before .go-down .result .line) = rw (c .before .before .s .given .1) at (c .before .before .before .before .before .before .go-down .ensures) in
+    (c .refused .ensures ∙ ap (λ (o : Reading). held-by o w .answer) (sym q), ap (λ (o : Reading). held-by o w .words) (sym q))
+
+same-length : tie.Need-same-length
 same-length c = search needs
 
-returns-2 : tie.Need-returns-2 Inv-loop μ-loop
-returns-2 c = let a = c .before .before .before .before .before .loop .inv .4 in
-    let w = now (c .before .before .before .before .before .before .before .args .words) in
-    let q = a .is ∙ judged-end _ _ _ _ (c .before .before .before .before .loop-test .left) in
-    let d = a .read .chart in
-    (c .before .finish .ensures .0 d (a .held) ∙ ap (λ (o : Reading). held-by o w .answer) (sym q), c .before .finish .ensures .1 d (a .held) ∙ ap (λ (o : Reading). held-by o w .words) (sym q))
+returns-2 : tie.Need-returns-2
+returns-2 c = let h = through (c .before .before .before .before .before) in
+    let w = now (c .before .before .before .before .before .before .before .before .before .before .before .before .before .args .words) in
+    (c .before .finish .ensures .0 (h .chart) (h .held) ∙ ap (λ (o : Reading). held-by o w .answer) (sym (h .is)), c .before .finish .ensures .1 (h .chart) (h .held) ∙ ap (λ (o : Reading). held-by o w .words) (sym (h .is)))
 
 pub read-lines-spec : {M : Type 1} → statement M
 read-lines-spec =
     tie.close
     (tie.spec
-    Inv-loop
-    μ-loop
-    loop-holds
-    line-end-requires
-    slice-aggregate-step
-    slice-aggregate-step-2
-    sub-step
-    part-step-start
-    part-step-end
-    step-requires
-    enum-known-k
+    slice-aggregate-go-down
+    slice-aggregate-go-down-2
+    go-down-requires
+    enum-known-s
     refused-requires
-    returns
-    enum-known-next
-    add-at
-    add-n
-    loop-less
-    loop-again
+    enum-known-s-2
     slice-aggregate-finish
     finish-requires
+    returns
     same-length
     returns-2)
