@@ -8,14 +8,8 @@ use Rattle.lines.proofs.line_at.Tie as tie
 returns : tie.Need-returns
 returns c = sym (line-none _ _ (c .if1 .taken))
 
-line-end-requires : tie.Need-line-end-requires
-line-end-requires c κs = search needs
-
-add-t4 : tie.Need-add-t4
-add-t4 c = search needs
-
 returns-2 : tie.Need-returns-2
 returns-2 c = sym (line-some _ _ (c .before .if1 .left) (c .line-end .ensures .is))
 
 pub line-at-spec : {M : Type 1} → statement M
-line-at-spec = tie.close (tie.spec returns line-end-requires add-t4 returns-2)
+line-at-spec = tie.close (tie.spec returns (λ c κs. search needs) (λ c. search needs) returns-2)

@@ -10,20 +10,8 @@ use Rattle.reader.proofs.Going.{all-judged, line-judged}
 use Rattle.reader.proofs.advance.Statement.{statement}
 use Rattle.reader.proofs.advance.Tie as tie
 
-enum-known-s : tie.Need-enum-known-s
-enum-known-s c = search needs
-
-enum-told : tie.Need-enum-told
-enum-told c = search needs
-
 returns : tie.Need-returns
 returns c = λ at e g h. absurd (rw (g, c .enum-told .given .1) at h)
-
-enum-known-l : tie.Need-enum-known-l
-enum-known-l c = search needs
-
-enum-told-2 : tie.Need-enum-told-2
-enum-told-2 c = search needs
 
 returns-2 : tie.Need-returns-2
 returns-2 c = λ at e g h. (all-judged (rw (g, c .before .before .before .s .given .1) at h) (no-line _ _ (sym e ∙ c .enum-told2 .given .1)), λ z. let y : _≡_ {A = ℕ} 0 1 = cc in omega arith)
@@ -44,17 +32,8 @@ part-step-end c = lies (c .before .before .before) .within
 step-requires : tie.Need-step-requires
 step-requires c κs = let r = c .before .before .before .before .before .before .before .before .before .before .pre in (rw (c .before .before .before .before .before .before .before .s .given .1) at (r .0 .few), r .1, r .2)
 
-goes-requires : tie.Need-goes-requires
-goes-requires c κs = search needs
-
 add-t16 : tie.Need-add-t16
 add-t16 c = omega (arith, lies (c .before .before .before .before .before .before .before .before .before) .here, c .before .before .before .before .before .before .before .before .before .before .before .before .before .before .before .pre .0 .counted)
-
-same-length : tie.Need-same-length
-same-length c = search needs
-
-same-length-2 : tie.Need-same-length-2
-same-length-2 c = search needs
 
 returns-3 : tie.Need-returns-3
 returns-3 c = λ at e g h.
@@ -66,18 +45,18 @@ pub advance-spec : {M : Type 1} → statement M
 advance-spec =
     tie.close
     (tie.spec
-    enum-known-s
-    enum-told
+    (λ c. search needs)
+    (λ c. search needs)
     returns
-    enum-known-l
-    enum-told-2
+    (λ c. search needs)
+    (λ c. search needs)
     returns-2
     sub-step
     part-step-start
     part-step-end
     step-requires
-    goes-requires
+    (λ c κs. search needs)
     add-t16
-    same-length
-    same-length-2
+    (λ c. search needs)
+    (λ c. search needs)
     returns-3)

@@ -14,35 +14,11 @@ use Rattle.reader.proofs.Holding.{encode-length, held-words, too-few, e
 use Rattle.reader.proofs.hold.Statement.{statement}
 use Rattle.reader.proofs.hold.Tie as tie
 
-used-requires : tie.Need-used-requires
-used-requires c κs = search needs
-
-add-if1 : tie.Need-add-if1
-add-if1 c = search needs
-
-refused-requires : tie.Need-refused-requires
-refused-requires c κs = search needs
-
 returns : tie.Need-returns
 returns c = let a = c .before .before .before .args in (
   λ d h. rw (too-few d (now (a .words)) (omega (arith, encode-length h (omega arith)))) (c .refused .ensures),
   λ d h. rw (too-few d (now (a .words)) (omega (arith, encode-length h (omega arith)))),
 )
-
-cast-t9 : tie.Need-cast-t9
-cast-t9 c = search needs
-
-cast-t10 : tie.Need-cast-t10
-cast-t10 c = search needs
-
-cast-t11 : tie.Need-cast-t11
-cast-t11 c = search needs
-
-slice-aggregate-push-row : tie.Need-slice-aggregate-push-row
-slice-aggregate-push-row c = search needs
-
-push-row-requires : tie.Need-push-row-requires
-push-row-requires c κs = search needs
 
 slice-aggregate-push-row-2 : tie.Need-slice-aggregate-push-row-2
 slice-aggregate-push-row-2 c = sym (length-take-le (c .before .before .before .before .before .before .before .before .before .before .used .result) (now (c .before .before .before .before .before .before .before .before .before .before .before .args .table)) (omega arith))
@@ -52,12 +28,6 @@ push-row-requires-2 c κs = let n : length (take (c .before .before .before .bef
     let k : length (c .before .before .before .push-row .last .0) ≡ length (now (c .before .before .before .before .before .before .before .before .before .before .before .args .words)) = c .before .before .before .push-row .kept .0 in
     let g : 3 + length (take (c .before .before .before .before .before .before .before .before .before .before .used .result) (now (c .before .before .before .before .before .before .before .before .before .before .before .args .table))) ≤ length (c .before .before .before .push-row .last .0) = omega (arith, c .before .before .before .before .before .before .before .before .before .if1 .left) in
     g
-
-refused-requires-2 : tie.Need-refused-requires-2
-refused-requires-2 c κs = search needs
-
-same-length : tie.Need-same-length
-same-length c = search needs
 
 returns-2 : tie.Need-returns-2
 returns-2 c = let a = c .before .before .before .before .before .before .before .before .before .before .before .before .before .before .args in
@@ -73,17 +43,17 @@ pub hold-spec : {M : Type 1} → statement M
 hold-spec =
     tie.close
     (tie.spec
-    used-requires
-    add-if1
-    refused-requires
+    (λ c κs. search needs)
+    (λ c. search needs)
+    (λ c κs. search needs)
     returns
-    cast-t9
-    cast-t10
-    cast-t11
-    slice-aggregate-push-row
-    push-row-requires
+    (λ c. search needs)
+    (λ c. search needs)
+    (λ c. search needs)
+    (λ c. search needs)
+    (λ c κs. search needs)
     slice-aggregate-push-row-2
     push-row-requires-2
-    refused-requires-2
-    same-length
+    (λ c κs. search needs)
+    (λ c. search needs)
     returns-2)

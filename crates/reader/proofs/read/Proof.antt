@@ -6,19 +6,10 @@ use Rattle.semantics.specs.Reading.{read}
 use Rattle.reader.proofs.read.Statement.{statement}
 use Rattle.reader.proofs.read.Tie as tie
 
-refused-requires : tie.Need-refused-requires
-refused-requires c κs = search needs
-
 returns : tie.Need-returns
 unfolding read read-outcome
 returns c = let e = lt-ltb _ _ (c .before .if1 .taken) in
     (rw e (c .refused .ensures), rw e)
-
-read-text-requires : tie.Need-read-text-requires
-read-text-requires c κs = search needs
-
-same-length : tie.Need-same-length
-same-length c = search needs
 
 returns-2 : tie.Need-returns-2
 unfolding read read-outcome
@@ -26,4 +17,4 @@ returns-2 c = let e = le-ltb _ _ (c .before .before .before .if1 .left) in
     (rw e (c .before .read-text .ensures .0), rw e (c .before .read-text .ensures .1))
 
 pub read-spec : {M : Type 1} → statement M
-read-spec = tie.close (tie.spec refused-requires returns read-text-requires same-length returns-2)
+read-spec = tie.close (tie.spec (λ c κs. search needs) returns (λ c κs. search needs) (λ c. search needs) returns-2)

@@ -8,27 +8,6 @@ use Rattle.reader.specs.Held.{Through, lines-judged}
 use Rattle.reader.proofs.read_lines.Statement.{statement}
 use Rattle.reader.proofs.read_lines.Tie as tie
 
-slice-aggregate-go-down : tie.Need-slice-aggregate-go-down
-slice-aggregate-go-down c = search needs
-
-slice-aggregate-go-down-2 : tie.Need-slice-aggregate-go-down-2
-slice-aggregate-go-down-2 c = search needs
-
-go-down-requires : tie.Need-go-down-requires
-go-down-requires c κs = search needs
-
-enum-known-s : tie.Need-enum-known-s
-enum-known-s c = search needs
-
-refused-requires : tie.Need-refused-requires
-refused-requires c κs = search needs
-
-enum-known-s-2 : tie.Need-enum-known-s-2
-enum-known-s-2 c = search needs
-
-slice-aggregate-finish : tie.Need-slice-aggregate-finish
-slice-aggregate-finish c = search needs
-
 through : (c : tie.After-s2) → Through (now (c .before .before .before .before .before .before .before .before .args .text)) (c .s2 .given .0 .0) (c .before .before .before .before .go-down .last .1 .0)
 through c = rw (c .s2 .given .1) at (c .before .before .before .before .go-down .ensures)
 
@@ -40,9 +19,6 @@ returns c = let w = now (c .before .before .before .before .before .before .befo
     let q : lines-judged (now (c .before .before .before .before .before .before .before .before .before .before .args .text)) ≡ refused (c .before .before .s .given .0 .0) (c .before .before .before .before .before .before .go-down .result .line) = rw (c .before .before .s .given .1) at (c .before .before .before .before .before .before .go-down .ensures) in
     (c .refused .ensures ∙ ap (λ (o : Reading). held-by o w .answer) (sym q), ap (λ (o : Reading). held-by o w .words) (sym q))
 
-same-length : tie.Need-same-length
-same-length c = search needs
-
 returns-2 : tie.Need-returns-2
 returns-2 c = let h = through (c .before .before .before .before .before) in
     let w = now (c .before .before .before .before .before .before .before .before .before .before .before .before .before .args .words) in
@@ -52,14 +28,14 @@ pub read-lines-spec : {M : Type 1} → statement M
 read-lines-spec =
     tie.close
     (tie.spec
-    slice-aggregate-go-down
-    slice-aggregate-go-down-2
-    go-down-requires
-    enum-known-s
-    refused-requires
-    enum-known-s-2
-    slice-aggregate-finish
+    (λ c. search needs)
+    (λ c. search needs)
+    (λ c κs. search needs)
+    (λ c. search needs)
+    (λ c κs. search needs)
+    (λ c. search needs)
+    (λ c. search needs)
     finish-requires
     returns
-    same-length
+    (λ c. search needs)
     returns-2)

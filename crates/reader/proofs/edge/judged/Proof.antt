@@ -11,18 +11,6 @@ use Rattle.reader.proofs.Judging.{then-fail, then-ok, location-below}
 use Rattle.reader.proofs.edge.judged.Statement.{statement}
 use Rattle.reader.proofs.edge.judged.Tie as tie
 
-field-requires : tie.Need-field-requires
-field-requires c κs = search needs
-
-location-field-requires : tie.Need-location-field-requires
-location-field-requires c κs = search needs
-
-enum-known-k : tie.Need-enum-known-k
-enum-known-k c = search needs
-
-enum-known-from : tie.Need-enum-known-from
-enum-known-from c = search needs
-
 with-from-requires : tie.Need-with-from-requires
 unfolding indexRes
 with-from-requires c κs = let a = c .before .before .before .before .before .before .args in
@@ -42,10 +30,10 @@ pub judged-spec : {M : Type 1} → statement M
 judged-spec =
     tie.close
     (tie.spec
-    field-requires
-    location-field-requires
-    enum-known-k
-    enum-known-from
+    (λ c κs. search needs)
+    (λ c κs. search needs)
+    (λ c. search needs)
+    (λ c. search needs)
     with-from-requires
     returns
     returns-2)

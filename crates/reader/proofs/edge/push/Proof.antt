@@ -6,18 +6,6 @@ use borrow.Author.Needs.{needs}
 use Rattle.reader.proofs.edge.push.Statement.{statement}
 use Rattle.reader.proofs.edge.push.Tie as tie
 
-used-requires : tie.Need-used-requires
-used-requires c κs = search needs
-
-slice-aggregate-push-row : tie.Need-slice-aggregate-push-row
-slice-aggregate-push-row c = search needs
-
-push-row-requires : tie.Need-push-row-requires
-push-row-requires c κs = search needs
-
-same-length : tie.Need-same-length
-same-length c = search needs
-
 returns : tie.Need-returns
 returns c = let g = c .before .before .before .before .before .before .before .before .args .g in
     let o = g .op in
@@ -34,4 +22,4 @@ returns c = let g = c .before .before .before .before .before .before .before .b
 pub push-spec : {M : Type 1} → statement M
 push-spec =
     tie.close
-    (tie.spec used-requires slice-aggregate-push-row push-row-requires same-length returns)
+    (tie.spec (λ c κs. search needs) (λ c. search needs) (λ c κs. search needs) (λ c. search needs) returns)

@@ -13,30 +13,12 @@ use Rattle.reader.proofs.edge.read_line.Tie as tie
 returns : tie.Need-returns
 returns c = λ s names h g. edge-full s _ (omega (arith, h .edges))
 
-enough-requires : tie.Need-enough-requires
-enough-requires c κs = search needs
-
 returns-2 : tie.Need-returns-2
 returns-2 c = λ s names h g. edge-short s _ (omega (arith, h .edges)) (sym (c .before .enough .ensures) ∙ not-true _ (c .if2 .taken))
-
-field-requires : tie.Need-field-requires
-field-requires c κs = search needs
-
-op-word-field-requires : tie.Need-op-word-field-requires
-op-word-field-requires c κs = search needs
-
-enum-known-w : tie.Need-enum-known-w
-enum-known-w c = search needs
-
-worded-requires : tie.Need-worded-requires
-worded-requires c κs = search needs
 
 returns-3 : tie.Need-returns-3
 unfolding opWordRes
 returns-3 c = λ s names h g. edge-no-word s _ (omega (arith, h .edges)) (sym (c .before .before .before .before .before .before .enough .ensures) ∙ not-false _ (c .before .before .before .before .before .if2 .left)) (ap op-word-field (sym (c .before .before .before .before .field .ensures)) ∙ sym (c .before .before .before .op-word-field .ensures) ∙ ap opWordRes (c .before .w .given .1))
-
-same-length : tie.Need-same-length
-same-length c = search needs
 
 returns-4 : tie.Need-returns-4
 returns-4 c = λ s names h g.
@@ -48,12 +30,12 @@ read-line-spec =
     tie.close
     (tie.spec
     returns
-    enough-requires
+    (λ c κs. search needs)
     returns-2
-    field-requires
-    op-word-field-requires
-    enum-known-w
-    worded-requires
+    (λ c κs. search needs)
+    (λ c κs. search needs)
+    (λ c. search needs)
+    (λ c κs. search needs)
     returns-3
-    same-length
+    (λ c. search needs)
     returns-4)

@@ -11,21 +11,6 @@ use Rattle.reader.proofs.Judging.{then-fail, then-ok, location-below}
 use Rattle.reader.proofs.edge.with_from.Statement.{statement}
 use Rattle.reader.proofs.edge.with_from.Tie as tie
 
-field-requires : tie.Need-field-requires
-field-requires c κs = search needs
-
-location-field-requires : tie.Need-location-field-requires
-location-field-requires c κs = search needs
-
-enum-known-k : tie.Need-enum-known-k
-enum-known-k c = search needs
-
-enum-known-to : tie.Need-enum-known-to
-enum-known-to c = search needs
-
-read-requires : tie.Need-read-requires
-read-requires c κs = search needs
-
 with-op-requires : tie.Need-with-op-requires
 unfolding indexRes
 with-op-requires c κs = let a = c .before .before .before .before .before .before .before .args in
@@ -46,11 +31,11 @@ pub with-from-spec : {M : Type 1} → statement M
 with-from-spec =
     tie.close
     (tie.spec
-    field-requires
-    location-field-requires
-    enum-known-k
-    enum-known-to
-    read-requires
+    (λ c κs. search needs)
+    (λ c κs. search needs)
+    (λ c. search needs)
+    (λ c. search needs)
+    (λ c κs. search needs)
     with-op-requires
     returns
     returns-2)

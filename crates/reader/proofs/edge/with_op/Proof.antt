@@ -8,18 +8,6 @@ use Rattle.reader.proofs.Judging.{then-fail, then-ok}
 use Rattle.reader.proofs.edge.with_op.Statement.{statement}
 use Rattle.reader.proofs.edge.with_op.Tie as tie
 
-enum-known-op : tie.Need-enum-known-op
-enum-known-op c = search needs
-
-enum-known-op-2 : tie.Need-enum-known-op-2
-enum-known-op-2 c = search needs
-
-index-word-requires : tie.Need-index-word-requires
-index-word-requires c κs = search needs
-
-index-word-requires-2 : tie.Need-index-word-requires-2
-index-word-requires-2 c κs = search needs
-
 returns : tie.Need-returns
 unfolding op-res edge-res
 returns c = sym (then-fail _ (ap op-res (c .before .op .given .1)))
@@ -34,9 +22,9 @@ pub with-op-spec : {M : Type 1} → statement M
 with-op-spec =
     tie.close
     (tie.spec
-    enum-known-op
-    enum-known-op-2
-    index-word-requires
-    index-word-requires-2
+    (λ c. search needs)
+    (λ c. search needs)
+    (λ c κs. search needs)
+    (λ c κs. search needs)
     returns
     returns-2)

@@ -11,41 +11,14 @@ use Rattle.reader.proofs.Judging.{check-no, check-yes, then-fail, then-
 use Rattle.reader.proofs.edge.worded.Statement.{statement}
 use Rattle.reader.proofs.edge.worded.Tie as tie
 
-field-count-requires : tie.Need-field-count-requires
-field-count-requires c κs = search needs
-
-field-count-requires-2 : tie.Need-field-count-requires-2
-field-count-requires-2 c κs = search needs
-
 returns : tie.Need-returns
 returns c = λ s names h g. check-no _ _ (ne-eqb _ _ (λ e. c .if1 .taken (c .before .before .field-count .ensures ∙ e ∙ sym (c .before .field-count2 .ensures))))
-
-judged-requires : tie.Need-judged-requires
-judged-requires c κs = search needs
-
-enum-known-k : tie.Need-enum-known-k
-enum-known-k c = search needs
-
-enum-known-g : tie.Need-enum-known-g
-enum-known-g c = search needs
-
-push-requires : tie.Need-push-requires
-push-requires c κs = search needs
-
-add-t17 : tie.Need-add-t17
-add-t17 c = search needs
-
-same-length : tie.Need-same-length
-same-length c = search needs
 
 returns-2 : tie.Need-returns-2
 unfolding edge-res
 returns-2 c = λ s names h g.
     check-yes _ _ (eq-eqb _ _ (sym (c .before .before .before .before .before .before .before .field-count .ensures) ∙ c .before .before .before .before .before .if1 .left ∙ c .before .before .before .before .before .before .field-count2 .ensures))
     ∙ then-fail _ (edge-fail _ (sym (edges-held h _ _) ∙ sym (c .before .before .before .judged .ensures) ∙ ap edge-res (c .before .k .given .1)))
-
-same-length-2 : tie.Need-same-length-2
-same-length-2 c = search needs
 
 returns-3 : tie.Need-returns-3
 unfolding edge-res
@@ -63,15 +36,15 @@ pub worded-spec : {M : Type 1} → statement M
 worded-spec =
     tie.close
     (tie.spec
-    field-count-requires
-    field-count-requires-2
+    (λ c κs. search needs)
+    (λ c κs. search needs)
     returns
-    judged-requires
-    enum-known-k
-    enum-known-g
-    push-requires
-    add-t17
-    same-length
+    (λ c κs. search needs)
+    (λ c. search needs)
+    (λ c. search needs)
+    (λ c κs. search needs)
+    (λ c. search needs)
+    (λ c. search needs)
     returns-2
-    same-length-2
+    (λ c. search needs)
     returns-3)

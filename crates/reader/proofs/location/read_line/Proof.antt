@@ -17,29 +17,11 @@ returns c = λ s names h g. loc-late s _ (some-list (s .chart .edges) (omega (ar
 returns-2 : tie.Need-returns-2
 returns-2 c = λ s names h g. loc-full s _ (none-empty-list (s .chart .edges) (omega (arith, h .edges, c .before .before .if1 .left))) (omega (arith, h .locs, c .if2 .taken))
 
-judged-requires : tie.Need-judged-requires
-judged-requires c κs = search needs
-
-enum-known-k : tie.Need-enum-known-k
-enum-known-k c = search needs
-
-enum-known-error : tie.Need-enum-known-error
-enum-known-error c = search needs
-
-field-requires : tie.Need-field-requires
-field-requires c κs = search needs
-
-named-requires : tie.Need-named-requires
-named-requires c κs = search needs
-
 returns-3 : tie.Need-returns-3
 unfolding flagRes
 returns-3 c = λ s names h g.
     loc-read s _ (none-empty-list (s .chart .edges) (omega (arith, h .edges, c .before .before .before .before .before .before .if1 .left))) (omega (arith, h .locs, c .before .before .before .before .if2 .left))
     ∙ then-fail _ (sym (c .before .before .before .judged .ensures) ∙ ap flagRes (c .before .k .given .1))
-
-same-length : tie.Need-same-length
-same-length c = search needs
 
 returns-4 : tie.Need-returns-4
 unfolding flagRes
@@ -56,11 +38,11 @@ read-line-spec =
     (tie.spec
     returns
     returns-2
-    judged-requires
-    enum-known-k
-    enum-known-error
-    field-requires
-    named-requires
+    (λ c κs. search needs)
+    (λ c. search needs)
+    (λ c. search needs)
+    (λ c κs. search needs)
+    (λ c κs. search needs)
     returns-3
-    same-length
+    (λ c. search needs)
     returns-4)

@@ -7,42 +7,6 @@ use Rattle.reader.proofs.Wording.{skip-said}
 use Rattle.reader.proofs.operation.after_target.Statement.{statement}
 use Rattle.reader.proofs.operation.after_target.Tie as tie
 
-enum-told : tie.Need-enum-told
-enum-told c = search needs
-
-field-requires : tie.Need-field-requires
-field-requires c κs = search needs
-
-one-argument-requires : tie.Need-one-argument-requires
-one-argument-requires c κs = search needs
-
-enum-told-2 : tie.Need-enum-told-2
-enum-told-2 c = search needs
-
-two-arguments-requires : tie.Need-two-arguments-requires
-two-arguments-requires c κs = search needs
-
-enum-told-3 : tie.Need-enum-told-3
-enum-told-3 c = search needs
-
-two-arguments-requires-2 : tie.Need-two-arguments-requires-2
-two-arguments-requires-2 c κs = search needs
-
-enum-told-4 : tie.Need-enum-told-4
-enum-told-4 c = search needs
-
-bounds-requires : tie.Need-bounds-requires
-bounds-requires c κs = search needs
-
-enum-told-5 : tie.Need-enum-told-5
-enum-told-5 c = search needs
-
-condition-requires : tie.Need-condition-requires
-condition-requires c κs = search needs
-
-unchanged-requires : tie.Need-unchanged-requires
-unchanged-requires c κs = search needs
-
 returns : tie.Need-returns
 unfolding the-word after-target
 returns c = rw (c .before .before .enum-told .given .1) (c .one-argument .ensures ∙ rw (c .before .field .ensures))
@@ -71,18 +35,18 @@ pub after-target-spec : {M : Type 1} → statement M
 after-target-spec =
     tie.close
     (tie.spec
-    enum-told
-    field-requires
-    one-argument-requires
-    enum-told-2
-    two-arguments-requires
-    enum-told-3
-    two-arguments-requires-2
-    enum-told-4
-    bounds-requires
-    enum-told-5
-    condition-requires
-    unchanged-requires
+    (λ c. search needs)
+    (λ c κs. search needs)
+    (λ c κs. search needs)
+    (λ c. search needs)
+    (λ c κs. search needs)
+    (λ c. search needs)
+    (λ c κs. search needs)
+    (λ c. search needs)
+    (λ c κs. search needs)
+    (λ c. search needs)
+    (λ c κs. search needs)
+    (λ c κs. search needs)
     returns
     returns-2
     returns-3

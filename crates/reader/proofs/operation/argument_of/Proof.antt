@@ -13,18 +13,6 @@ use Rattle.reader.proofs.Judging.{then-fail, then-ok, operand-below}
 use Rattle.reader.proofs.operation.argument_of.Statement.{statement}
 use Rattle.reader.proofs.operation.argument_of.Tie as tie
 
-operand-field-requires : tie.Need-operand-field-requires
-operand-field-requires c κs = search needs
-
-enum-known-k : tie.Need-enum-known-k
-enum-known-k c = search needs
-
-enum-known-z : tie.Need-enum-known-z
-enum-known-z c = search needs
-
-enum-known-v : tie.Need-enum-known-v
-enum-known-v c = search needs
-
 index-word-requires : tie.Need-index-word-requires
 unfolding operandRes
 index-word-requires c κs = let a = c .before .before .before .before .before .args in
@@ -51,10 +39,10 @@ pub argument-of-spec : {M : Type 1} → statement M
 argument-of-spec =
     tie.close
     (tie.spec
-    operand-field-requires
-    enum-known-k
-    enum-known-z
-    enum-known-v
+    (λ c κs. search needs)
+    (λ c. search needs)
+    (λ c. search needs)
+    (λ c. search needs)
     index-word-requires
     returns
     returns-2

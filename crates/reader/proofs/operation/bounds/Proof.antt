@@ -10,27 +10,6 @@ use Rattle.reader.proofs.Judging.{then-fail, then-ok, check-no, check-y
 use Rattle.reader.proofs.operation.bounds.Statement.{statement}
 use Rattle.reader.proofs.operation.bounds.Tie as tie
 
-field-requires : tie.Need-field-requires
-field-requires c κs = search needs
-
-number-field-requires : tie.Need-number-field-requires
-number-field-requires c κs = search needs
-
-enum-known-k : tie.Need-enum-known-k
-enum-known-k c = search needs
-
-enum-known-p : tie.Need-enum-known-p
-enum-known-p c = search needs
-
-in-range-requires : tie.Need-in-range-requires
-in-range-requires c κs = search needs
-
-field-requires-2 : tie.Need-field-requires-2
-field-requires-2 c κs = search needs
-
-high-requires : tie.Need-high-requires
-high-requires c κs = search needs
-
 returns : tie.Need-returns
 unfolding wordRes
 returns c = let z = c .before .before .before .before .before .p .given .0 .0 in
@@ -53,13 +32,13 @@ pub bounds-spec : {M : Type 1} → statement M
 bounds-spec =
     tie.close
     (tie.spec
-    field-requires
-    number-field-requires
-    enum-known-k
-    enum-known-p
-    in-range-requires
-    field-requires-2
-    high-requires
+    (λ c κs. search needs)
+    (λ c κs. search needs)
+    (λ c. search needs)
+    (λ c. search needs)
+    (λ c κs. search needs)
+    (λ c κs. search needs)
+    (λ c κs. search needs)
     returns
     returns-2
     returns-3)

@@ -11,24 +11,6 @@ use Rattle.reader.proofs.Judging.{then-fail, then-ok}
 use Rattle.reader.proofs.operation.condition.Statement.{statement}
 use Rattle.reader.proofs.operation.condition.Tie as tie
 
-field-requires : tie.Need-field-requires
-field-requires c κs = search needs
-
-rel-field-requires : tie.Need-rel-field-requires
-rel-field-requires c κs = search needs
-
-enum-known-r : tie.Need-enum-known-r
-enum-known-r c = search needs
-
-code-of-requires : tie.Need-code-of-requires
-code-of-requires c κs = search needs
-
-field-requires-2 : tie.Need-field-requires-2
-field-requires-2 c κs = search needs
-
-one-argument-requires : tie.Need-one-argument-requires
-one-argument-requires c κs = search needs
-
 returns : tie.Need-returns
 unfolding op-res relRes
 returns c = sym (then-fail _ (ap rel-field (sym (c .before .before .before .before .field .ensures)) ∙ sym (c .before .before .before .rel-field .ensures) ∙ ap relRes (c .before .r .given .1)))
@@ -42,11 +24,11 @@ pub condition-spec : {M : Type 1} → statement M
 condition-spec =
     tie.close
     (tie.spec
-    field-requires
-    rel-field-requires
-    enum-known-r
-    code-of-requires
-    field-requires-2
-    one-argument-requires
+    (λ c κs. search needs)
+    (λ c κs. search needs)
+    (λ c. search needs)
+    (λ c κs. search needs)
+    (λ c κs. search needs)
+    (λ c κs. search needs)
     returns
     returns-2)

@@ -9,21 +9,6 @@ use Rattle.reader.proofs.Judging.{then-fail, then-ok, check-no, check-y
 use Rattle.reader.proofs.operation.high.Statement.{statement}
 use Rattle.reader.proofs.operation.high.Tie as tie
 
-number-field-requires : tie.Need-number-field-requires
-number-field-requires c κs = search needs
-
-enum-known-k : tie.Need-enum-known-k
-enum-known-k c = search needs
-
-enum-known-q : tie.Need-enum-known-q
-enum-known-q c = search needs
-
-up-to-requires : tie.Need-up-to-requires
-up-to-requires c κs = search needs
-
-index-word-requires : tie.Need-index-word-requires
-index-word-requires c κs = search needs
-
 returns : tie.Need-returns
 unfolding op-res wordRes
 returns c = let a = c .before .before .before .before .before .before .before .before .args in
@@ -49,11 +34,11 @@ pub high-spec : {M : Type 1} → statement M
 high-spec =
     tie.close
     (tie.spec
-    number-field-requires
-    enum-known-k
-    enum-known-q
-    up-to-requires
-    index-word-requires
+    (λ c κs. search needs)
+    (λ c. search needs)
+    (λ c. search needs)
+    (λ c κs. search needs)
+    (λ c κs. search needs)
     returns
     returns-2
     returns-3)

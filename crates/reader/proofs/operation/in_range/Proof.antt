@@ -6,21 +6,6 @@ use borrow.Author.Needs.{needs}
 use Rattle.reader.proofs.operation.in_range.Statement.{statement}
 use Rattle.reader.proofs.operation.in_range.Tie as tie
 
-mul-at : tie.Need-mul-at
-mul-at c = search needs
-
-word-at-requires : tie.Need-word-at-requires
-word-at-requires c κs = search needs
-
-add-word-at : tie.Need-add-word-at
-add-word-at c = search needs
-
-word-at-requires-2 : tie.Need-word-at-requires-2
-word-at-requires-2 c κs = search needs
-
-between-requires : tie.Need-between-requires
-between-requires c κs = search needs
-
 returns : tie.Need-returns
 returns c = let b = c .before .before in
     let p : toZ w32 (ofZ w32 (b .word-at .result)) ≡ b .word-at .result = search needs in
@@ -31,4 +16,4 @@ returns c = let b = c .before .before in
 pub in-range-spec : {M : Type 1} → statement M
 in-range-spec =
     tie.close
-    (tie.spec mul-at word-at-requires add-word-at word-at-requires-2 between-requires returns)
+    (tie.spec (λ c. search needs) (λ c κs. search needs) (λ c. search needs) (λ c κs. search needs) (λ c κs. search needs) returns)

@@ -6,11 +6,8 @@ use borrow.Author.Needs.{needs}
 use Rattle.reader.proofs.operation.index_word.Statement.{statement}
 use Rattle.reader.proofs.operation.index_word.Tie as tie
 
-cast-result : tie.Need-cast-result
-cast-result c = search needs
-
 returns : tie.Need-returns
 returns c = toZ-pos w32 (omega arith)
 
 pub index-word-spec : {M : Type 1} → statement M
-index-word-spec = tie.close (tie.spec cast-result returns)
+index-word-spec = tie.close (tie.spec (λ c. search needs) returns)

@@ -8,18 +8,6 @@ use Rattle.reader.proofs.Reading.{one-fail, one-ok}
 use Rattle.reader.proofs.operation.one_argument.Statement.{statement}
 use Rattle.reader.proofs.operation.one_argument.Tie as tie
 
-argument-of-requires : tie.Need-argument-of-requires
-argument-of-requires c κs = search needs
-
-enum-known-k : tie.Need-enum-known-k
-enum-known-k c = search needs
-
-enum-known-t : tie.Need-enum-known-t
-enum-known-t c = search needs
-
-index-word-requires : tie.Need-index-word-requires
-index-word-requires c κs = search needs
-
 returns : tie.Need-returns
 unfolding op-res argument-res
 returns c = sym (one-fail _ _ _ (sym (c .before .before .before .argument-of .ensures) ∙ ap argument-res (c .before .k .given .1)))
@@ -36,4 +24,4 @@ returns-2 c = let a = c .before .before .before .before .before .before .args in
 pub one-argument-spec : {M : Type 1} → statement M
 one-argument-spec =
     tie.close
-    (tie.spec argument-of-requires enum-known-k enum-known-t index-word-requires returns returns-2)
+    (tie.spec (λ c κs. search needs) (λ c. search needs) (λ c. search needs) (λ c κs. search needs) returns returns-2)

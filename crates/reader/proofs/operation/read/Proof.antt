@@ -9,21 +9,6 @@ use Rattle.reader.proofs.Wording.{target-said}
 use Rattle.reader.proofs.operation.read.Statement.{statement}
 use Rattle.reader.proofs.operation.read.Tie as tie
 
-enum-told : tie.Need-enum-told
-enum-told c = search needs
-
-unchanged-requires : tie.Need-unchanged-requires
-unchanged-requires c κs = search needs
-
-enum-told-2 : tie.Need-enum-told-2
-enum-told-2 c = search needs
-
-unchanged-requires-2 : tie.Need-unchanged-requires-2
-unchanged-requires-2 c κs = search needs
-
-targeted-requires : tie.Need-targeted-requires
-targeted-requires c κs = search needs
-
 returns : tie.Need-returns
 unfolding the-word op-read
 returns c = rw (c .before .enum-told .given .1) (c .unchanged .ensures)
@@ -40,11 +25,11 @@ pub read-spec : {M : Type 1} → statement M
 read-spec =
     tie.close
     (tie.spec
-    enum-told
-    unchanged-requires
-    enum-told-2
-    unchanged-requires-2
-    targeted-requires
+    (λ c. search needs)
+    (λ c κs. search needs)
+    (λ c. search needs)
+    (λ c κs. search needs)
+    (λ c κs. search needs)
     returns
     returns-2
     returns-3)

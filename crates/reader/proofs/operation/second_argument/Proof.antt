@@ -8,18 +8,6 @@ use Rattle.reader.proofs.Reading.{second-fail, second-ok}
 use Rattle.reader.proofs.operation.second_argument.Statement.{statement}
 use Rattle.reader.proofs.operation.second_argument.Tie as tie
 
-argument-of-requires : tie.Need-argument-of-requires
-argument-of-requires c κs = search needs
-
-enum-known-k : tie.Need-enum-known-k
-enum-known-k c = search needs
-
-enum-known-u : tie.Need-enum-known-u
-enum-known-u c = search needs
-
-index-word-requires : tie.Need-index-word-requires
-index-word-requires c κs = search needs
-
 returns : tie.Need-returns
 unfolding op-res argument-res
 returns c = sym (second-fail _ _ _ _ _ (sym (c .before .before .before .argument-of .ensures) ∙ ap argument-res (c .before .k .given .1)))
@@ -38,4 +26,4 @@ returns-2 c = let a = c .before .before .before .before .before .before .args in
 pub second-argument-spec : {M : Type 1} → statement M
 second-argument-spec =
     tie.close
-    (tie.spec argument-of-requires enum-known-k enum-known-u index-word-requires returns returns-2)
+    (tie.spec (λ c κs. search needs) (λ c. search needs) (λ c. search needs) (λ c κs. search needs) returns returns-2)

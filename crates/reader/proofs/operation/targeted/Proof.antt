@@ -11,18 +11,6 @@ use Rattle.reader.proofs.Judging.{then-fail, then-ok, target-below}
 use Rattle.reader.proofs.operation.targeted.Statement.{statement}
 use Rattle.reader.proofs.operation.targeted.Tie as tie
 
-field-requires : tie.Need-field-requires
-field-requires c κs = search needs
-
-target-field-requires : tie.Need-target-field-requires
-target-field-requires c κs = search needs
-
-enum-known-k : tie.Need-enum-known-k
-enum-known-k c = search needs
-
-enum-known-v : tie.Need-enum-known-v
-enum-known-v c = search needs
-
 after-target-requires : tie.Need-after-target-requires
 unfolding indexRes
 after-target-requires c κs = let a = c .before .before .before .before .before .before .args in
@@ -42,10 +30,10 @@ pub targeted-spec : {M : Type 1} → statement M
 targeted-spec =
     tie.close
     (tie.spec
-    field-requires
-    target-field-requires
-    enum-known-k
-    enum-known-v
+    (λ c κs. search needs)
+    (λ c κs. search needs)
+    (λ c. search needs)
+    (λ c. search needs)
     after-target-requires
     returns
     returns-2)

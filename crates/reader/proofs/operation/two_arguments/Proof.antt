@@ -12,24 +12,6 @@ use Rattle.reader.proofs.Reading.{two-fail, two-ok}
 use Rattle.reader.proofs.operation.two_arguments.Statement.{statement}
 use Rattle.reader.proofs.operation.two_arguments.Tie as tie
 
-field-requires : tie.Need-field-requires
-field-requires c κs = search needs
-
-argument-of-requires : tie.Need-argument-of-requires
-argument-of-requires c κs = search needs
-
-enum-known-k : tie.Need-enum-known-k
-enum-known-k c = search needs
-
-enum-known-t : tie.Need-enum-known-t
-enum-known-t c = search needs
-
-field-requires-2 : tie.Need-field-requires-2
-field-requires-2 c κs = search needs
-
-second-argument-requires : tie.Need-second-argument-requires
-second-argument-requires c κs = search needs
-
 returns : tie.Need-returns
 unfolding op-res argument-res
 returns c = let a = c .before .before .before .before .before .before .args in
@@ -48,11 +30,11 @@ pub two-arguments-spec : {M : Type 1} → statement M
 two-arguments-spec =
     tie.close
     (tie.spec
-    field-requires
-    argument-of-requires
-    enum-known-k
-    enum-known-t
-    field-requires-2
-    second-argument-requires
+    (λ c κs. search needs)
+    (λ c κs. search needs)
+    (λ c. search needs)
+    (λ c. search needs)
+    (λ c κs. search needs)
+    (λ c κs. search needs)
     returns
     returns-2)

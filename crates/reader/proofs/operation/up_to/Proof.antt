@@ -6,9 +6,6 @@ use borrow.Author.Needs.{needs}
 use Rattle.reader.proofs.operation.up_to.Statement.{statement}
 use Rattle.reader.proofs.operation.up_to.Tie as tie
 
-in-range-requires : tie.Need-in-range-requires
-in-range-requires c κs = search needs
-
 returns : tie.Need-returns
 returns c = let a = c .before .args in
     let p : toZ w32 (ofZ w32 (a .p)) ≡ a .p = search needs in
@@ -16,4 +13,4 @@ returns c = let a = c .before .args in
     rw (c .in-range .ensures, p, q)
 
 pub up-to-spec : {M : Type 1} → statement M
-up-to-spec = tie.close (tie.spec in-range-requires returns)
+up-to-spec = tie.close (tie.spec (λ c κs. search needs) returns)

@@ -10,9 +10,6 @@ use borrow.Author.Needs.{needs}
 use Rattle.reader.proofs.rows.byte_at.Statement.{statement}
 use Rattle.reader.proofs.rows.byte_at.Tie as tie
 
-shared-slice-read-result : tie.Need-shared-slice-read-result
-shared-slice-read-result c = search needs
-
 cast-result : tie.Need-cast-result
 cast-result c = record { sfits = omega (arith, c .shared-slice-known .given (c .before .before .args .i)) }
 
@@ -23,4 +20,4 @@ returns-2 : tie.Need-returns-2
 returns-2 c = ap pos (sym (List·getD-eq-default (now (c .before .args .name)) 0 (c .if1 .left)))
 
 pub byte-at-spec : {M : Type 1} → statement M
-byte-at-spec = tie.close (tie.spec shared-slice-read-result cast-result returns returns-2)
+byte-at-spec = tie.close (tie.spec (λ c. search needs) cast-result returns returns-2)

@@ -24,30 +24,12 @@ abbrev μ-loop : tie.MeasureT-loop
 loop-holds : tie.Need-loop-holds Inv-loop μ-loop
 loop-holds c = (omega arith, refl, rw sub-zero)
 
-byte-at-requires : tie.Need-byte-at-requires Inv-loop μ-loop
-byte-at-requires c κs = search needs
-
-mul-t4 : tie.Need-mul-t4 Inv-loop μ-loop
-mul-t4 c = search needs
-
-slice-set-from-row : tie.Need-slice-set-from-row Inv-loop μ-loop
-slice-set-from-row c = search needs
-
-add-i : tie.Need-add-i Inv-loop μ-loop
-add-i c = search needs
-
-loop-less : tie.Need-loop-less Inv-loop μ-loop
-loop-less c = search needs
-
 loop-again : tie.Need-loop-again Inv-loop μ-loop
 loop-again c = let l = c .before .before in
     let a = l .before .before .args in
     let r = c .byte-at .result in
     let q : toZ w32 (ofZ w32 r) ≡ pos (getD (now (a .name)) (l .loop .i) 0) = (search needs) ∙ c .byte-at .ensures in
     (omega arith, simp length-set (l .loop .inv .1), rw q (name-turn _ _ _ _ (c .before .loop-test .taken) (l .loop .inv .1) ∙ l .loop .inv .2))
-
-same-length : tie.Need-same-length Inv-loop μ-loop
-same-length c = search needs
 
 returns : tie.Need-returns Inv-loop μ-loop
 returns c = let l = c .before in sym (sym (l .loop .inv .2) ∙ name-end _ _ _ _ (l .loop .inv .0) (c .loop-test .left) (l .loop .inv .1))
@@ -59,11 +41,11 @@ fill-name-spec =
     Inv-loop
     μ-loop
     loop-holds
-    byte-at-requires
-    mul-t4
-    slice-set-from-row
-    add-i
-    loop-less
+    (λ c κs. search needs)
+    (λ c. search needs)
+    (λ c. search needs)
+    (λ c. search needs)
+    (λ c. search needs)
     loop-again
-    same-length
+    (λ c. search needs)
     returns)

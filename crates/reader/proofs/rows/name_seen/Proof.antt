@@ -19,21 +19,9 @@ abbrev μ-loop : tie.MeasureT-loop
 loop-holds : tie.Need-loop-holds Inv-loop μ-loop
 loop-holds c = (omega arith, refl)
 
-same-name-requires : tie.Need-same-name-requires Inv-loop μ-loop
-same-name-requires c κs = search needs
-
 returns : tie.Need-returns Inv-loop μ-loop
 returns c = let l = c .before .before .before in let a = l .before .before .args in
     sym (l .loop .inv .1 ∙ seen-here (a .stride) (now (a .rows)) (l .loop .at) (now (a .name)) (l .loop .left) (c .before .before .loop-test .taken) (sym (c .before .same-name .ensures) ∙ c .if1 .taken))
-
-add-at : tie.Need-add-at Inv-loop μ-loop
-add-at c = search needs
-
-sub-left : tie.Need-sub-left Inv-loop μ-loop
-sub-left c = search needs
-
-loop-less : tie.Need-loop-less Inv-loop μ-loop
-loop-less c = search needs
 
 loop-again : tie.Need-loop-again Inv-loop μ-loop
 loop-again c = (omega arith, c .before .before .before .loop .inv .1 ∙ seen-next _ _ _ _ _ (c .before .before .loop-test .taken) (sym (c .before .same-name .ensures) ∙ c .if1 .left))
@@ -49,10 +37,10 @@ name-seen-spec =
     Inv-loop
     μ-loop
     loop-holds
-    same-name-requires
+    (λ c κs. search needs)
     returns
-    add-at
-    sub-left
-    loop-less
+    (λ c. search needs)
+    (λ c. search needs)
+    (λ c. search needs)
     loop-again
     returns-2)

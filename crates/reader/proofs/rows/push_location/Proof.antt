@@ -12,24 +12,6 @@ use Rattle.reader.proofs.Storing.{stored-then}
 use Rattle.reader.proofs.rows.push_location.Statement.{statement}
 use Rattle.reader.proofs.rows.push_location.Tie as tie
 
-kind-word-requires : tie.Need-kind-word-requires
-kind-word-requires c κs = search needs
-
-slice-aggregate-push-row : tie.Need-slice-aggregate-push-row
-slice-aggregate-push-row c = search needs
-
-push-row-requires : tie.Need-push-row-requires
-push-row-requires c κs = search needs
-
-add-push-name : tie.Need-add-push-name
-add-push-name c = search needs
-
-push-name-requires : tie.Need-push-name-requires
-push-name-requires c κs = search needs
-
-same-length : tie.Need-same-length
-same-length c = search needs
-
 returns : tie.Need-returns
 returns c = let a = c .before .before .before .before .before .before .before .before .before .args in
     let r = c .before .before .before .before .before .before .before .kind-word .result in
@@ -40,10 +22,10 @@ pub push-location-spec : {M : Type 1} → statement M
 push-location-spec =
     tie.close
     (tie.spec
-    kind-word-requires
-    slice-aggregate-push-row
-    push-row-requires
-    add-push-name
-    push-name-requires
-    same-length
+    (λ c κs. search needs)
+    (λ c. search needs)
+    (λ c κs. search needs)
+    (λ c. search needs)
+    (λ c κs. search needs)
+    (λ c. search needs)
     returns)

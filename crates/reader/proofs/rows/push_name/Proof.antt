@@ -9,27 +9,6 @@ use Rattle.reader.specs.Rows.{name-row, stored}
 use Rattle.reader.proofs.rows.push_name.Statement.{statement}
 use Rattle.reader.proofs.rows.push_name.Tie as tie
 
-add-end : tie.Need-add-end
-add-end c = search needs
-
-mul-fill-name : tie.Need-mul-fill-name
-mul-fill-name c = search needs
-
-sub-fill-name : tie.Need-sub-fill-name
-sub-fill-name c = search needs
-
-part-fill-name-start : tie.Need-part-fill-name-start
-part-fill-name-start c = search needs
-
-part-fill-name-end : tie.Need-part-fill-name-end
-part-fill-name-end c = search needs
-
-fill-name-requires : tie.Need-fill-name-requires
-fill-name-requires c κs = search needs
-
-same-length : tie.Need-same-length
-same-length c = search needs
-
 returns : tie.Need-returns
 unfolding stored name-row
 returns c = let a = c .before .before .before .before .args in
@@ -40,11 +19,11 @@ pub push-name-spec : {M : Type 1} → statement M
 push-name-spec =
     tie.close
     (tie.spec
-    add-end
-    mul-fill-name
-    sub-fill-name
-    part-fill-name-start
-    part-fill-name-end
-    fill-name-requires
-    same-length
+    (λ c. search needs)
+    (λ c. search needs)
+    (λ c. search needs)
+    (λ c. search needs)
+    (λ c. search needs)
+    (λ c κs. search needs)
+    (λ c. search needs)
     returns)

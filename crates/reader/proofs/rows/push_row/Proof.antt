@@ -5,26 +5,8 @@ use Rattle.reader.specs.Rows.{stored}
 use Rattle.reader.proofs.rows.push_row.Statement.{statement}
 use Rattle.reader.proofs.rows.push_row.Tie as tie
 
-add-end : tie.Need-add-end
-add-end c = search needs
-
-mul-copy-words : tie.Need-mul-copy-words
-mul-copy-words c = search needs
-
-sub-copy-words : tie.Need-sub-copy-words
-sub-copy-words c = search needs
-
-part-copy-words-start : tie.Need-part-copy-words-start
-part-copy-words-start c = search needs
-
-part-copy-words-end : tie.Need-part-copy-words-end
-part-copy-words-end c = search needs
-
 copy-words-requires : tie.Need-copy-words-requires
 copy-words-requires c κs = rw span (part-length _ _ _ (c .before .pre))
-
-same-length : tie.Need-same-length
-same-length c = search needs
 
 returns : tie.Need-returns
 unfolding stored
@@ -34,11 +16,11 @@ pub push-row-spec : {M : Type 1} → statement M
 push-row-spec =
     tie.close
     (tie.spec
-    add-end
-    mul-copy-words
-    sub-copy-words
-    part-copy-words-start
-    part-copy-words-end
+    (λ c. search needs)
+    (λ c. search needs)
+    (λ c. search needs)
+    (λ c. search needs)
+    (λ c. search needs)
     copy-words-requires
-    same-length
+    (λ c. search needs)
     returns)

@@ -23,25 +23,10 @@ abbrev μ-loop : tie.MeasureT-loop
 loop-holds : tie.Need-loop-holds Inv-loop μ-loop
 loop-holds c = (omega arith, omega arith, refl)
 
-shared-slice-read-b : tie.Need-shared-slice-read-b Inv-loop μ-loop
-shared-slice-read-b c = search needs
-
-byte-ok-requires : tie.Need-byte-ok-requires Inv-loop μ-loop
-byte-ok-requires c κs = search needs
-
 returns : tie.Need-returns Inv-loop μ-loop
 unfolding fault-line
 returns c = let k = c .before .before .before in
     sym (k .before .loop .inv .2 ∙ bad-stop _ _ _ (k .loop-test .taken) (sym (c .before .byte-ok .ensures) ∙ not-true _ (c .if1 .taken)))
-
-line-after-requires : tie.Need-line-after-requires Inv-loop μ-loop
-line-after-requires c κs = search needs
-
-add-i : tie.Need-add-i Inv-loop μ-loop
-add-i c = search needs
-
-loop-less : tie.Need-loop-less Inv-loop μ-loop
-loop-less c = search needs
 
 loop-again : tie.Need-loop-again Inv-loop μ-loop
 loop-again c = let k = c .before .before .before .before in
@@ -61,11 +46,11 @@ bad-byte-spec =
     Inv-loop
     μ-loop
     loop-holds
-    shared-slice-read-b
-    byte-ok-requires
+    (λ c. search needs)
+    (λ c κs. search needs)
     returns
-    line-after-requires
-    add-i
-    loop-less
+    (λ c κs. search needs)
+    (λ c. search needs)
+    (λ c. search needs)
     loop-again
     returns-2)

@@ -5,9 +5,6 @@ use borrow.Author.Needs.{needs}
 use Rattle.reader.proofs.scan.line_after.Statement.{statement}
 use Rattle.reader.proofs.scan.line_after.Tie as tie
 
-add-result : tie.Need-add-result
-add-result c = search needs
-
 returns : tie.Need-returns
 returns c = simp (eq-eqb _ _ (c .if1 .taken), add-one)
 
@@ -15,4 +12,4 @@ returns-2 : tie.Need-returns-2
 returns-2 c = simp (ne-eqb _ _ (c .if1 .left))
 
 pub line-after-spec : {M : Type 1} → statement M
-line-after-spec = tie.close (tie.spec add-result returns returns-2)
+line-after-spec = tie.close (tie.spec (λ c. search needs) returns returns-2)

@@ -10,27 +10,6 @@ use Rattle.reader.proofs.Judging.{then-fail, then-ok, check-no, check-y
 use Rattle.reader.proofs.variable.high.Statement.{statement}
 use Rattle.reader.proofs.variable.high.Tie as tie
 
-field-requires : tie.Need-field-requires
-field-requires c κs = search needs
-
-number-field-requires : tie.Need-number-field-requires
-number-field-requires c κs = search needs
-
-enum-known-k : tie.Need-enum-known-k
-enum-known-k c = search needs
-
-enum-known-hi : tie.Need-enum-known-hi
-enum-known-hi c = search needs
-
-at-most-requires : tie.Need-at-most-requires
-at-most-requires c κs = search needs
-
-field-requires-2 : tie.Need-field-requires-2
-field-requires-2 c κs = search needs
-
-init-requires : tie.Need-init-requires
-init-requires c κs = search needs
-
 returns : tie.Need-returns
 unfolding wordRes
 returns c = let h = c .before .before .before .before .before .hi .given .0 .0 in
@@ -57,13 +36,13 @@ pub high-spec : {M : Type 1} → statement M
 high-spec =
     tie.close
     (tie.spec
-    field-requires
-    number-field-requires
-    enum-known-k
-    enum-known-hi
-    at-most-requires
-    field-requires-2
-    init-requires
+    (λ c κs. search needs)
+    (λ c κs. search needs)
+    (λ c. search needs)
+    (λ c. search needs)
+    (λ c κs. search needs)
+    (λ c κs. search needs)
+    (λ c κs. search needs)
     returns
     returns-2
     returns-3)

@@ -9,15 +9,6 @@ use Rattle.reader.proofs.Judging.{then-fail, then-ok}
 use Rattle.reader.proofs.variable.init.Statement.{statement}
 use Rattle.reader.proofs.variable.init.Tie as tie
 
-init-field-requires : tie.Need-init-field-requires
-init-field-requires c κs = search needs
-
-enum-known-k : tie.Need-enum-known-k
-enum-known-k c = search needs
-
-enum-known-x : tie.Need-enum-known-x
-enum-known-x c = search needs
-
 returns : tie.Need-returns
 unfolding var-res initRes
 returns c = let a = c .before .before .before .before .before .args in
@@ -34,4 +25,4 @@ returns-2 c = let a = c .before .before .before .before .before .args in
     rw (p, q, r) (sym (then-ok _ (sym (rw (p, q) at (c .before .before .before .init-field .ensures)) ∙ ap initRes (c .before .x .given .1))))
 
 pub init-spec : {M : Type 1} → statement M
-init-spec = tie.close (tie.spec init-field-requires enum-known-k enum-known-x returns returns-2)
+init-spec = tie.close (tie.spec (λ c κs. search needs) (λ c. search needs) (λ c. search needs) returns returns-2)

@@ -10,21 +10,6 @@ use Rattle.reader.proofs.Judging.{then-fail, then-ok}
 use Rattle.reader.proofs.variable.low.Statement.{statement}
 use Rattle.reader.proofs.variable.low.Tie as tie
 
-field-requires : tie.Need-field-requires
-field-requires c κs = search needs
-
-number-field-requires : tie.Need-number-field-requires
-number-field-requires c κs = search needs
-
-enum-known-k : tie.Need-enum-known-k
-enum-known-k c = search needs
-
-enum-known-lo : tie.Need-enum-known-lo
-enum-known-lo c = search needs
-
-high-requires : tie.Need-high-requires
-high-requires c κs = search needs
-
 returns : tie.Need-returns
 unfolding var-res wordRes
 returns c = sym (then-fail _ (ap number-field (sym (c .before .before .before .before .field .ensures)) ∙ sym (c .before .before .before .number-field .ensures) ∙ ap wordRes (c .before .k .given .1)))
@@ -39,10 +24,10 @@ pub low-spec : {M : Type 1} → statement M
 low-spec =
     tie.close
     (tie.spec
-    field-requires
-    number-field-requires
-    enum-known-k
-    enum-known-lo
-    high-requires
+    (λ c κs. search needs)
+    (λ c κs. search needs)
+    (λ c. search needs)
+    (λ c. search needs)
+    (λ c κs. search needs)
     returns
     returns-2)

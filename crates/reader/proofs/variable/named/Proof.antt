@@ -14,38 +14,8 @@ use Rattle.reader.proofs.Judging.{check-no, check-yes, not-no, not-yes}
 use Rattle.reader.proofs.variable.named.Statement.{statement}
 use Rattle.reader.proofs.variable.named.Tie as tie
 
-name-seen-requires : tie.Need-name-seen-requires
-name-seen-requires c κs = search needs
-
-same-length : tie.Need-same-length
-same-length c = search needs
-
 returns : tie.Need-returns
 returns c = λ s h g o. check-no _ _ (not-no (sym (names-seen (now (c .before .before .before .before .args .name)) g o) ∙ sym (c .before .name-seen .ensures) ∙ c .if1 .taken))
-
-mul-push-row : tie.Need-mul-push-row
-mul-push-row c = search needs
-
-slice-aggregate-push-row : tie.Need-slice-aggregate-push-row
-slice-aggregate-push-row c = search needs
-
-push-row-requires : tie.Need-push-row-requires
-push-row-requires c κs = search needs
-
-mul-push-name : tie.Need-mul-push-name
-mul-push-name c = search needs
-
-push-name-requires : tie.Need-push-name-requires
-push-name-requires c κs = search needs
-
-add-t13 : tie.Need-add-t13
-add-t13 c = search needs
-
-same-length-2 : tie.Need-same-length-2
-same-length-2 c = search needs
-
-same-length-3 : tie.Need-same-length-3
-same-length-3 c = search needs
 
 returns-2 : tie.Need-returns-2
 returns-2 c = λ s h g o.
@@ -66,15 +36,15 @@ pub named-spec : {M : Type 1} → statement M
 named-spec =
     tie.close
     (tie.spec
-    name-seen-requires
-    same-length
+    (λ c κs. search needs)
+    (λ c. search needs)
     returns
-    mul-push-row
-    slice-aggregate-push-row
-    push-row-requires
-    mul-push-name
-    push-name-requires
-    add-t13
-    same-length-2
-    same-length-3
+    (λ c. search needs)
+    (λ c. search needs)
+    (λ c κs. search needs)
+    (λ c. search needs)
+    (λ c κs. search needs)
+    (λ c. search needs)
+    (λ c. search needs)
+    (λ c. search needs)
     returns-2)

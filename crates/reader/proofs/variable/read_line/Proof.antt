@@ -20,32 +20,11 @@ returns-2 c = λ s h g. var-late s _ (rw (none-empty-list (s .chart .locs) (omeg
 returns-3 : tie.Need-returns-3
 returns-3 c = λ s h g. var-full s _ (rw (none-empty-list (s .chart .locs) (omega (arith, h .locs, c .before .before .before .before .if1 .left)), none-empty-list (s .chart .edges) (omega (arith, h .edges, c .before .before .if2 .left)))) (omega (arith, h .vars, c .if3 .taken))
 
-judged-requires : tie.Need-judged-requires
-judged-requires c κs = search needs
-
-enum-known-k : tie.Need-enum-known-k
-enum-known-k c = search needs
-
-enum-known-v : tie.Need-enum-known-v
-enum-known-v c = search needs
-
-field-requires : tie.Need-field-requires
-field-requires c κs = search needs
-
-named-requires : tie.Need-named-requires
-named-requires c κs = search needs
-
 returns-4 : tie.Need-returns-4
 unfolding var-res
 returns-4 c = λ s h g.
     var-read s _ (rw (none-empty-list (s .chart .locs) (omega (arith, h .locs, c .before .before .before .before .before .before .before .before .if1 .left)), none-empty-list (s .chart .edges) (omega (arith, h .edges, c .before .before .before .before .before .before .if2 .left)))) (omega (arith, h .vars, c .before .before .before .before .if3 .left))
     ∙ then-fail _ (sym (c .before .before .before .judged .ensures) ∙ ap var-res (c .before .k .given .1))
-
-same-length : tie.Need-same-length
-same-length c = search needs
-
-same-length-2 : tie.Need-same-length-2
-same-length-2 c = search needs
 
 returns-5 : tie.Need-returns-5
 unfolding var-res
@@ -63,12 +42,12 @@ read-line-spec =
     returns
     returns-2
     returns-3
-    judged-requires
-    enum-known-k
-    enum-known-v
-    field-requires
-    named-requires
+    (λ c κs. search needs)
+    (λ c. search needs)
+    (λ c. search needs)
+    (λ c κs. search needs)
+    (λ c κs. search needs)
     returns-4
-    same-length
-    same-length-2
+    (λ c. search needs)
+    (λ c. search needs)
     returns-5)
