@@ -14,12 +14,13 @@ use lib.ListN.{length, take, drop, replicate, take-append-drop, length-map, leng
 use lib.Seq.{length-take-le, take-take}
 use Rattle.semantics.specs.declared.Verdict.{Verdict}
 use Rattle.semantics.specs.declared.Verdict.the-variants.{Open, Safe, Alarm, Full}
-use Rattle.semantics.specs.Lists.{In, some-of, all, all-of}
+use Rattle.semantics.specs.Lists.{In, some-of, all}
 use Rattle.semantics.specs.Chart.{Chart, eqZ}
 use Rattle.semantics.specs.Coverage.{Distinct, Queue, Every, Tidy, allowed}
 use Rattle.semantics.specs.Memory.{Memory, width, load, below, rows-ok, each-once, zeros, is-alarm, empty-if-safe, capacity-ok, form-tests, analysis-ok}
 use Rattle.semantics.proofs.Values.{and-left, and-right, eqZ-same}
 use Rattle.semantics.proofs.Tidy.{some-not}
+use Rattle.semantics.proofs.Reloaded.{all-each}
 use Rattle.semantics.proofs.Simulate.{ExplorationR}
 use Rattle.words.proofs.Words.{nonNeg-pos}
 use Rattle.rows.specs.Rows.{rows-of}
@@ -47,10 +48,6 @@ record Form (c : Chart) (m : Memory) : Type 0 where
   capacity : T (capacity-ok (pos (m .analysis .capacity)))
   settings : T (allowed (m .analysis .settings .merge) (m .analysis .settings .stop))
   verdict : T (empty-if-safe (m .analysis .verdict) (m .analysis .waiting))
-
-all-each : (bs : List Bool) → T (all-of bs) → Every (λ b. T b) bs
-all-each [] t = tt
-all-each (b ∷ bs) t = (and-left b (all-of bs) t, all-each bs (and-right b (all-of bs) t))
 
 form : (c : Chart) (m : Memory) → T (analysis-ok c m) → Form c m
 unfolding analysis-ok

@@ -14,6 +14,7 @@ use Rattle.semantics.specs.Chart.{eqZ}
 use Rattle.semantics.specs.Lists.{pick, some-of}
 use Rattle.semantics.specs.Algorithm.{wait, wait-all, note-unless, changed, merged, keep-if, of-place, leq-joined, stopped}
 use Rattle.semantics.specs.Coverage.{Every, allowed}
+use Rattle.semantics.proofs.Values.{left-true, right-true}
 use Rattle.words.proofs.Words.{eqZ-true}
 use Rattle.rows.specs.Rows.{word-leq, word-join, words-leq, words-join, same-words, same-place, row-leq, row-join, row-merge, join-of}
 use Rattle.rows.proofs.Turns.{length-words-join}
@@ -38,14 +39,6 @@ rewaits-all e i (x ∷ xs) wa = go (same-words (row-merge e x) x) (rewaits-all e
 or-true : (a : Bool) → a || true ≡ true
 or-true true = refl
 or-true false = refl
-
-and-right : (a b : Bool) → a && b ≡ true → b ≡ true
-and-right true b h = h
-and-right false b h = absurd (subst T (sym h) tt)
-
-and-left : (a b : Bool) → a && b ≡ true → a ≡ true
-and-left true b h = refl
-and-left false b h = h
 
 word-new : (x y : ℤ) → word-leq x (word-join x y) ≡ true
 word-new x y = go (eqZ x y) refl
@@ -74,7 +67,7 @@ words-more [] (y ∷ a) b l m h = absurd (omega arith)
 words-more (x ∷ e) [] b l m h = absurd (omega arith)
 words-more (x ∷ e) (y ∷ a) [] l m h = absurd (omega arith)
 words-more (x ∷ e) (y ∷ a) (z ∷ b) l m h =
-    rw (word-more x y z (and-left (word-leq x y) (words-leq e a) h), words-more e a b (omega arith) (omega arith) (and-right (word-leq x y) (words-leq e a) h))
+    rw (word-more x y z (left-true (word-leq x y) (words-leq e a) h), words-more e a b (omega arith) (omega arith) (right-true (word-leq x y) (words-leq e a) h))
 
 -- a row as long as e, of e's place, that e lies under
 record Above (e z : List ℤ) : Type 0 where
@@ -94,7 +87,7 @@ above-more (a ∷ e) (b ∷ x) [] n g h = absurd (omega (arith, h .len))
 above-more (a ∷ e) (b ∷ x) (c ∷ y) n g h = record {
   len = ap suc (length-words-join x y) ∙ h .len;
   place = h .place;
-  under = rw (h .place) (words-more e x y (omega (arith, g .len)) (omega (arith, h .len)) (and-right (eqZ a b) (words-leq e x) (g .under)));
+  under = rw (h .place) (words-more e x y (omega (arith, g .len)) (omega (arith, h .len)) (right-true (eqZ a b) (words-leq e x) (g .under)));
 }
 
 under-join : (e x : List ℤ) (xs : List (List ℤ)) → 0 < length e → Above e x → Every (Above e) xs → row-leq e (join-of x xs) ≡ true

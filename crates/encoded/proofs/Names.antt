@@ -14,7 +14,7 @@ use Rattle.semantics.specs.Lists.{all}
 use Rattle.semantics.specs.Text.{same-bytes}
 use Rattle.semantics.specs.Chart.{Loc, eqZ}
 use Rattle.semantics.specs.Encoding.{byte-unless, name-in, loc-in, several, distinct-names, count}
-use Rattle.encoded.proofs.Facts.{and-assoc}
+use Rattle.semantics.proofs.Values.{and-assoc}
 
 -- the first word left, and the words after it; past the end there is no byte more
 pub name-step : (n : ℕ) (ws : List ℤ) (i : ℕ) → name-in (suc n) (drop i ws) ≡ byte-unless (eqZ (getD ws i (pos 0)) (pos 0)) (getD ws i (pos 0)) (name-in n (drop (suc i) ws))

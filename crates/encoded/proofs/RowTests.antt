@@ -14,13 +14,13 @@ use lib.Signed.{nonNeg, leZ}
 use Rattle.semantics.specs.Lists.{pick, all}
 use Rattle.semantics.specs.Text.{name-byte, name-ok}
 use Rattle.semantics.specs.Chart.{Var, Chart, eqZ, small, in-range, Operand, Op, assign, add, sub, input, assume, skip}
-use Rattle.semantics.specs.Encoding.{word, val, val-if, kind-word, var-words, loc-words, tag, held, op-words, edge-words, var-in, byte-unless, name-in, loc-in, operand, operand-if, op-of, edge-in, operand-ok, op-ok, edge-ok, begins-with}
+use Rattle.semantics.specs.Encoding.{kind-word, var-words, loc-words, tag, held, op-words, edge-words, var-in, byte-unless, name-in, loc-in, operand, operand-if, op-of, edge-in, operand-ok, op-ok, edge-ok, begins-with}
 use Rattle.semantics.specs.Memory.{below, zeros}
-use Rattle.semantics.proofs.Values.{and-left, and-right}
+use Rattle.semantics.proofs.Values.{and-left, and-right, and-true, and-assoc}
+use Rattle.semantics.proofs.Reloaded.{word-back}
 use Rattle.semantics.proofs.Stored.{both-true}
-use Rattle.words.proofs.Words.{eqZ-true, eqZ-refl, eqZ-sym}
+use Rattle.words.proofs.Words.{eqZ-refl, eqZ-sym}
 use Rattle.encoded.specs.Encoded.{name-word, location-fine, operand-fine, ranged, two-fine, one-fine, input-fine, operands-fine, operation-fine, edge-fine, at-most}
-use Rattle.encoded.proofs.Facts.{and-true, and-assoc}
 use Rattle.encoded.proofs.Rows.{iff, interchange}
 
 -- a word is the number that it says where it is not below 0
@@ -30,17 +30,11 @@ said (negsuc n) = refl
 
 -- ---- a variable
 
-word-val : (z : ℤ) → word (val z) ≡ z
-word-val z = go (eqZ z (pos 32768)) refl where
-  go : (b : Bool) → eqZ z (pos 32768) ≡ b → word (val-if b z) ≡ z
-  go true e = sym (eqZ-true z (pos 32768) e)
-  go false e = refl
-
 pub var-row : (r : List ℤ) → 3 ≤ length r → begins-with (var-words (var-in r)) r ≡ true
 var-row [] h = absurd (omega arith)
 var-row (a ∷ []) h = absurd (omega arith)
 var-row (a ∷ b ∷ []) h = absurd (omega arith)
-var-row (a ∷ b ∷ c ∷ r) h = rw (word-val c, eqZ-refl a, eqZ-refl b, eqZ-refl c)
+var-row (a ∷ b ∷ c ∷ r) h = rw (word-back c, eqZ-refl a, eqZ-refl b, eqZ-refl c)
 
 -- ---- a location
 

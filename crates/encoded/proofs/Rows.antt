@@ -12,10 +12,9 @@ use lib.Seq.{drop-drop}
 use Rattle.semantics.specs.Lists.{all, each}
 use Rattle.semantics.specs.Chart.{eqZ}
 use Rattle.semantics.specs.Encoding.{several, past, begins-with}
-use Rattle.semantics.proofs.Values.{and-left, and-right}
+use Rattle.semantics.proofs.Values.{and-left, and-right, and-assoc}
 use Rattle.semantics.proofs.Stored.{both-true}
 use Rattle.encoded.specs.Encoded.{rows}
-use Rattle.encoded.proofs.Facts.{and-assoc}
 
 pub iff : (a b : Bool) → (T a → T b) → (T b → T a) → a ≡ b
 iff true true f g = refl

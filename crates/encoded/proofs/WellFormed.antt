@@ -14,11 +14,10 @@ use Rattle.semantics.specs.Lists.{all, each}
 use Rattle.semantics.specs.Text.{name-ok}
 use Rattle.semantics.specs.Chart.{eqZ, in-range}
 use Rattle.semantics.specs.Encoding.{var-words, loc-words, edge-words, encode, var-in, loc-in, edge-in, name-in, several, past, count, decode, var-ok, distinct-names, edge-ok, chart-ok, begins-with, well-formed}
-use Rattle.semantics.proofs.Values.{and-left, and-right}
+use Rattle.semantics.proofs.Values.{and-left, and-right, and-true}
 use Rattle.semantics.proofs.Stored.{to-false, both-true, padded-length}
 use Rattle.semantics.proofs.Encoded.{op-wide}
 use Rattle.encoded.specs.Encoded.{rows, counts-fine, locations-at, edges-at, location-fine, ranged, edge-fine, rows-fine}
-use Rattle.encoded.proofs.Facts.{and-true}
 use Rattle.semantics.proofs.Decoded.{vars-count, locs-count, edges-count}
 use Rattle.encoded.proofs.Rows.{iff, all-and, past-drop, rows-same, all-rows, begins-rows, each-length}
 use Rattle.encoded.proofs.RowTests.{said, var-row, name-few, location-row, edge-row}

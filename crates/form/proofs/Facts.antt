@@ -2,15 +2,15 @@
 use mathlib.Core.Path.{_≡_, refl, ap, sym, subst, _∙_}
 use mathlib.Core.Bool.{Bool, true, false, _&&_, _||_, not}
 use mathlib.Core.List.{List, [], _∷_, _++_}
-use Prim.Native.Nat.{ℕ, zero, suc, _+_, _-_, _*_, _<_, _≤_}
-use native.Mathlib.Nat.{add-zero, sub-zero, zero-sub, suc-sub-suc}
+use Prim.Native.Nat.{ℕ, suc, _+_, _-_, _*_, _<_, _≤_}
+use native.Mathlib.Nat.{add-zero}
 use native.Mathlib.Numerals.{add-one}
 use native.Mathlib.Omega.{arith}
 use lib.Dec.{T, ltb}
 use borrow.Author.Tests.{ltb-true, ltb-false}
 use lib.IntN.{ℤ, pos, negsuc, natAbs}
 use lib.ListN.{length, getD, take, drop, length-drop}
-use lib.Seq.{drop-cons, drop-drop, drop-nil, take-nil, take-all, getD-drop}
+use lib.Seq.{drop-cons, drop-drop, take-all, getD-drop}
 use lib.Signed.{ltZ}
 use Rattle.semantics.specs.Lists.{some-of, all, all-pairs, all-of}
 use Rattle.semantics.specs.Chart.{Chart, eqZ, within}
@@ -93,12 +93,6 @@ pub tail : (l : List ℤ) (j : ℕ) → take (length l - j) (drop j l) ≡ drop 
 tail l j = take-all (length l - j) (drop j l) (simp length-drop (omega arith))
 
 -- `&l[b..a]`
-pub drop-take : (b a : ℕ) (l : List ℤ) → drop b (take a l) ≡ take (a - b) (drop b l)
-drop-take zero a l = rw sub-zero
-drop-take (suc b) zero l = rw (zero-sub, drop-nil)
-drop-take (suc b) (suc a) [] = sym (take-nil (suc a - suc b))
-drop-take (suc b) (suc a) (x ∷ l) = rw suc-sub-suc (drop-take b a l)
-
 -- ---- the rule in its two parts
 
 all-of-append : (xs ys : List Bool) → all-of xs && all-of ys ≡ all-of (xs ++ ys)

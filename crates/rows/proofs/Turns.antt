@@ -10,6 +10,7 @@ use lib.ListN.{length, take, drop, getD, set, drop-of-length-le}
 use lib.Seq.{drop-cons, take-all, take-suc-set, drop-set-lt, append-snoc}
 use Rattle.semantics.specs.Lists.{pick}
 use Rattle.semantics.specs.Chart.{eqZ}
+use Rattle.semantics.proofs.Values.{and-true}
 use Rattle.words.proofs.Words.{eqZ-refl}
 use Rattle.words.proofs.Rows.{take-put, drop-put}
 use Rattle.rows.specs.Rows.{word-leq, word-join, words-leq, words-join, same-words, same-place, row-join, row-merge, rows-merge}
@@ -17,10 +18,6 @@ use Rattle.rows.specs.Rows.{word-leq, word-join, words-leq, words-join, 
 and-assoc : (a b c : Bool) → a && (b && c) ≡ (a && b) && c
 and-assoc true b c = refl
 and-assoc false b c = refl
-
-and-true : (a : Bool) → a && true ≡ a
-and-true true = refl
-and-true false = refl
 
 pub same-refl : (s : List ℤ) → same-words s s ≡ true
 same-refl [] = refl

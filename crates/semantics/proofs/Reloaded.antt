@@ -25,14 +25,14 @@ all-each (b ∷ bs) t = (and-left b (all-of bs) t, all-each bs (and-right b (all
 
 -- ---- one row
 
-word-back : (x : ℤ) → word (val x) ≡ x
+pub word-back : (x : ℤ) → word (val x) ≡ x
 word-back x = go (eqZ x (pos 32768)) refl
   where
     go : (b : Bool) → eqZ x (pos 32768) ≡ b → word (val-if b x) ≡ x
     go true e = sym (eqZ-same x (pos 32768) (from-true e))
     go false e = refl
 
-words-back : (xs : List ℤ) → map word (map val xs) ≡ xs
+pub words-back : (xs : List ℤ) → map word (map val xs) ≡ xs
 words-back [] = refl
 words-back (x ∷ xs) = λ i. word-back x i ∷ words-back xs i
 

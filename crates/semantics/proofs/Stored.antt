@@ -75,7 +75,7 @@ vals-back [] (x ∷ xs) t h = absurd h
 vals-back (v ∷ vs) [] t h = absurd h
 vals-back (v ∷ vs) (x ∷ xs) t h = rw (val-back v x (and-left (var-ok v) (all var-ok vs) t) (h .0), vals-back vs xs (and-right (var-ok v) (all var-ok vs) t) (h .1))
 
-vals-length : (vars : List Var) (xs : List Value) → ValsOk vars xs → length xs ≡ length vars
+pub vals-length : (vars : List Var) (xs : List Value) → ValsOk vars xs → length xs ≡ length vars
 vals-length [] [] h = refl
 vals-length [] (x ∷ xs) h = absurd h
 vals-length (v ∷ vs) [] h = absurd h
@@ -93,7 +93,7 @@ vals-formed (v ∷ vs) (x ∷ xs) h = both-true (value-ok v (word x)) (all-pairs
 
 -- ---- lists of words
 
-map-back : (wa : List ℕ) → map natAbs (map pos wa) ≡ wa
+pub map-back : (wa : List ℕ) → map natAbs (map pos wa) ≡ wa
 map-back [] = refl
 map-back (x ∷ xs) = ap (λ (l : List ℕ). x ∷ l) (map-back xs)
 

@@ -23,6 +23,23 @@ pub and-right : (a b : Bool) → T (a && b) → T b
 and-right true b t = t
 and-right false b t = absurd t
 
+-- the same of Bools that are equal to true
+pub left-true : (a b : Bool) → a && b ≡ true → a ≡ true
+left-true true b e = refl
+left-true false b e = e
+
+pub right-true : (a b : Bool) → a && b ≡ true → b ≡ true
+right-true true b e = e
+right-true false b e = absurd (subst T (sym e) tt)
+
+pub and-true : (a : Bool) → a && true ≡ a
+and-true true = refl
+and-true false = refl
+
+pub and-assoc : (a b c : Bool) → a && (b && c) ≡ a && b && c
+and-assoc true b c = refl
+and-assoc false b c = refl
+
 pub eqZ-same : (a b : ℤ) → T (eqZ a b) → a ≡ b
 eqZ-same (pos a) (pos b) t = ap pos (eqb→eq a b t)
 eqZ-same (pos a) (negsuc b) t = absurd t

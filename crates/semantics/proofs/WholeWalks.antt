@@ -18,6 +18,7 @@ use Rattle.semantics.specs.Memory.{Memory, width, table-of, waitlist-of,
 use Rattle.semantics.specs.Listing.{listing-text}
 use Rattle.semantics.specs.Outcomes.{Outcome, case, number-if, refusal, settled, budget-ok, short, has-verdict, started, resumed, fine, put-in, start-outcome, run-outcome, listing-outcome}
 use Rattle.semantics.specs.WholeWalks.{Request, ask-start, ask-run, ask-listing, Call, Ruling, ruling-or, no-text, start-refusal, run-refusal, request-ruling, ruling, rulings, no-exploration, LentCall, call-of, request-outcome, outcome, reply-of, over, left, played, Agrees, Handed, HandedOn, goes-through, started-first, WholeWalks}
+use Rattle.semantics.proofs.FirstCase.{passed}
 use Rattle.semantics.proofs.ListFacts.{from-false}
 use Rattle.semantics.proofs.Values.{and-left}
 use Rattle.semantics.proofs.Covering.{run-held, covering}
@@ -30,10 +31,6 @@ use Rattle.semantics.proofs.Stored.{to-true, Good, table-length, list-l
 use Rattle.semantics.proofs.Encoded.{decode-back, well-formed-back}
 
 -- ---- tests
-
-of-not : (b : Bool) → not b ≡ false → T b
-of-not true e = tt
-of-not false e = from-false e tt
 
 passes : (x y : Bool) (a b r : ℕ) → number-if x (suc a) (number-if y (suc b) r) ≡ 0 → (x ≡ false) × (y ≡ false) × (r ≡ 0)
 passes true y a b r e = absurd (omega arith)
@@ -146,7 +143,7 @@ module _ (c : Chart) (ok : T (chart-ok c)) where
       good : Good c (started c z r)
       good =
           let p = passes (not (capacity-ok r)) (not (allowed (z .merge) (z .stop))) 10 11 (number-if (short c (natAbs r) (k .table) (k .waitlist)) 14 0) e in
-          started-good z r (of-not (capacity-ok r) (p .0)) (of-not (allowed (z .merge) (z .stop)) (p .1))
+          started-good z r (passed (capacity-ok r) (p .0)) (passed (allowed (z .merge) (z .stop)) (p .1))
 
   -- the chart as read, with words after it
   formed : (after : List ℤ) → well-formed (encode c ++ after) ≡ true

@@ -12,10 +12,10 @@ use lib.IntN.{ℤ, pos, negsuc, natAbs}
 use lib.Signed.{ltZ}
 use borrow.Author.Tests.{eq-eqb, ne-eqb, lt-ltb, le-ltb, ltb-true}
 use Rattle.semantics.specs.Text.{bytes, same-bytes, natural-of, nonnegative, number-of}
-use Rattle.semantics.specs.Chart.{known, top, num, var, small, within, eqZ}
-use Rattle.semantics.specs.Encoding.{val, val-if, word}
+use Rattle.semantics.specs.Chart.{known, top, num, var, small, within}
+use Rattle.semantics.specs.Encoding.{val}
 use Rattle.semantics.specs.Reading.{fail, ok, check, andThen, small-or, below-or, number-field, target-field, operand-field, init-field}
-use Rattle.words.proofs.Words.{eqZ-true, ne-eqZ}
+use Rattle.words.proofs.Words.{ne-eqZ}
 
 module _ (n : ℕ) where
   pub below-neg : (z : ℤ) → ltZ z (pos 0) ≡ true → below-or n (some z) ≡ fail 10
@@ -81,13 +81,6 @@ unfolding number-field
 number-known l z e = rw (ne-eqZ {a = z} {b = pos 32768} (small-not-top z (small-of (number-of l) z e)))
 
 -- the word of a value says the value
-pub word-val : (z : ℤ) → word (val z) ≡ z
-word-val z = go (eqZ z (pos 32768)) refl
-  where
-    go : (t : Bool) → eqZ z (pos 32768) ≡ t → word (val-if t z) ≡ z
-    go true e = sym (eqZ-true z (pos 32768) e)
-    go false e = refl
-
 module _ (lo hi : ℤ) (l : List ℕ) where
   pub init-star : same-bytes l (bytes "*") ≡ true → init-field lo hi l ≡ ok top
   unfolding init-field

@@ -4,7 +4,7 @@ ghost use Prim.Native.Nat.{_≤_, min};
 ghost use lib.Dec.{eqb};
 ghost use lib.ListN.{length, getD};
 ghost use Rattle.semantics.specs.Lists.{pick};
-ghost use Rattle.semantics.specs.Text.{same-bytes, between, fields, name-byte, name-ok, digits, natural-of, nonnegative, negative, number-of};
+ghost use Rattle.semantics.specs.Text.{same-bytes, fields, name-byte, name-ok, digits, natural-of, nonnegative, negative, number-of};
 ghost use Rattle.semantics.specs.Chart.{within, known, num, var};
 ghost use Rattle.semantics.specs.Reading.{ok, check, andThen, nth, none-empty, small-or, number-field, below-or, location-field, target-field, operand-field, init-field, kind-field, rel-field, op-word-field};
 ghost use Rattle.text.specs.Fields.{Found, naturalRead, numberRead, naturalSaid, numberSaid, indexRes, wordRes, initRes, operandRes, flagRes, relRes, opWordRes};

@@ -1,6 +1,5 @@
 -- Where the words of an encoded chart stand: those of a variable, of a location and of an edge, with any words after. Assumes nothing.
 use mathlib.Core.Path.{_≡_, refl, sym, ap, _∙_}
-use mathlib.Core.Bool.{Bool, true, false}
 use mathlib.Core.List.{List, [], _∷_, _++_, map, append-assoc}
 use Prim.Native.Nat.{ℕ, zero, suc, _+_, _*_, _<_}
 use native.Mathlib.Nat.{mul-suc}
@@ -16,7 +15,7 @@ use Rattle.semantics.specs.Chart.{Var, Loc, Edge, Chart, eqZ, within, in-range,
 use Rattle.semantics.specs.Coverage.{Every}
 use Rattle.semantics.specs.Encoding.{word, kind-word, var-words, loc-words, edge-words, encode, count, var-ok, chart-ok}
 use Rattle.semantics.proofs.StatesOk.{Bounds, bounds}
-use Rattle.semantics.proofs.Encoded.{each-length, every-of, loc-wide, edge-wide, every-any}
+use Rattle.semantics.proofs.Encoded.{kind-back, each-length, every-of, loc-wide, edge-wide, every-any}
 use Rattle.transfer.specs.Transfer.{location-word, edge-at, error-row, initial-words, initial-row}
 
 -- the word of a location that a word can hold
@@ -54,10 +53,6 @@ error-at : (locs : List Loc) (n : ℕ) (l : Loc) → At locs n l → error-locat
 error-at [] n l a = absurd a
 error-at (m ∷ ms) zero l a = ap (λ (x : Loc). x .error) a
 error-at (m ∷ ms) (suc n) l a = error-at ms n l a
-
-kind-error : (b : Bool) → eqZ (kind-word b) (pos 1) ≡ b
-kind-error true = refl
-kind-error false = refl
 
 -- the variables' initial words
 initial-from : (before : List ℤ) (vars : List Var) (rest : List ℤ) (n : ℕ) → n ≡ length before + 2
@@ -128,7 +123,7 @@ module _ (c : Chart) (ok : T (chart-ok c)) (rest : List ℤ) where
       let p : getD ws (3 + 3 * count ws 0 + 17 * n) (pos 0) ≡ kind-word (l .0 .error) =
       ap (λ (j : ℕ). getD ws j (pos 0)) at ∙ past-vars (17 * n + 0)
       ∙ each-at loc-words 17 (λ l. T (name-ok (l .name))) loc-wide (c .locs) (each edge-words (c .edges) ++ rest) n (l .0) (every-of (λ l. name-ok (l .name)) (c .locs) (b .names)) (l .1) 0 (omega arith) in
-      ap (λ (z : ℤ). eqZ z (pos 1)) p ∙ kind-error (l .0 .error) ∙ sym (error-at (c .locs) n (l .0) (l .1))
+      ap (λ (z : ℤ). eqZ z (pos 1)) p ∙ kind-back (l .0 .error) ∙ sym (error-at (c .locs) n (l .0) (l .1))
 
   -- the words of an edge
   pub edge-word : (n : ℕ) (g : Edge) → At (c .edges) n g → (i : ℕ) → i < 8 → getD ws (edge-at ws n + i) (pos 0) ≡ getD (edge-words g) i (pos 0)

@@ -14,8 +14,10 @@ use Rattle.semantics.specs.Encoding.{word, val, val-if, chart-ok}
 use Rattle.semantics.specs.Memory.{width, state-in, states-in, value-ok, row-ok, rows-ok}
 use Rattle.semantics.proofs.Values.{and-left, and-right}
 use Rattle.semantics.proofs.StatesOk.{ValOk, ValsOk, bounds}
+use Rattle.semantics.proofs.Stored.{vals-length}
+use Rattle.semantics.proofs.Reloaded.{words-back}
 use Rattle.semantics.proofs.Simulate.{AllPairs}
-use Rattle.words.proofs.Words.{eqZ-true, nonNeg-pos}
+use Rattle.words.proofs.Words.{nonNeg-pos}
 use Rattle.rows.specs.Rows.{rows-of}
 use Rattle.transfer.proofs.Effects.{Plain, AllPlain, values-plain}
 use Rattle.transfer.proofs.Agree.{Says}
@@ -32,12 +34,6 @@ vals-words (x ∷ xs) h =
     let a = val-word x (h .0) in
     let b = vals-words xs (h .1) in
     λ i. a i ∷ b i
-
-vals-length : (vars : List Var) (xs : List Value) → ValsOk vars xs → length xs ≡ length vars
-vals-length [] [] h = refl
-vals-length [] (x ∷ xs) h = absurd h
-vals-length (v ∷ vs) [] h = absurd h
-vals-length (v ∷ vs) (x ∷ xs) h = ap suc (vals-length vs xs (h .1))
 
 module _ (c : Chart) where
   pub says-length : (e : List ℤ) (f : AbstractState) → Says c e f → length e ≡ width c
@@ -60,17 +56,6 @@ module _ (c : Chart) where
       λ i. p i ∷ q i
 
 -- ---- a row in form
-
-val-back : (x : ℤ) → word (val x) ≡ x
-val-back x = go (eqZ x (pos 32768)) refl
-  where
-    go : (b : Bool) → eqZ x (pos 32768) ≡ b → word (val-if b x) ≡ x
-    go true e = sym (eqZ-true x (pos 32768) e)
-    go false e = refl
-
-words-back : (xs : List ℤ) → map word (map val xs) ≡ xs
-words-back [] = refl
-words-back (x ∷ xs) = λ i. val-back x i ∷ words-back xs i
 
 val-ok : (v : Var) (x : ℤ) → T (value-ok v x) → ValOk v (val x)
 val-ok v x t = go (eqZ x (pos 32768)) t

@@ -1,11 +1,10 @@
 -- What the tests of the transfer tell, and the turn of the loop that writes the initial row. Assumes nothing.
-use mathlib.Core.Path.{_≡_, refl, sym, ap, subst, _∙_}
-use mathlib.Core.Bool.{Bool, true, false, _&&_}
+use mathlib.Core.Path.{_≡_, ap, _∙_}
+use mathlib.Core.Bool.{true}
 use mathlib.Core.List.{List, _++_, append-nil}
 use Prim.Native.Nat.{ℕ, suc, _+_, _-_, _≤_, _<_}
 use native.Mathlib.Numerals.{add-one}
 use native.Mathlib.Omega.{arith}
-use lib.Dec.{T}
 use lib.IntN.{ℤ, pos}
 use lib.Signed.{leZ}
 use lib.ListN.{length, take, getD, set}
@@ -14,20 +13,13 @@ use mir.Syntax.{w32}
 use mir.Val.{SFits}
 use Rattle.semantics.specs.Chart.{within}
 use Rattle.semantics.specs.Encoding.{count}
+use Rattle.semantics.proofs.Values.{left-true, right-true}
 use Rattle.words.proofs.Words.{between-fits}
 use Rattle.transfer.specs.Transfer.{operand-by, operand-at, initial-words, initial-row}
 
-and-left : (a b : Bool) → a && b ≡ true → a ≡ true
-and-left true b e = refl
-and-left false b e = e
-
-and-right : (a b : Bool) → a && b ≡ true → b ≡ true
-and-right true b e = e
-and-right false b e = absurd (subst T (sym e) tt)
-
 -- what lies between two words is a word
 pub within-fits : (lo hi z : ℤ) → SFits w32 lo → SFits w32 hi → within lo hi z ≡ true → SFits w32 z
-within-fits lo hi z f g e = between-fits z f g (and-left (leZ lo z) (leZ z hi) e) (and-right (leZ lo z) (leZ z hi) e)
+within-fits lo hi z f g e = between-fits z f g (left-true (leZ lo z) (leZ z hi) e) (right-true (leZ lo z) (leZ z hi) e)
 
 -- an operand's tag and word, read at i and after it
 pub operand-read : (c e : List ℤ) (i j : ℕ) {t z : ℤ} → t ≡ getD c i (pos 0) → z ≡ getD c j (pos 0) → j ≡ i + 1 → operand-by t z e ≡ operand-at c i e

@@ -15,11 +15,8 @@ use Rattle.semantics.specs.Lists.{In, some-of}
 use Rattle.semantics.specs.Algorithm.{without}
 use Rattle.semantics.specs.Coverage.{Queue}
 use Rattle.semantics.proofs.Tidy.{without-in, without-not, without-distinct, some-not, queue-few}
+use Rattle.semantics.proofs.Stored.{map-back}
 use Rattle.waitlist.specs.Waits.{waits, Put, any-word}
-
-abs-pos : (wa : List ℕ) → map natAbs (map pos wa) ≡ wa
-abs-pos [] = refl
-abs-pos (k ∷ wa) = rw (abs-pos wa)
 
 pub map-append : (a b : List ℕ) → map pos (a ++ b) ≡ map pos a ++ map pos b
 map-append [] b = refl
@@ -37,7 +34,7 @@ module _ {l : List ℤ} {n : ℕ} {wa : List ℕ} (p : Put l n wa) where
 
   -- what is held is what is read
   pub held : waits n l ≡ wa
-  held = ap (map natAbs) front ∙ abs-pos wa
+  held = ap (map natAbs) front ∙ map-back wa
 
   pub kept : Put l n (waits n l)
   kept = subst (λ (x : List ℕ). Put l n x) (sym held) p

@@ -1,9 +1,8 @@
 -- The first refusal that holds: what a call that nothing refuses may rely on, and what a refused call leaves. Assumes nothing.
 use mathlib.Core.Path.{_≡_, refl, sym, ap, subst, _∙_}
-use mathlib.Core.Bool.{Bool, true, false, not}
-use mathlib.Core.List.{List, [], _∷_}
+use mathlib.Core.Bool.{false, not}
+use mathlib.Core.List.{List, []}
 use Prim.Native.Nat.{ℕ, zero, suc}
-use native.Mathlib.Omega.{arith}
 use lib.Dec.{T}
 use lib.IntN.{ℤ, natAbs}
 use lib.ListN.{length}
@@ -11,7 +10,7 @@ use Rattle.semantics.specs.declared.Settings.{Settings}
 use Rattle.semantics.specs.Coverage.{allowed}
 use Rattle.semantics.specs.Encoding.{decode, well-formed}
 use Rattle.semantics.specs.Memory.{Memory, capacity-ok, analysis-ok}
-use Rattle.semantics.specs.Outcomes.{Outcome, Case, case, refusal, refused-by, settled, short, budget-ok, start-cases, run-cases}
+use Rattle.semantics.specs.Outcomes.{Outcome, refusal, refused-by, settled, short, budget-ok, start-cases, run-cases}
 use Rattle.semantics.proofs.FirstCase.{refuses-none, rest, passed}
 use Rattle.walker.specs.declared.Called.{Called}
 use Rattle.walker.specs.Calls.{Ends}

@@ -9,6 +9,12 @@ use lib.IntN.{ℤ, pos}
 use lib.ListN.{length, take, drop, length-take, length-drop, length-append, set, replicate}
 use lib.Seq.{take-at, drop-at, drop-drop, drop-nil, take-nil, take-take, length-take-le, take-suc-set}
 
+pub drop-take : (b a : ℕ) (l : List ℤ) → drop b (take a l) ≡ take (a - b) (drop b l)
+drop-take zero a l = rw sub-zero
+drop-take (suc b) zero l = rw (zero-sub, drop-nil)
+drop-take (suc b) (suc a) [] = sym (take-nil (suc a - suc b))
+drop-take (suc b) (suc a) (x ∷ l) = rw suc-sub-suc (drop-take b a l)
+
 -- the part of slot s: `&t[a..a + w]` has w words, where a is s * w
 pub span : (a w : ℕ) → a + w - a ≡ w
 span a w = omega arith
@@ -44,12 +50,6 @@ module _ (t : List ℤ) (a w : ℕ) (ws : List ℤ) (fits : a + w ≤ length t) 
   pub put-before : (b : ℕ) → b + w ≤ a → take w (drop b put) ≡ take w (drop b t)
   put-before b h =
       within put ∙ ap (λ (l : List ℤ). take w (drop b l)) (take-at (take a t) (ws ++ drop w (drop a t)) a front) ∙ sym (within t) where
-        drop-take : (b a : ℕ) (l : List ℤ) → drop b (take a l) ≡ take (a - b) (drop b l)
-        drop-take zero a l = rw sub-zero
-        drop-take (suc b) zero l = rw (zero-sub, drop-nil)
-        drop-take (suc b) (suc a) [] = sym (take-nil (suc a - suc b))
-        drop-take (suc b) (suc a) (x ∷ l) = rw suc-sub-suc (drop-take b a l)
-
         within : (l : List ℤ) → take w (drop b l) ≡ take w (drop b (take a l))
         within l = sym (ap (take w) (drop-take b a l) ∙ take-take w (a - b) (drop b l) (omega arith))
 

@@ -10,7 +10,7 @@ use mir.Syntax.{w32}
 use mir.ValLaws.{toZ-ofZ}
 use Rattle.semantics.specs.Lists.{all}
 use Rattle.encoded.specs.Encoded.{name-word}
-use Rattle.encoded.proofs.Facts.{and-true}
+use Rattle.semantics.proofs.Values.{and-true}
 use Rattle.encoded.proofs.Names.{bytes-turn}
 use Rattle.encoded.proofs.name_bytes_ok.Statement.{statement}
 use Rattle.encoded.proofs.name_bytes_ok.Tie as tie

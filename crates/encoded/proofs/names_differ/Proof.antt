@@ -8,7 +8,8 @@ use lib.IntN.{ℤ}
 use lib.ListN.{length, take, drop, length-take, length-drop}
 use Rattle.semantics.specs.Lists.{all}
 use Rattle.semantics.specs.Encoding.{loc-in, several, distinct-names}
-use Rattle.encoded.proofs.Facts.{from-on, and-true}
+use Rattle.semantics.proofs.Values.{and-true}
+use Rattle.encoded.proofs.Facts.{from-on}
 use Rattle.encoded.proofs.Names.{other-name, differ-turn}
 use Rattle.encoded.proofs.names_differ.Statement.{statement}
 use Rattle.encoded.proofs.names_differ.Tie as tie

@@ -17,7 +17,8 @@ use Rattle.semantics.specs.Encoding.{decode}
 use Rattle.semantics.specs.Memory.{width, below, rows-ok, each-once, zeros}
 use Rattle.form.specs.Form.{lent-tests}
 use Rattle.semantics.proofs.Decoded.{width-is}
-use Rattle.form.proofs.Facts.{passed, failed, drop-take, lent-grouped}
+use Rattle.words.proofs.Rows.{drop-take}
+use Rattle.form.proofs.Facts.{passed, failed, lent-grouped}
 use Rattle.form.proofs.lent_ok.Statement.{statement}
 use Rattle.form.proofs.lent_ok.Tie as tie
 

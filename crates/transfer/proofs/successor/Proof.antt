@@ -1,6 +1,5 @@
 -- `transfer::successor` meets its contract. Assumes nothing.
 use mathlib.Core.Path.{_≡_, sym, _∙_}
-use mathlib.Core.Bool.{Bool}
 use borrow.Author.Needs.{needs, sfits-of}
 use lib.Dec.{eqb}
 use lib.ListN.{length-set}

@@ -6,7 +6,7 @@ use mir.Syntax.{w32}
 use mir.Val.{toZ, ofZ}
 use borrow.Author.Needs.{needs}
 use Rattle.semantics.specs.Reading.{with-var}
-use Rattle.text.proofs.Judged.{word-val}
+use Rattle.semantics.proofs.Reloaded.{word-back}
 use Rattle.reader.specs.Answers.{var-of}
 use Rattle.reader.proofs.Growing.{rows-var, names-more}
 use Rattle.reader.proofs.Naming.{names-seen}
@@ -28,7 +28,7 @@ returns-2 c = λ s h g o.
       read = with-var s (now (a .name)) (var-of v);
       is = check-yes _ _ (not-yes (sym (names-seen (now (a .name)) g o) ∙ sym (c .before .before .before .before .before .before .before .before .before .before .before .before .name-seen .ensures) ∙ c .before .before .before .before .before .before .before .before .before .before .before .if1 .left));
       few = record { vars = omega arith; locs = omega arith; edges = omega arith };
-      held = rw (c .before .before .before .before .before .before .push-row .ensures) (rows-var s h (now (a .name)) (var-of v) _ (rw (p, q, r, word-val (v .init))) (omega arith) (omega arith) (omega arith));
+      held = rw (c .before .before .before .before .before .before .push-row .ensures) (rows-var s h (now (a .name)) (var-of v) _ (rw (p, q, r, word-back (v .init))) (omega arith) (omega arith) (omega arith));
       names-held = rw (c .before .before .push-name .ensures) (names-more (now (a .name)) g o (omega arith));
     }
 
