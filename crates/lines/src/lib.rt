@@ -39,11 +39,7 @@ pub fn place_after(l: Line, at: usize) -> usize
     ensures { λ r. ⌜ r ≡ place-after l at ⌝ }
 {
     match l {
-        Line::Text {
-            start: _,
-            end: _,
-            next,
-        } => next,
+        Line::Text { next, .. } => next,
         Line::End => at,
     }
 }
