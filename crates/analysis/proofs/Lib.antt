@@ -1,5 +1,6 @@
 pub mod Merges
 pub mod Arrival
+pub mod Passing
 pub mod Iterations
 pub mod Begin
 pub mod Stores

@@ -17,6 +17,7 @@ ghost use Rattle.rows.specs.Rows.{rows-of};
 ghost use Rattle.waitlist.specs.Waits.{waits, Put};
 ghost use Rattle.reached.specs.Reached.{Kept};
 ghost use Rattle.transfer.specs.Transfer.{edge-at, edges-from, post-at};
+ghost use Rattle.leaving.specs.Chains.{Chained};
 ghost use Rattle.analysis.specs.Loaded.{Is-edge, rows-only, domain-of, has-ended, Played, load-of, Held, Loaded, Ended, Finished};
 
 // The most iterations that an analysis plays.
@@ -147,11 +148,13 @@ fn has_ended(exit: Exit) -> bool
     }
 }
 
-// The edges in file order, each with the copy.
+// The edges in file order, each with the copy; those between two of the location's chain are passed over.
 fn leave(
     chart: &[i32],
     first: Edge,
     edges: usize,
+    heads: &[usize],
+    nexts: &[usize],
     settings: Settings,
     capacity: usize,
     table: &mut [i32],
@@ -161,14 +164,15 @@ fn leave(
     list: &mut [i32],
     waiting: usize,
 ) -> Progress
-    requires { ⌜ Kept (length (now copy)) capacity (now table) (now list) used waiting × Allowed settings × (length (now next) ≡ length (now copy)) × Is-edge (now chart) 0 first × (edge-at (now chart) edges < 4294967296) ⌝ }
+    requires { ⌜ Kept (length (now copy)) capacity (now table) (now list) used waiting × Allowed settings × (length (now next) ≡ length (now copy)) × Is-edge (now chart) 0 first × (edge-at (now chart) edges < 4294967296) × Chained (now chart) 0 (now heads) (now nexts) ⌝ }
     ensures { λ p. ⌜ Played (length (now (copy .entry))) capacity (now (table .exit)) (now (list .exit)) p (leave (domain-of (now (chart .entry))) settings capacity (now (copy .entry)) (edges-from 0 edges) (rows-of (length (now (copy .entry))) used (now (table .entry))) (waits waiting (now (list .entry)))) ⌝ }
 {
     let mut slots = used;
     let mut count = waiting;
-    let mut edge = first;
-    let mut g = 0;
+    let location = transfer::location_of(copy);
+    let mut g = leaving::first_leaving(heads, location);
     while g < edges {
+        let edge = encoded::edge_after(first, g);
         let p = visit(
             chart,
             edge,
@@ -187,8 +191,7 @@ fn leave(
         }
         slots = p.used;
         count = p.waiting;
-        edge = encoded::next_edge(edge);
-        g += 1;
+        g = leaving::next_leaving(chart, edge, g, nexts, location);
     }
     Progress {
         exit: Exit::On,
@@ -263,13 +266,15 @@ fn iterate(
     chart: &[i32],
     first: Edge,
     edges: usize,
+    heads: &[usize],
+    nexts: &[usize],
     a: Analysis,
     table: &mut [i32],
     list: &mut [i32],
     copy: &mut [i32],
     next: &mut [i32],
 ) -> Analysis
-    requires { ⌜ Held (length (now copy)) edges a (now table) (now list) × (a .iterations < 60000) × (0 < a .waiting) × (length (now next) ≡ length (now copy)) × Is-edge (now chart) 0 first × (edge-at (now chart) edges < 4294967296) ⌝ }
+    requires { ⌜ Held (length (now copy)) edges a (now table) (now list) × (a .iterations < 60000) × (0 < a .waiting) × (length (now next) ≡ length (now copy)) × Is-edge (now chart) 0 first × (edge-at (now chart) edges < 4294967296) × Chained (now chart) 0 (now heads) (now nexts) ⌝ }
     ensures { λ r. ⌜ Loaded (length (now (copy .entry))) edges r (now (table .exit)) (now (list .exit)) (iteration (domain-of (now (chart .entry))) (edges-from 0 edges) (load-of (length (now (copy .entry))) a (now (table .entry)) (now (list .entry)))) × (r .iterations ≡ a .iterations + 1) ⌝ }
 {
     let settings = a.settings;
@@ -283,6 +288,8 @@ fn iterate(
         chart,
         first,
         edges,
+        heads,
+        nexts,
         settings,
         capacity,
         table,
@@ -300,12 +307,14 @@ fn iteration(
     chart: &[i32],
     first: Edge,
     edges: usize,
+    heads: &[usize],
+    nexts: &[usize],
     width: usize,
     a: Analysis,
     table: &mut [i32],
     list: &mut [i32],
 ) -> Analysis
-    requires { ⌜ Held width edges a (now table) (now list) × (a .iterations < 60000) × (0 < a .waiting) × (width ≤ 9) × Is-edge (now chart) 0 first × (edge-at (now chart) edges < 4294967296) ⌝ }
+    requires { ⌜ Held width edges a (now table) (now list) × (a .iterations < 60000) × (0 < a .waiting) × (width ≤ 9) × Is-edge (now chart) 0 first × (edge-at (now chart) edges < 4294967296) × Chained (now chart) 0 (now heads) (now nexts) ⌝ }
     ensures { λ r. ⌜ Loaded width edges r (now (table .exit)) (now (list .exit)) (iteration (domain-of (now (chart .entry))) (edges-from 0 edges) (load-of width a (now (table .entry)) (now (list .entry)))) × (r .iterations ≡ a .iterations + 1) ⌝ }
 {
     let mut copy = [0i32; 9];
@@ -314,6 +323,8 @@ fn iteration(
         chart,
         first,
         edges,
+        heads,
+        nexts,
         a,
         table,
         list,
@@ -345,6 +356,35 @@ fn allowance(budget: u32, iterations: u32) -> u32
     left
 }
 
+// Iterations until a verdict or until so many were played.
+fn play(
+    chart: &[i32],
+    first: Edge,
+    edges: usize,
+    heads: &[usize],
+    nexts: &[usize],
+    width: usize,
+    a: Analysis,
+    most: u32,
+    table: &mut [i32],
+    list: &mut [i32],
+) -> Analysis
+    requires { ⌜ Held width edges a (now table) (now list) × (a .iterations + most ≤ 60000) × (width ≤ 9) × Is-edge (now chart) 0 first × (edge-at (now chart) edges < 4294967296) × Chained (now chart) 0 (now heads) (now nexts) ⌝ }
+    ensures { λ r. ⌜ Loaded width edges r (now (table .exit)) (now (list .exit)) (run (domain-of (now (chart .entry))) (edges-from 0 edges) most (load-of width a (now (table .entry)) (now (list .entry)))) ⌝ }
+{
+    let mut left = most;
+    let mut at = a;
+    while 0 < left {
+        let verdict = at.verdict;
+        if has_verdict(verdict) {
+            return at;
+        }
+        at = iteration(chart, first, edges, heads, nexts, width, at, table, list);
+        left -= 1;
+    }
+    at
+}
+
 // Iterations until a verdict, until the budget is spent, or until the most were played.
 pub fn run_core(
     chart: &[i32],
@@ -359,17 +399,22 @@ pub fn run_core(
     ensures { λ r. ⌜ Loaded width edges r (now (table .exit)) (now (list .exit)) (run (domain-of (now (chart .entry))) (edges-from 0 edges) (min budget (60000 - a .iterations)) (load-of width a (now (table .entry)) (now (list .entry)))) ⌝ }
 {
     let first = encoded::first_edge(chart);
-    let mut left = allowance(budget, a.iterations);
-    let mut at = a;
-    while 0 < left {
-        let verdict = at.verdict;
-        if has_verdict(verdict) {
-            return at;
-        }
-        at = iteration(chart, first, edges, width, at, table, list);
-        left -= 1;
-    }
-    at
+    let mut heads = [edges; 64];
+    let mut nexts = [0usize; 256];
+    leaving::chain(chart, edges, &mut heads, &mut nexts);
+    let most = allowance(budget, a.iterations);
+    play(
+        chart,
+        first,
+        edges,
+        &heads,
+        &nexts,
+        width,
+        a,
+        most,
+        table,
+        list,
+    )
 }
 
 fn first_verdict(error: bool) -> Verdict

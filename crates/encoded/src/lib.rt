@@ -429,15 +429,16 @@ pub fn first_edge(words: &[i32]) -> Edge
     }
 }
 
-pub fn next_edge(e: Edge) -> Edge
-    requires { ⌜ (e .id .0 < 4294967296) × (e .at < 68719476736) ⌝ }
-    ensures { λ r. ⌜ (r .id .0 ≡ e .id .0 + 1) × (r .at ≡ e .at + 8) ⌝ }
+// The edge that stands n edges after.
+pub fn edge_after(e: Edge, n: usize) -> Edge
+    requires { ⌜ (e .id .0 < 4294967296) × (e .at < 68719476736) × (n < 4294967296) ⌝ }
+    ensures { λ r. ⌜ (r .id .0 ≡ e .id .0 + n) × (r .at ≡ e .at + 8 * n) ⌝ }
 {
     let id = e.id;
-    let number = id.0 + 1;
+    let number = id.0 + n;
     Edge {
         id: EdgeId(number),
-        at: e.at + 8,
+        at: e.at + 8 * n,
     }
 }
 

@@ -34,7 +34,7 @@ fn lies_within(lo: i32, hi: i32, z: i64) -> bool
 // ---- locations
 
 // The location of a row.
-fn location_of(row: &[i32]) -> LocationId
+pub fn location_of(row: &[i32]) -> LocationId
     ensures { λ r. ⌜ (r .0 ≡ count (now (row .entry)) 0) × (r .0 < 2147483649) ⌝ }
 {
     LocationId(words::number_at(row, 0))

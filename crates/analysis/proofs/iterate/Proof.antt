@@ -26,7 +26,7 @@ cast-capacity c = search needs
 -- what is known once the slot is copied
 module _ (c : tie.After-copy) where
   abbrev at-start : tie.Start
-  at-start = c .before .before .before .before .before .before .before .before .before
+  at-start = c .before .before .before .before .before .before .before .before .before .before .before
 
   abbrev w : ℕ
   w = length (at-start .args .copy .now)
@@ -58,7 +58,7 @@ take-slot-requires c κs = search needs
 get-row-requires : tie.Need-get-row-requires
 get-row-requires c κs =
     let d = c .before .before .before in
-    let s = d .before .before .before .before in
+    let s = d .before .before .before .before .before .before in
     let h = s .pre .0 in
     let k = taken-left (length (s .args .copy .now)) (s .args .edges) (s .args .a) (s .args .table .now) (s .args .list .now) h (d .take-slot .result .0) (d .take-slot .last .1 .0) (d .take-slot .ensures) .1 in
     omega (arith, row-in (d .take-slot .result .0) (s .args .a .used) (length (s .args .copy .now)) k, in-table (h .kept))
@@ -69,18 +69,18 @@ sub-leave c = search needs
 played : (c : tie.After-leave) →
     let d = c .before .before .before .before .before in
     let s = at-start d in
-    Played (w d) (s .args .a .capacity) (c .leave .last .1 .1 .1 .1 .1 .0) (c .leave .last .1 .1 .1 .1 .1 .1 .1 .1 .1 .0) (c .leave .result)
+    Played (w d) (s .args .a .capacity) (c .leave .last .1 .1 .1 .1 .1 .1 .1 .0) (c .leave .last .1 .1 .1 .1 .1 .1 .1 .1 .1 .1 .1 .0) (c .leave .result)
     (leave (domain-of (s .args .chart .now)) (s .args .a .settings) (s .args .a .capacity) (take (w d) (drop (slot d * w d) (s .args .table .now))) (edges-from 0 (s .args .edges)) (rows-of (w d) (s .args .a .used) (s .args .table .now)) (waits (s .args .a .waiting - 1) (rest d)))
 played c =
     let d = c .before .before .before .before .before in
     let s = at-start d in
-    played-at (s .args .chart .now) (row d) (take (w d) (drop (slot d * w d) (s .args .table .now))) (w d) (s .args .a .capacity) (s .args .a .settings) (edges-from 0 (s .args .edges)) (s .args .a .used) (s .args .table .now) (c .leave .last .1 .1 .1 .1 .1 .0) (c .leave .last .1 .1 .1 .1 .1 .1 .1 .1 .1 .0) (waits (s .args .a .waiting - 1) (rest d)) (c .leave .result) (row-length d) (row-is d) (c .leave .ensures)
+    played-at (s .args .chart .now) (row d) (take (w d) (drop (slot d * w d) (s .args .table .now))) (w d) (s .args .a .capacity) (s .args .a .settings) (edges-from 0 (s .args .edges)) (s .args .a .used) (s .args .table .now) (c .leave .last .1 .1 .1 .1 .1 .1 .1 .0) (c .leave .last .1 .1 .1 .1 .1 .1 .1 .1 .1 .1 .1 .0) (waits (s .args .a .waiting - 1) (rest d)) (c .leave .result) (row-length d) (row-is d) (c .leave .ensures)
 
 leave-requires : tie.Need-leave-requires
 leave-requires c κs =
     let d = c .before .before .before .before in
     let s = at-start d in
-    (rw (row-length d) (form d), s .pre .0 .allowed, s .pre .3 ∙ sym (row-length d), s .pre .4, s .pre .5)
+    (rw (row-length d) (form d), s .pre .0 .allowed, s .pre .3 ∙ sym (row-length d), s .pre .4, s .pre .5, s .pre .6)
 
 finish-requires : tie.Need-finish-requires
 finish-requires c κs =
@@ -90,13 +90,13 @@ finish-requires c κs =
     let y = played v in
     let k = y .kept in
     let q = taken-left (w d) (s .args .edges) (s .args .a) (s .args .table .now) (s .args .list .now) (s .pre .0) (slot d) (rest d) (taken d) in
-    (k .slots, omega (arith, q .1, s .pre .0 .kept .capacity, k .list), omega (arith, k .small, k .list), more (v .leave .result .used) (length (v .leave .last .1 .1 .1 .1 .1 .1 .1 .1 .1 .0)) _ (omega (arith, k .capacity, k .list)) (k .queue), s .pre .1)
+    (k .slots, omega (arith, q .1, s .pre .0 .kept .capacity, k .list), omega (arith, k .small, k .list), more (v .leave .result .used) (length (v .leave .last .1 .1 .1 .1 .1 .1 .1 .1 .1 .1 .1 .0)) _ (omega (arith, k .capacity, k .list)) (k .queue), s .pre .1)
 
 same-length : tie.Need-same-length
 same-length c = search needs
 
 same-length-2 : tie.Need-same-length-2
-same-length-2 c = c .before .finish .kept .1 .1 .1 .0 ∙ c .before .before .before .before .before .before .leave .kept .1 .1 .1 .1 .1 .1 .1 .1 .1 .0 ∙ c .before .before .before .before .before .before .before .before .before .before .before .before .before .before .before .before .take-slot .kept .1 .0
+same-length-2 c = c .before .finish .kept .1 .1 .1 .0 ∙ c .before .before .before .before .before .before .leave .kept .1 .1 .1 .1 .1 .1 .1 .1 .1 .1 .1 .0 ∙ c .before .before .before .before .before .before .before .before .before .before .before .before .before .before .before .before .take-slot .kept .1 .0
 
 same-length-3 : tie.Need-same-length-3
 same-length-3 c = search needs
@@ -110,7 +110,7 @@ returns c =
     let v = c .before .before .before .before .before .before in
     let d = v .before .before .before .before .before in
     let s = at-start d in
-    (iteration-held (w d) (s .args .edges) (s .args .a) (s .args .table .now) (s .args .list .now) (s .pre .0) (slot d) (rest d) (taken d) (s .args .chart .now) (v .leave .result) (v .leave .last .1 .1 .1 .1 .1 .0) (v .leave .last .1 .1 .1 .1 .1 .1 .1 .1 .1 .0) (played v) (f .result) (f .last .1 .1 .1 .0) (f .kept .1 .1 .1 .0) (f .ensures), f .ensures .iterations)
+    (iteration-held (w d) (s .args .edges) (s .args .a) (s .args .table .now) (s .args .list .now) (s .pre .0) (slot d) (rest d) (taken d) (s .args .chart .now) (v .leave .result) (v .leave .last .1 .1 .1 .1 .1 .1 .1 .0) (v .leave .last .1 .1 .1 .1 .1 .1 .1 .1 .1 .1 .1 .0) (played v) (f .result) (f .last .1 .1 .1 .0) (f .kept .1 .1 .1 .0) (f .ensures), f .ensures .iterations)
 
 pub iterate-spec : {M : Type 1} → statement M
 iterate-spec =

@@ -13,21 +13,21 @@ row-length : (w : ℕ) → w ≤ 9 → length (take w (replicate 9 (pos 0))) ≡
 row-length w h = length-take-le w (replicate 9 (pos 0)) h
 
 array-borrow-prefix-copy : tie.Need-array-borrow-prefix-copy
-array-borrow-prefix-copy c = c .before .before .pre .3
+array-borrow-prefix-copy c = c .before .before .before .before .pre .3
 
 slice-aggregate-iterate : tie.Need-slice-aggregate-iterate
-slice-aggregate-iterate c = let s = c .before .before .before in sym (row-length (s .args .width) (s .pre .3))
+slice-aggregate-iterate c = let s = c .before .before .before .before .before in sym (row-length (s .args .width) (s .pre .3))
 
 array-borrow-prefix-next : tie.Need-array-borrow-prefix-next
-array-borrow-prefix-next c = c .before .before .before .pre .3
+array-borrow-prefix-next c = c .before .before .before .before .before .pre .3
 
 slice-aggregate-iterate-2 : tie.Need-slice-aggregate-iterate-2
-slice-aggregate-iterate-2 c = let s = c .before .before .before .before in sym (row-length (s .args .width) (s .pre .3))
+slice-aggregate-iterate-2 c = let s = c .before .before .before .before .before .before in sym (row-length (s .args .width) (s .pre .3))
 
 iterate-requires : tie.Need-iterate-requires
 iterate-requires c κs =
-    let s = c .before .before .before .before in
-    rw (row-length (s .args .width) (s .pre .3)) (s .pre .0, s .pre .1, s .pre .2, refl, s .pre .4, s .pre .5)
+    let s = c .before .before .before .before .before .before in
+    rw (row-length (s .args .width) (s .pre .3)) (s .pre .0, s .pre .1, s .pre .2, refl, s .pre .4, s .pre .5, s .pre .6)
 
 same-length : tie.Need-same-length
 same-length c = search needs
@@ -37,7 +37,7 @@ same-length-2 c = search needs
 
 returns : tie.Need-returns
 returns c =
-    let s = c .before .before .before .before .before .before .before .before .before in
+    let s = c .before .before .before .before .before .before .before .before .before .before .before in
     rw (row-length (s .args .width) (s .pre .3)) at (c .before .before .before .before .iterate .ensures)
 
 pub iteration-spec : {M : Type 1} → statement M

@@ -1,13 +1,14 @@
 -- `analysis::leave` meets its contract. Assumes nothing.
 use mathlib.Core.Path.{_≡_, sym, ap, _∙_}
 use mathlib.Core.List.{List}
-use Prim.Native.Nat.{ℕ, suc, _+_, _-_, _≤_}
+use Prim.Native.Nat.{ℕ, suc, _+_, _-_}
 use native.Mathlib.Numerals.{add-one}
 use native.Mathlib.Omega.{arith}
 use borrow.Author.Needs.{needs}
 use lib.IntN.{ℤ}
-use lib.ListN.{length}
+use lib.ListN.{length, getD}
 use Rattle.semantics.specs.Algorithm.{Out, then, visit, leave}
+use Rattle.semantics.specs.Encoding.{count}
 use Rattle.rows.specs.Rows.{rows-of}
 use Rattle.waitlist.specs.Waits.{waits}
 use Rattle.waitlist.proofs.Laws.{kept}
@@ -15,69 +16,96 @@ use Rattle.reached.specs.Reached.{Kept}
 use Rattle.transfer.specs.Transfer.{post-at, post-words, edges-from}
 use Rattle.analysis.specs.Loaded.{Is-edge, domain-of, out-of}
 use Rattle.analysis.proofs.Arrival.{edges-turn, edges-none, post-is, then-on, then-ended}
+use Rattle.analysis.proofs.Passing.{passed}
 use Rattle.analysis.proofs.leave.Statement.{statement}
 use Rattle.analysis.proofs.leave.Tie as tie
 
 abbrev Inv-loop : tie.InvT-loop
-Inv-loop chart edges settings capacity table₀ used copy next₀ list₀ waiting slots₀ count₀ edge₀ g₀ table next list slots count edge g =
+Inv-loop chart first edges heads nexts settings capacity table₀ used copy next₀ list₀ waiting slots₀ count₀ location g₀ table next list slots count g =
     Kept (length copy) capacity table list slots count
     × (length next ≡ length copy)
-    × (g ≤ edges)
-    × Is-edge chart g edge
     × (leave (domain-of chart) settings capacity copy (edges-from 0 edges) (rows-of (length copy) used table₀) (waits waiting list₀)
     ≡ leave (domain-of chart) settings capacity copy (edges-from g (edges - g)) (rows-of (length copy) slots table) (waits count list))
 
 abbrev μ-loop : tie.MeasureT-loop
-μ-loop chart edges settings capacity table₀ used copy next₀ list₀ waiting slots₀ count₀ edge₀ g₀ table next list slots count edge g = edges - g
+μ-loop chart first edges heads nexts settings capacity table₀ used copy next₀ list₀ waiting slots₀ count₀ location g₀ table next list slots count g = edges - g
+
+location-of-requires : tie.Need-location-of-requires Inv-loop μ-loop
+location-of-requires c κs = search needs
+
+first-leaving-requires : tie.Need-first-leaving-requires Inv-loop μ-loop
+first-leaving-requires c κs = search needs
 
 loop-holds : tie.Need-loop-holds Inv-loop μ-loop
 loop-holds c =
-    let n : c .args .edges - 0 ≡ c .args .edges = omega arith in
-    (c .pre .0, c .pre .2, omega arith, c .pre .3, rw n)
+    let s = c .before .before .before .before in
+    let a = s .args in
+    let e = a .copy .now in
+    let en = rows-of (length e) (a .used) (a .table .now) in
+    let wa = waits (a .waiting) (a .list .now) in
+    let n : a .edges ≡ a .edges - 0 = omega arith in
+    let m : getD (a .heads .now) (count e 0) 0 ≡ c .first-leaving .result = sym (c .first-leaving .ensures ∙ ap (λ (l : ℕ). getD (a .heads .now) l 0) (c .before .location-of .ensures .0)) in (
+      s .pre .0,
+      s .pre .2,
+      ap (λ (k : ℕ). leave (domain-of (a .chart .now)) (a .settings) (a .capacity) e (edges-from 0 k) en wa) n
+          ∙ passed (a .chart .now) (a .settings) (a .capacity) e (a .edges) en wa 0 (c .first-leaving .result) (omega arith) (rw m at (s .pre .5 .head (count e 0))),
+    )
+
+edge-after-requires : tie.Need-edge-after-requires Inv-loop μ-loop
+edge-after-requires c κs =
+    let s = c .before .before .before .before .before .before in
+    (omega (arith, s .pre .3 .id), omega (arith, s .pre .3 .at, s .pre .4), omega (arith, s .pre .4, c .loop-test .taken))
+
+-- the edge of the turn
+edge-is : (c : tie.After-edge-after Inv-loop μ-loop) → Is-edge (c .before .before .before .before .before .before .before .args .chart .now) (c .before .before .loop .g) (c .edge-after .result)
+edge-is c =
+    let f = c .before .before .before .before .before .before .before .pre .3 in
+    record { id = omega (arith, f .id, c .edge-after .ensures .0); at = omega (arith, f .at, c .edge-after .ensures .1) }
 
 visit-requires : tie.Need-visit-requires Inv-loop μ-loop
 visit-requires c κs =
-    let b = c .before .before .before .before in
-    let s = b .before in
-    (b .loop .inv .0, s .pre .1, b .loop .inv .1, omega (arith, b .loop .inv .3 .at, s .pre .4, c .before .before .before .loop-test .taken))
+    let b = c .before .before .before .before .before in
+    let s = b .before .before .before .before .before in
+    (b .loop .inv .0, s .pre .1, b .loop .inv .1, omega (arith, edge-is (c .before .before .before) .at, s .pre .4, c .before .before .before .before .loop-test .taken))
 
 -- a turn, once the edge is played
 turn : (c : tie.After-has-ended Inv-loop μ-loop) →
     let m = c .before .before .before .before .visit in
-    let b = c .before .before .before .before .before .before .before .before .before in
-    let a = b .before .args in
+    let b = c .before .before .before .before .before .before .before .before .before .before in
+    let a = b .before .before .before .before .before .args in
     leave (domain-of (a .chart .now)) (a .settings) (a .capacity) (a .copy .now) (edges-from 0 (a .edges)) (rows-of (length (a .copy .now)) (a .used) (a .table .now)) (waits (a .waiting) (a .list .now))
     ≡ then (out-of (length (a .copy .now)) (m .last .1 .1 .1 .1 .0) (m .last .1 .1 .1 .1 .1 .1 .1 .1 .0) (m .result))
     (λ en wa. leave (domain-of (a .chart .now)) (a .settings) (a .capacity) (a .copy .now) (edges-from (b .loop .g + 1) (a .edges - (b .loop .g + 1))) en wa)
 turn c =
     let m = c .before .before .before .before .visit in
-    let b = c .before .before .before .before .before .before .before .before .before in
-    let a = b .before .args in
+    let d = c .before .before .before .before .before .before .before .before in
+    let b = d .before .before in
+    let a = b .before .before .before .before .before .args in
     let D = domain-of (a .chart .now) in
     let e = a .copy .now in
     let en = rows-of (length e) (b .loop .slots) (b .loop .table) in
     let wa = waits (b .loop .count) (b .loop .list) in
-    let q : post-words (a .chart .now) (b .loop .g) e ≡ post-at (a .chart .now) (b .loop .edge .at) e =
-    post-is (a .chart .now) (b .loop .g) e ∙ ap (λ (n : ℕ). post-at (a .chart .now) n e) (sym (b .loop .inv .3 .at)) in
+    let q : post-words (a .chart .now) (b .loop .g) e ≡ post-at (a .chart .now) (d .edge-after .result .at) e =
+    post-is (a .chart .now) (b .loop .g) e ∙ ap (λ (n : ℕ). post-at (a .chart .now) n e) (sym (edge-is d .at)) in
     let o : out-of (length e) (m .last .1 .1 .1 .1 .0) (m .last .1 .1 .1 .1 .1 .1 .1 .1 .0) (m .result)
     ≡ visit D (a .settings) (a .capacity) (suc (b .loop .g)) (post-words (a .chart .now) (b .loop .g) e) en wa =
-    m .ensures .out ∙ rw (b .loop .inv .3 .id, add-one, q) in
+    m .ensures .out ∙ rw (edge-is d .id, add-one, q) in
     let gs = edges-from (b .loop .g + 1) (a .edges - (b .loop .g + 1)) in
-    b .loop .inv .4
-    ∙ ap (λ (x : List ℕ). leave D (a .settings) (a .capacity) e x en wa) (edges-turn (b .loop .g) (a .edges) (c .before .before .before .before .before .before .before .before .loop-test .taken))
+    b .loop .inv .2
+    ∙ ap (λ (x : List ℕ). leave D (a .settings) (a .capacity) e x en wa) (edges-turn (b .loop .g) (a .edges) (d .before .loop-test .taken))
     ∙ ap (λ (x : Out (List ℤ)). then x (λ en wa. leave D (a .settings) (a .capacity) e gs en wa)) (sym o)
 
 has-ended-requires : tie.Need-has-ended-requires Inv-loop μ-loop
 has-ended-requires c κs = search needs
 
 same-length : tie.Need-same-length Inv-loop μ-loop
-same-length c = search needs
+same-length c = c .before .before .before .before .before .visit .ensures .kept .table ∙ sym (c .before .before .before .before .before .before .before .before .before .before .before .before .before .before .before .before .pre .0 .table)
 
 same-length-2 : tie.Need-same-length-2 Inv-loop μ-loop
 same-length-2 c = search needs
 
 same-length-3 : tie.Need-same-length-3 Inv-loop μ-loop
-same-length-3 c = search needs
+same-length-3 c = c .before .before .before .before .before .visit .ensures .kept .list ∙ sym (c .before .before .before .before .before .before .before .before .before .before .before .before .before .before .before .before .pre .0 .list)
 
 returns : tie.Need-returns Inv-loop μ-loop
 returns c =
@@ -86,29 +114,30 @@ returns c =
     let over = sym (d .has-ended .ensures) ∙ c .if1 .taken in
     record { out = sym (turn d ∙ then-ended _ _ _ _ (m .result .exit) over); kept = m .ensures .kept }
 
-next-edge-requires : tie.Need-next-edge-requires Inv-loop μ-loop
-next-edge-requires c κs =
-    let b = c .before .before .before .before .before .before .before .before .before .before in
-    let t = c .before .before .before .before .before .before .before .before .before .loop-test .taken in
-    (omega (arith, b .loop .inv .3 .id, b .before .pre .4, t), omega (arith, b .loop .inv .3 .at, b .before .pre .4, t))
-
-add-g : tie.Need-add-g Inv-loop μ-loop
-add-g c = omega (arith, c .before .before .before .before .before .before .before .before .before .before .loop-test .taken)
+next-leaving-requires : tie.Need-next-leaving-requires Inv-loop μ-loop
+next-leaving-requires c κs =
+    let d = c .before .before .before .before .before .before .before .before .before in
+    let b = d .before .before in
+    let s = b .before .before .before .before .before in
+    (s .pre .5 .next (b .loop .g), edge-is d .at, omega (arith, s .pre .4, d .before .loop-test .taken))
 
 loop-less : tie.Need-loop-less Inv-loop μ-loop
-loop-less c = omega (arith, c .before .before .before .before .before .before .before .before .before .before .loop-test .taken)
+loop-less c = omega (arith, c .next-leaving .ensures .0, c .before .before .before .before .before .before .before .before .before .before .before .loop-test .taken)
 
 loop-again : tie.Need-loop-again Inv-loop μ-loop
 loop-again c =
     let d = c .before .before in
     let m = d .before .before .before .before .visit in
-    let b = d .before .before .before .before .before .before .before .before .before in
-    let going = sym (d .has-ended .ensures) ∙ c .before .if1 .left in (
+    let b = d .before .before .before .before .before .before .before .before .before .before in
+    let a = b .before .before .before .before .before .args in
+    let e = a .copy .now in
+    let going = sym (d .has-ended .ensures) ∙ c .before .if1 .left in
+    let en = rows-of (length e) (m .result .used) (m .last .1 .1 .1 .1 .0) in
+    let wa = waits (m .result .waiting) (m .last .1 .1 .1 .1 .1 .1 .1 .1 .0) in (
       m .ensures .kept,
       m .kept .1 .1 .1 .1 .1 .1 .1 .0 ∙ b .loop .inv .1,
-      omega (arith, d .before .before .before .before .before .before .before .before .loop-test .taken),
-      record { id = omega (arith, b .loop .inv .3 .id, c .next-edge .ensures .0); at = omega (arith, b .loop .inv .3 .at, c .next-edge .ensures .1) },
-      turn d ∙ then-on _ _ _ _ (m .result .exit) going,
+      turn d ∙ then-on _ _ _ _ (m .result .exit) going
+          ∙ passed (a .chart .now) (a .settings) (a .capacity) e (a .edges) en wa (b .loop .g + 1) (c .next-leaving .result) (omega (arith, c .next-leaving .ensures .0)) (rw (b .before .before .location-of .ensures .0) at (c .next-leaving .ensures .1)),
     )
 
 same-length-4 : tie.Need-same-length-4 Inv-loop μ-loop
@@ -123,7 +152,7 @@ same-length-6 c = search needs
 returns-2 : tie.Need-returns-2 Inv-loop μ-loop
 returns-2 c =
     let b = c .before in
-    record { out = sym (b .loop .inv .4 ∙ rw (edges-none (b .loop .g) (b .before .args .edges) (omega arith))); kept = b .loop .inv .0 }
+    record { out = sym (b .loop .inv .2 ∙ rw (edges-none (b .loop .g) (b .before .before .before .before .before .args .edges) (c .loop-test .left))); kept = b .loop .inv .0 }
 
 pub leave-spec : {M : Type 1} → statement M
 leave-spec =
@@ -131,15 +160,17 @@ leave-spec =
     (tie.spec
     Inv-loop
     μ-loop
+    location-of-requires
+    first-leaving-requires
     loop-holds
+    edge-after-requires
     visit-requires
     has-ended-requires
     same-length
     same-length-2
     same-length-3
     returns
-    next-edge-requires
-    add-g
+    next-leaving-requires
     loop-less
     loop-again
     same-length-4

@@ -1,121 +1,54 @@
 -- `analysis::run_core` meets its contract. Assumes nothing.
-use mathlib.Core.Path.{_≡_, refl, sym, _∙_}
-use Prim.Native.Nat.{suc, _+_, _-_, _≤_}
-use native.Mathlib.Omega.{arith}
 use borrow.Author.Needs.{needs}
-use lib.ListN.{length}
-use Rattle.semantics.specs.Algorithm.{iteration, run}
-use Rattle.waitlist.proofs.Laws.{held, kept}
-use Rattle.transfer.specs.Transfer.{edges-from}
-use Rattle.analysis.specs.Loaded.{domain-of, load-of, Held}
-use Rattle.analysis.proofs.Iterations.{run-closed, run-open, run-none, open-waits}
+use Rattle.leaving.proofs.Links.{unchained}
 use Rattle.analysis.proofs.run_core.Statement.{statement}
 use Rattle.analysis.proofs.run_core.Tie as tie
 
-abbrev Inv-loop : tie.InvT-loop
-Inv-loop chart edges width budget table₀ list₀ first left₀ at₀ table list left at =
-    Held width edges at table list
-    × (length table ≡ length table₀)
-    × (length list ≡ length list₀)
-    × (at .iterations + left ≤ 60000)
-    × (run (domain-of chart) (edges-from 0 edges) left₀ (load-of width at₀ table₀ list₀)
-    ≡ run (domain-of chart) (edges-from 0 edges) left (load-of width at table list))
-
-abbrev μ-loop : tie.MeasureT-loop
-μ-loop chart edges width budget table₀ list₀ first left₀ at₀ table list left at = left
-
-first-edge-requires : tie.Need-first-edge-requires Inv-loop μ-loop
+first-edge-requires : tie.Need-first-edge-requires
 first-edge-requires c κs = search needs
 
-allowance-requires : tie.Need-allowance-requires Inv-loop μ-loop
+slice-aggregate-chain : tie.Need-slice-aggregate-chain
+slice-aggregate-chain c = search needs
+
+slice-aggregate-chain-2 : tie.Need-slice-aggregate-chain-2
+slice-aggregate-chain-2 c = search needs
+
+chain-requires : tie.Need-chain-requires
+chain-requires c κs = let s = c .before .before .before in (unchained (s .args .chart .now) (s .args .edges) 64 256, s .pre .3)
+
+allowance-requires : tie.Need-allowance-requires
 allowance-requires c κs = search needs
 
-loop-holds : tie.Need-loop-holds Inv-loop μ-loop
-loop-holds c = let s = c .before .before in (s .pre .0, refl, refl, omega (arith, c .allowance .ensures, s .pre .1), refl)
+slice-aggregate-play : tie.Need-slice-aggregate-play
+slice-aggregate-play c = search needs
 
-has-verdict-requires : tie.Need-has-verdict-requires Inv-loop μ-loop
-has-verdict-requires c κs = search needs
+slice-aggregate-play-2 : tie.Need-slice-aggregate-play-2
+slice-aggregate-play-2 c = search needs
 
-same-length : tie.Need-same-length Inv-loop μ-loop
+play-requires : tie.Need-play-requires
+play-requires c κs = search needs
+
+same-length : tie.Need-same-length
 same-length c = search needs
 
-same-length-2 : tie.Need-same-length-2 Inv-loop μ-loop
+same-length-2 : tie.Need-same-length-2
 same-length-2 c = search needs
 
-returns : tie.Need-returns Inv-loop μ-loop
-returns c =
-    let b = c .before .before .before in
-    let s = b .before .before .before in
-    let given = sym (c .before .has-verdict .ensures) ∙ c .if1 .taken in
-    rw (← b .before .allowance .ensures) (record {
-      load = sym (b .loop .inv .4 ∙ run-closed (domain-of (s .args .chart .now)) (edges-from 0 (s .args .edges)) (b .loop .left) (load-of (s .args .width) (b .loop .at) (b .loop .table) (b .loop .list)) given);
-      held = b .loop .inv .0;
-    })
-
-iteration-requires : tie.Need-iteration-requires Inv-loop μ-loop
-iteration-requires c κs =
-    let b = c .before .before .before .before .before in
-    let s = b .before .before .before in
-    let h = b .loop .inv .0 in
-    let none = sym (c .before .before .before .has-verdict .ensures) ∙ c .before .before .if1 .left in
-    let o = open-waits (s .args .width) (s .args .edges) (b .loop .at) (b .loop .table) (b .loop .list) h none in
-    (h, omega (arith, b .loop .inv .3, c .before .before .before .before .loop-test .taken), o, s .pre .2, record { id = b .before .before .first-edge .ensures .0; at = omega (arith, b .before .before .first-edge .ensures .1) }, s .pre .3)
-
-sub-left : tie.Need-sub-left Inv-loop μ-loop
-sub-left c = search needs
-
-loop-less : tie.Need-loop-less Inv-loop μ-loop
-loop-less c = search needs
-
-loop-again : tie.Need-loop-again Inv-loop μ-loop
-loop-again c =
-    let b = c .before .before .before .before .before .before .before .before in
-    let s = b .before .before .before in
-    let i = c .before .before .iteration in
-    let none = sym (c .before .before .before .before .before .before .has-verdict .ensures) ∙ c .before .before .before .before .before .if1 .left in
-    let lt = c .before .before .before .before .before .before .before .loop-test .taken in
-    let m : b .loop .left ≡ suc (b .loop .left - 1) = omega (arith, lt) in
-    let x = load-of (s .args .width) (b .loop .at) (b .loop .table) (b .loop .list) in (
-      i .ensures .0 .held,
-      i .kept .1 .1 .1 .1 .1 .0 ∙ b .loop .inv .1,
-      i .kept .1 .1 .1 .1 .1 .1 .0 ∙ b .loop .inv .2,
-      omega (arith, i .ensures .1, b .loop .inv .3, lt),
-      b .loop .inv .4 ∙ run-open (domain-of (s .args .chart .now)) (edges-from 0 (s .args .edges)) (b .loop .left) (b .loop .left - 1) x none m ∙ rw (i .ensures .0 .load),
-    )
-
-same-length-3 : tie.Need-same-length-3 Inv-loop μ-loop
-same-length-3 c = search needs
-
-same-length-4 : tie.Need-same-length-4 Inv-loop μ-loop
-same-length-4 c = search needs
-
-returns-2 : tie.Need-returns-2 Inv-loop μ-loop
-returns-2 c =
-    let b = c .before in
-    let s = b .before .before .before in
-    let x = load-of (s .args .width) (b .loop .at) (b .loop .table) (b .loop .list) in
-    rw (← b .before .allowance .ensures) (record {
-      load = sym (b .loop .inv .4 ∙ run-none (domain-of (s .args .chart .now)) (edges-from 0 (s .args .edges)) (b .loop .left) x (omega (arith, c .loop-test .left)));
-      held = b .loop .inv .0;
-    })
+returns : tie.Need-returns
+returns c = rw (c .before .before .before .before .before .before .before .allowance .ensures) at (c .before .before .play .ensures)
 
 pub run-core-spec : {M : Type 1} → statement M
 run-core-spec =
     tie.close
     (tie.spec
-    Inv-loop
-    μ-loop
     first-edge-requires
+    slice-aggregate-chain
+    slice-aggregate-chain-2
+    chain-requires
     allowance-requires
-    loop-holds
-    has-verdict-requires
+    slice-aggregate-play
+    slice-aggregate-play-2
+    play-requires
     same-length
     same-length-2
-    returns
-    iteration-requires
-    sub-left
-    loop-less
-    loop-again
-    same-length-3
-    same-length-4
-    returns-2)
+    returns)

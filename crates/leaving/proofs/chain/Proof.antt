@@ -1,0 +1,95 @@
+-- `leaving::chain` meets its contract. Assumes nothing.
+use mathlib.Core.Path.{_≡_, refl, sym, ap, _∙_}
+use Prim.Native.Nat.{_+_, _-_, _≤_}
+use native.Mathlib.Omega.{arith}
+use borrow.Author.Needs.{needs}
+use lib.ListN.{length}
+use Rattle.semantics.specs.Encoding.{count}
+use Rattle.transfer.specs.Transfer.{edge-at}
+use Rattle.leaving.specs.Chains.{from-at, Chained}
+use Rattle.leaving.proofs.Links.{linked}
+use Rattle.leaving.proofs.chain.Statement.{statement}
+use Rattle.leaving.proofs.chain.Tie as tie
+
+abbrev Inv-loop : tie.InvT-loop
+Inv-loop chart edges heads₀ nexts₀ first g₀ heads nexts g =
+    Chained chart g heads nexts × (g ≤ edges) × (length heads ≡ length heads₀) × (length nexts ≡ length nexts₀)
+
+abbrev μ-loop : tie.MeasureT-loop
+μ-loop chart edges heads₀ nexts₀ first g₀ heads nexts g = g
+
+first-edge-requires : tie.Need-first-edge-requires Inv-loop μ-loop
+first-edge-requires c κs = search needs
+
+loop-holds : tie.Need-loop-holds Inv-loop μ-loop
+loop-holds c = (c .before .before .before .pre .0, omega arith, refl, refl)
+
+sub-g : tie.Need-sub-g Inv-loop μ-loop
+sub-g c = search needs
+
+edge-after-requires : tie.Need-edge-after-requires Inv-loop μ-loop
+edge-after-requires c κs = search needs
+
+edge-from-requires : tie.Need-edge-from-requires Inv-loop μ-loop
+edge-from-requires c κs = search needs
+
+number-at-requires : tie.Need-number-at-requires Inv-loop μ-loop
+number-at-requires c κs = search needs
+
+put-requires : tie.Need-put-requires Inv-loop μ-loop
+put-requires c κs = search needs
+
+put-requires-2 : tie.Need-put-requires-2 Inv-loop μ-loop
+put-requires-2 c κs = search needs
+
+loop-less : tie.Need-loop-less Inv-loop μ-loop
+loop-less c = search needs
+
+loop-again : tie.Need-loop-again Inv-loop μ-loop
+loop-again c =
+    let two = c .before .before .put2 in
+    let one = c .before .before .before .before .before .before .put in
+    let d = c .before .before .before .before .before .before .before .before in
+    let e = d .before .before in
+    let b = e .before .before .before in
+    let s = b .before .before .before .before in
+    let k : b .loop .g - 1 + 1 ≡ b .loop .g = omega (arith, e .before .before .loop-test .taken) in
+    let at : e .before .edge-after .result .at ≡ edge-at (s .args .chart .now) (b .loop .g - 1) = omega (arith, e .before .edge-after .ensures .1, b .before .first-edge .ensures .1) in
+    let from : e .edge-from .result .0 ≡ from-at (s .args .chart .now) (b .loop .g - 1) = e .edge-from .ensures .0 ∙ ap (count (s .args .chart .now)) at in (
+      rw (two .ensures, one .ensures, d .number-at .ensures) (linked (s .args .chart .now) (b .loop .g - 1) (e .edge-from .result .0) (b .loop .heads) (b .loop .nexts) from (rw k (b .loop .inv .0))),
+      omega (arith, b .loop .inv .1),
+      two .kept .0 ∙ b .loop .inv .2,
+      one .kept .0 ∙ b .loop .inv .3,
+    )
+
+same-length : tie.Need-same-length Inv-loop μ-loop
+same-length c = search needs
+
+same-length-2 : tie.Need-same-length-2 Inv-loop μ-loop
+same-length-2 c = search needs
+
+returns : tie.Need-returns Inv-loop μ-loop
+returns c =
+    let b = c .before in
+    let z : b .loop .g ≡ 0 = omega (arith, c .loop-test .left) in
+    rw z at (b .loop .inv .0)
+
+pub chain-spec : {M : Type 1} → statement M
+chain-spec =
+    tie.close
+    (tie.spec
+    Inv-loop
+    μ-loop
+    first-edge-requires
+    loop-holds
+    sub-g
+    edge-after-requires
+    edge-from-requires
+    number-at-requires
+    put-requires
+    put-requires-2
+    loop-less
+    loop-again
+    same-length
+    same-length-2
+    returns)

@@ -1,0 +1,36 @@
+-- `leaving::next_leaving` meets its contract. Assumes nothing.
+use mathlib.Core.Path.{_≡_, sym, ap, _∙_}
+use native.Mathlib.Omega.{arith}
+use borrow.Author.Needs.{needs}
+use Rattle.semantics.specs.Encoding.{count}
+use Rattle.leaving.specs.Chains.{from-at}
+use Rattle.leaving.proofs.next_leaving.Statement.{statement}
+use Rattle.leaving.proofs.next_leaving.Tie as tie
+
+add-step : tie.Need-add-step
+add-step c = search needs
+
+edge-from-requires : tie.Need-edge-from-requires
+edge-from-requires c κs = search needs
+
+returns : tie.Need-returns
+returns c = search needs
+
+number-at-requires : tie.Need-number-at-requires
+number-at-requires c κs = search needs
+
+returns-2 : tie.Need-returns-2
+returns-2 c = search needs
+
+returns-3 : tie.Need-returns-3
+returns-3 c =
+    let n = c .before .number-at in
+    let f = c .before .before .before .before .before .edge-from in
+    let s = c .before .before .before .before .before .before .before in
+    let same : from-at (s .args .chart .now) (s .args .g) ≡ s .args .l .0 =
+    ap (count (s .args .chart .now)) (sym (s .pre .1)) ∙ sym (f .ensures .0) ∙ c .before .before .if1 .left in
+    (omega (arith, c .if2 .left), λ j lo hi e. s .pre .0 j lo (rw (n .ensures) at hi) (e ∙ sym same))
+
+pub next-leaving-spec : {M : Type 1} → statement M
+next-leaving-spec =
+    tie.close (tie.spec add-step edge-from-requires returns number-at-requires returns-2 returns-3)
