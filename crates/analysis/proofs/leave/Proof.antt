@@ -13,7 +13,7 @@ use Rattle.rows.specs.Rows.{rows-of}
 use Rattle.waitlist.specs.Waits.{waits}
 use Rattle.waitlist.proofs.Laws.{kept}
 use Rattle.reached.specs.Reached.{Kept}
-use Rattle.transfer.specs.Transfer.{edge-at, post-at, post-words, edges-from}
+use Rattle.transfer.specs.Transfer.{post-at, post-words, edges-from}
 use Rattle.analysis.specs.Loaded.{Is-edge, domain-of, out-of}
 use Rattle.analysis.proofs.Arrival.{edges-turn, edges-none, post-is, then-on, then-ended}
 use Rattle.analysis.proofs.Passing.{passed}
