@@ -148,7 +148,7 @@ fn has_ended(exit: Exit) -> bool
     }
 }
 
-// The edges in file order, each with the copy; those between two of the location's chain are passed over.
+// The edges in file order, each with the copy. Those that the chain of its location passes over would change nothing.
 fn leave(
     chart: &[i32],
     first: Edge,
@@ -356,7 +356,7 @@ fn allowance(budget: u32, iterations: u32) -> u32
     left
 }
 
-// Iterations until a verdict or until so many were played.
+// Iterations until a verdict, `most` at most.
 fn play(
     chart: &[i32],
     first: Edge,

@@ -414,7 +414,7 @@ pub fn is_error_location(words: &[i32], l: LocationId) -> bool
 
 // ---- edges
 
-// An edge: its number, and where its words stand. The two are carried along together, so that no edge takes a product.
+// An edge: its number, and where its words stand. The two are carried along together, so that no accessor has to count.
 pub struct Edge {
     pub id: EdgeId,
     pub at: usize,

@@ -1,7 +1,7 @@
 // The edges that leave a location, chained in file order in lent numbers, so that an iteration looks at the edges of its
-// location and not at all edges. `heads` has for each location the first edge that leaves it, `nexts` for each edge the
-// next one that leaves the same location; edges count from 0, and the count of edges stands for none. Past the end of
-// either a number is 0, which passes over nothing: so nothing is asked of a location or of the count of edges.
+// location and not at all. `heads` has for each location the first edge that leaves it, `nexts` for each edge the next one
+// that leaves the same location; edges count from 0, and the count of edges stands for none. Past the end of either a
+// number is 0, which passes over nothing: so nothing is asked of a location or of the count of edges.
 use encoded::Edge;
 use semantics::LocationId;
 ghost use mathlib.Core.Path.{_≡_};
@@ -29,7 +29,7 @@ fn put(s: &mut [usize], i: usize, x: usize)
     }
 }
 
-// Chains all edges, from the last to the first.
+// Chains all edges, from the last to the first: each becomes the head of its chain.
 pub fn chain(chart: &[i32], edges: usize, heads: &mut [usize], nexts: &mut [usize])
     requires { ⌜ Chained (now chart) edges (now heads) (now nexts) × (edge-at (now chart) edges < 4294967296) ⌝ }
     ensures { λ _. ⌜ Chained (now (chart .entry)) 0 (now (heads .exit)) (now (nexts .exit)) ⌝ }
@@ -54,7 +54,7 @@ pub fn first_leaving(heads: &[usize], l: LocationId) -> usize
     number_at(heads, l.0)
 }
 
-// The edge after g to look at next. The chain of g serves if g leaves the location.
+// The edge to look at after edge g. The chain of g serves only if g leaves the location.
 pub fn next_leaving(chart: &[i32], edge: Edge, g: usize, nexts: &[usize], l: LocationId) -> usize
     requires { ⌜ Passed (now chart) (from-at (now chart) g) (g + 1) (getD (now nexts) g 0) × (edge .at ≡ edge-at (now chart) g) × (g < 4294967296) ⌝ }
     ensures { λ r. ⌜ (g < r) × Passed (now (chart .entry)) (l .0) (g + 1) r ⌝ }

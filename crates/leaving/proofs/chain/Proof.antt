@@ -1,5 +1,5 @@
 -- `leaving::chain` meets its contract. Assumes nothing.
-use mathlib.Core.Path.{_≡_, refl, sym, ap, _∙_}
+use mathlib.Core.Path.{_≡_, refl, ap, _∙_}
 use Prim.Native.Nat.{_+_, _-_, _≤_}
 use native.Mathlib.Omega.{arith}
 use borrow.Author.Needs.{needs}
@@ -18,32 +18,8 @@ Inv-loop chart edges heads₀ nexts₀ first g₀ heads nexts g =
 abbrev μ-loop : tie.MeasureT-loop
 μ-loop chart edges heads₀ nexts₀ first g₀ heads nexts g = g
 
-first-edge-requires : tie.Need-first-edge-requires Inv-loop μ-loop
-first-edge-requires c κs = search needs
-
 loop-holds : tie.Need-loop-holds Inv-loop μ-loop
 loop-holds c = (c .before .before .before .pre .0, omega arith, refl, refl)
-
-sub-g : tie.Need-sub-g Inv-loop μ-loop
-sub-g c = search needs
-
-edge-after-requires : tie.Need-edge-after-requires Inv-loop μ-loop
-edge-after-requires c κs = search needs
-
-edge-from-requires : tie.Need-edge-from-requires Inv-loop μ-loop
-edge-from-requires c κs = search needs
-
-number-at-requires : tie.Need-number-at-requires Inv-loop μ-loop
-number-at-requires c κs = search needs
-
-put-requires : tie.Need-put-requires Inv-loop μ-loop
-put-requires c κs = search needs
-
-put-requires-2 : tie.Need-put-requires-2 Inv-loop μ-loop
-put-requires-2 c κs = search needs
-
-loop-less : tie.Need-loop-less Inv-loop μ-loop
-loop-less c = search needs
 
 loop-again : tie.Need-loop-again Inv-loop μ-loop
 loop-again c =
@@ -62,12 +38,6 @@ loop-again c =
       one .kept .0 ∙ b .loop .inv .3,
     )
 
-same-length : tie.Need-same-length Inv-loop μ-loop
-same-length c = search needs
-
-same-length-2 : tie.Need-same-length-2 Inv-loop μ-loop
-same-length-2 c = search needs
-
 returns : tie.Need-returns Inv-loop μ-loop
 returns c =
     let b = c .before in
@@ -80,16 +50,16 @@ chain-spec =
     (tie.spec
     Inv-loop
     μ-loop
-    first-edge-requires
+    (λ c κs. search needs)
     loop-holds
-    sub-g
-    edge-after-requires
-    edge-from-requires
-    number-at-requires
-    put-requires
-    put-requires-2
-    loop-less
+    (λ c. search needs)
+    (λ c κs. search needs)
+    (λ c κs. search needs)
+    (λ c κs. search needs)
+    (λ c κs. search needs)
+    (λ c κs. search needs)
+    (λ c. search needs)
     loop-again
-    same-length
-    same-length-2
+    (λ c. search needs)
+    (λ c. search needs)
     returns)

@@ -7,21 +7,6 @@ use Rattle.leaving.specs.Chains.{from-at}
 use Rattle.leaving.proofs.next_leaving.Statement.{statement}
 use Rattle.leaving.proofs.next_leaving.Tie as tie
 
-add-step : tie.Need-add-step
-add-step c = search needs
-
-edge-from-requires : tie.Need-edge-from-requires
-edge-from-requires c κs = search needs
-
-returns : tie.Need-returns
-returns c = search needs
-
-number-at-requires : tie.Need-number-at-requires
-number-at-requires c κs = search needs
-
-returns-2 : tie.Need-returns-2
-returns-2 c = search needs
-
 returns-3 : tie.Need-returns-3
 returns-3 c =
     let n = c .before .number-at in
@@ -33,4 +18,4 @@ returns-3 c =
 
 pub next-leaving-spec : {M : Type 1} → statement M
 next-leaving-spec =
-    tie.close (tie.spec add-step edge-from-requires returns number-at-requires returns-2 returns-3)
+    tie.close (tie.spec (λ c. search needs) (λ c κs. search needs) (λ c. search needs) (λ c κs. search needs) (λ c. search needs) returns-3)
