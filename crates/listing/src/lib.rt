@@ -110,11 +110,11 @@ fn put_name(out: &mut [u8], at: usize, chart: &[i32], l: LocationId) -> usize
     requires { ⌜ T (well-formed (now chart)) ⌝ }
     ensures { λ r. ⌜ Put at (tabbed (loc-text (decode (now (chart .entry)) .locs) (l .0))) (now (out .entry)) (now (out .exit)) r ⌝ }
 {
-    let n = encoded::name_length(chart, l);
+    let name = encoded::name(chart, l);
     let mut place = writing::put_byte(out, at, TAB);
     let mut i = 0;
-    while i < n {
-        let b = encoded::name_byte(chart, l, i);
+    while i < name.len() {
+        let b = encoded::name_byte(name[i]);
         place = writing::put_byte(out, place, b);
         i += 1;
     }
