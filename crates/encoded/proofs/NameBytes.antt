@@ -1,14 +1,14 @@
 -- The name of a location, as its words have it, and that its numbers are bytes where the words are in form. Assumes nothing.
-use mathlib.Core.Path.{_≡_, refl, sym, _∙_}
+use mathlib.Core.Path.{_≡_, refl, ap, _∙_}
 use mathlib.Core.Bool.{Bool, true, false, _||_}
-use mathlib.Core.List.{List, [], _∷_}
+use mathlib.Core.List.{List, [], _∷_, map}
 use Prim.Native.Nat.{ℕ, zero, suc, _+_, _*_, _≤_, _<_}
 use native.Mathlib.Omega.{arith}
 use borrow.Author.Tests.{lt-ltb}
 use lib.Dec.{T, leb, eqb, leb→le, eqb→eq}
 use lib.IntN.{ℤ, pos, natAbs}
-use lib.ListN.{length, getD, drop}
-use lib.Seq.{drop-drop, getD-drop}
+use lib.ListN.{length, getD, take, drop}
+use lib.Seq.{drop-drop}
 use Rattle.semantics.specs.Lists.{all}
 use Rattle.semantics.specs.Text.{between, name-byte, name-ok}
 use Rattle.semantics.specs.Chart.{Loc, eqZ}
@@ -43,21 +43,23 @@ module _ (ws : List ℤ) (k : ℕ) where
   unfolding decode
   no-name h = text-past (count ws 1) k _ h
 
--- byte i of a name
-byte-at : (n : ℕ) (ws : List ℤ) (i : ℕ) → i < length (name-in n ws) → getD (name-in n ws) i 0 ≡ natAbs (getD ws i (pos 0))
-byte-at zero ws i h = absurd (omega arith)
-byte-at (suc n) [] i h = absurd (omega arith)
-byte-at (suc n) (x ∷ xs) i h = go (byte-at n xs) (eqZ x (pos 0)) i h where
-  go : ((i : ℕ) → i < length (name-in n xs) → getD (name-in n xs) i 0 ≡ natAbs (getD xs i (pos 0))) → (b : Bool) (i : ℕ)
-      → i < length (byte-unless b x (name-in n xs)) → getD (byte-unless b x (name-in n xs)) i 0 ≡ natAbs (getD (x ∷ xs) i (pos 0))
-  go ih true i h = absurd (omega arith)
-  go ih false zero h = refl
-  go ih false (suc i) h = ih i (omega arith)
+-- a name has a word for each byte
+bytes-in : (n : ℕ) (ws : List ℤ) → (map natAbs (take (length (name-in n ws)) ws) ≡ name-in n ws) × (length (name-in n ws) ≤ length ws)
+bytes-in zero ws = (refl, omega arith)
+bytes-in (suc n) [] = (refl, omega arith)
+bytes-in (suc n) (x ∷ xs) = go (eqZ x (pos 0)) (bytes-in n xs) where
+  go : (b : Bool) → (map natAbs (take (length (name-in n xs)) xs) ≡ name-in n xs) × (length (name-in n xs) ≤ length xs)
+      → (map natAbs (take (length (byte-unless b x (name-in n xs))) (x ∷ xs)) ≡ byte-unless b x (name-in n xs)) × (length (byte-unless b x (name-in n xs)) ≤ length (x ∷ xs))
+  go true ih = (refl, omega arith)
+  go false ih = (ap (λ (bs : List ℕ). natAbs x ∷ bs) (ih .0), omega (arith, ih .1))
 
-pub count-at : (row : List ℤ) (i : ℕ) → i < length (loc-in row .name) → count row (i + 1) ≡ getD (loc-in row .name) i 0
-count-at row i h =
-    let e : 1 + i ≡ i + 1 = omega arith in
-    sym (byte-at 16 (drop 1 row) i h ∙ rw (getD-drop 1 row i (pos 0), e))
+pub name-words : (row : List ℤ) → map natAbs (take (length (loc-in row .name)) (drop 1 row)) ≡ loc-in row .name
+name-words row = bytes-in 16 (drop 1 row) .0
+
+-- a row with no room for its name's words has no words
+pub name-less : (row : List ℤ) → length row < length (loc-in row .name) + 1 → loc-in row .name ≡ []
+name-less [] h = refl
+name-less (x ∷ xs) h = absurd (omega (arith, bytes-in 16 xs .1))
 
 -- ---- in form, the numbers are bytes
 

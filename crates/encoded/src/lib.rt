@@ -3,8 +3,9 @@ use semantics::EdgeId;
 use semantics::LocationId;
 ghost use mathlib.Core.Path.{_≡_};
 ghost use mathlib.Core.Bool.{not};
+ghost use mathlib.Core.List.{map};
 ghost use Prim.Native.Nat.{suc, _+_, _*_, _<_, _≤_};
-ghost use lib.IntN.{pos};
+ghost use lib.IntN.{pos, natAbs};
 ghost use lib.ListN.{length, getD};
 ghost use Rattle.semantics.specs.Lists.{all};
 ghost use Rattle.semantics.specs.Text.{same-bytes};
@@ -521,28 +522,25 @@ fn location_row(words: &[i32], l: LocationId) -> &[i32]
     &words[0..0]
 }
 
-pub fn name_length(words: &[i32], l: LocationId) -> usize
-    ensures { λ r. ⌜ (r ≡ length (loc-text (decode (now (words .entry)) .locs) (l .0))) × (r ≤ 16) ⌝ }
-{
-    row_name_length(location_row(words, l))
-}
-
-fn low_byte(n: usize) -> u8
-    ensures { λ r. ⌜ r ≡ byte-of n ⌝ }
-{
-    if n < 256 {
-        return n as u8;
-    }
-    0
-}
-
-// A byte of a location's name; 0 past its end.
-pub fn name_byte(words: &[i32], l: LocationId, i: usize) -> u8
-    ensures { λ r. ⌜ r ≡ byte-of (getD (loc-text (decode (now (words .entry)) .locs) (l .0)) i 0) ⌝ }
+// The words of a location's name, a byte each; none where there is no such location.
+pub fn name(words: &[i32], l: LocationId) -> &[i32]
+    ensures { λ r. ⌜ map natAbs (now r) ≡ loc-text (decode (now (words .entry)) .locs) (l .0) ⌝ }
 {
     let row = location_row(words, l);
-    if i < row_name_length(row) {
-        return low_byte(words::number_at(row, i + 1));
+    let end = row_name_length(row) + 1;
+    if end <= row.len() {
+        return &row[1..end];
+    }
+    &words[0..0]
+}
+
+// The byte in a word of a name; a name in form has no other words.
+pub fn name_byte(w: i32) -> u8
+    ensures { λ r. ⌜ r ≡ byte-of (natAbs w) ⌝ }
+{
+    let n = words::magnitude(w);
+    if n < 256 {
+        return n as u8;
     }
     0
 }

@@ -1,15 +1,16 @@
 -- The listing's text piece by piece: lines as their fields, and what one turn of each loop adds. Assumes nothing.
-use mathlib.Core.Path.{_≡_, refl, sym, ap, _∙_}
-use mathlib.Core.Bool.{Bool, true, false}
+use mathlib.Core.Path.{_≡_, refl, sym, ap, subst, _∙_}
+use mathlib.Core.Bool.{Bool, true, false, _||_}
 use mathlib.Core.List.{List, [], _∷_, _++_, map, append-assoc, append-nil}
 use Prim.Native.Nat.{ℕ, zero, suc, _+_, _-_, _*_, _≤_, _<_}
 use native.Mathlib.Nat.{add-zero, zero-mul, suc-mul}
 use native.Mathlib.Numerals.{add-one}
 use native.Mathlib.Omega.{arith}
+use borrow.Author.Tests.{eqb-true, eqb-false}
 use lib.Dec.{T, leb, eqb, leb→le}
 use lib.IntN.{ℤ, pos, natAbs}
-use lib.ListN.{length, getD, take, drop}
-use lib.Seq.{drop-cons, drop-drop, take-all}
+use lib.ListN.{length, getD, set, take, drop, replicate, getD-replicate, length-set, length-replicate}
+use lib.Seq.{drop-cons, drop-drop, take-all, getD-set-same, getD-set-other}
 use Rattle.semantics.specs.Lists.{some-of, each}
 use Rattle.semantics.specs.Text.{bytes, decimal, line-of}
 use Rattle.semantics.specs.Chart.{Chart}
@@ -21,7 +22,7 @@ use Rattle.semantics.proofs.Values.{and-left, and-right}
 use Rattle.form.specs.Form.{lent}
 use Rattle.writing.specs.Writing.{Put}
 use Rattle.writing.proofs.Written.{written-long, put-none, put-then, put-same}
-use Rattle.listing.specs.Pieces.{tabbed, values-text, words-text, counts-text, header-text}
+use Rattle.listing.specs.Pieces.{tabbed, values-text, words-text, counts-text, header-text, marked-text, marked}
 
 -- ---- lines
 
@@ -74,14 +75,14 @@ pub values-turn : (vs : List ℤ) (i : ℕ) → i < length vs → values-text (t
 values-turn vs i h = rw add-one (values-snoc vs i h)
 
 -- a slot's line, by its location n and its mark b
-pub slot-is : (c : Chart) (wa : List ℕ) (s : ℕ) (row : List ℤ) (n : ℕ) (b : Bool) → 1 ≤ length row → n ≡ natAbs (getD row 0 (pos 0)) → b ≡ some-of (eqb s) wa
-    → decimal s ++ (tabbed (loc-text (c .locs) n) ++ (values-text (take (length row - 1) (drop 1 row)) ++ (tabbed (mark b) ++ (10 ∷ [])))) ≡ slot-text c wa s (state-in row)
+pub slot-is : (c : Chart) (s : ℕ) (row : List ℤ) (n : ℕ) (b : Bool) → 1 ≤ length row → n ≡ natAbs (getD row 0 (pos 0))
+    → decimal s ++ (tabbed (loc-text (c .locs) n) ++ (values-text (take (length row - 1) (drop 1 row)) ++ (tabbed (mark b) ++ (10 ∷ [])))) ≡ marked-text c s (state-in row) b
 unfolding line-of values-text
-slot-is c wa s [] n b h p q = absurd (omega arith)
-slot-is c wa s (x ∷ xs) n b h p q =
+slot-is c s [] n b h p = absurd (omega arith)
+slot-is c s (x ∷ xs) n b h p =
     let r : take (length (x ∷ xs) - 1) xs ≡ xs = take-all (length (x ∷ xs) - 1) xs (omega arith) in
-    (λ j. decimal s ++ (tabbed (loc-text (c .locs) (p j)) ++ (values-text (r j) ++ (tabbed (mark (q j)) ++ (10 ∷ [])))))
-    ∙ ap (λ (l : List ℕ). decimal s ++ (9 ∷ l)) (sym (line-end (loc-text (c .locs) (natAbs x)) (map val-text (map val xs)) (mark (some-of (eqb s) wa))))
+    (λ j. decimal s ++ (tabbed (loc-text (c .locs) (p j)) ++ (values-text (r j) ++ (tabbed (mark b) ++ (10 ∷ [])))))
+    ∙ ap (λ (l : List ℕ). decimal s ++ (9 ∷ l)) (sym (line-end (loc-text (c .locs) (natAbs x)) (map val-text (map val xs)) (mark b)))
 
 -- the lines of s slots from slot k on, and of one more
 module _ (c : Chart) (wa : List ℕ) (w : ℕ) where
@@ -109,18 +110,43 @@ module _ (c : Chart) (wa : List ℕ) (w : ℕ) where
         zero-plus : (n : ℕ) → 0 + n ≡ n
         zero-plus n = omega arith
 
--- the slots waiting, from place i on
-module _ (s : ℕ) (l : List ℤ) (i : ℕ) (h : i < length l) where
-  waits-turn : (b : Bool) → eqb s (natAbs (getD l i (pos 0))) ≡ b → some-of (eqb s) (map natAbs (drop i l)) ≡ elim b [ true ↦ true | false ↦ some-of (eqb s) (map natAbs (drop (i + 1) l)) ]
-  waits-turn b e =
-      ap (λ (m : List ℤ). some-of (eqb s) (map natAbs m)) (drop-cons l i (pos 0) h ∙ ap (λ (n : ℕ). getD l i (pos 0) ∷ drop n l) (sym (add-one i)))
-      ∙ ap (λ (t : Bool). elim t [ true ↦ true | false ↦ some-of (eqb s) (map natAbs (drop (i + 1) l)) ]) e
+-- ---- the marks
 
-  pub waits-here : eqb s (natAbs (getD l i (pos 0))) ≡ true → some-of (eqb s) (map natAbs (drop i l)) ≡ true
-  waits-here e = waits-turn true e
+pub set-past : (ms : List Bool) (k : ℕ) (b : Bool) → length ms ≤ k → ms ≡ set ms k b
+set-past [] k b h = refl
+set-past (m ∷ ms) zero b h = absurd (omega arith)
+set-past (m ∷ ms) (suc k) b h = ap (λ (l : List Bool). m ∷ l) (set-past ms k b (omega arith))
 
-  pub waits-on : eqb s (natAbs (getD l i (pos 0))) ≡ false → some-of (eqb s) (map natAbs (drop i l)) ≡ some-of (eqb s) (map natAbs (drop (i + 1) l))
-  waits-on e = waits-turn false e
+pub marks-turn : (ms : List Bool) (l : List ℤ) (i : ℕ) → i < length l → marked ms (map natAbs (drop i l)) ≡ marked (set ms (natAbs (getD l i (pos 0))) true) (map natAbs (drop (i + 1) l))
+unfolding marked
+marks-turn ms l i h = rw (add-one i, drop-cons l i (pos 0) h)
+
+-- a slot is marked that was, or that is in the list
+is-marked : (ms : List Bool) (ks : List ℕ) (s : ℕ) → s < length ms → getD (marked ms ks) s false ≡ getD ms s false || some-of (eqb s) ks
+unfolding marked
+is-marked ms [] s h = or-false (getD ms s false)
+  where
+    or-false : (b : Bool) → b ≡ b || false
+    or-false true = refl
+    or-false false = refl
+is-marked ms (k ∷ ks) s h = is-marked (set ms k true) ks s (rw length-set h) ∙ go (eqb s k) refl
+  where
+    or-true : (a b : Bool) → true || b ≡ a || true
+    or-true true b = refl
+    or-true false b = refl
+
+    go : (b : Bool) → eqb s k ≡ b → getD (set ms k true) s false || some-of (eqb s) ks ≡ getD ms s false || elim b [ true ↦ true | false ↦ some-of (eqb s) ks ]
+    go true e =
+        let q : s ≡ k = eqb-true s k e in
+        ap (λ (n : ℕ). getD (set ms k true) n false || some-of (eqb s) ks) q
+        ∙ ap (λ (b : Bool). b || some-of (eqb s) ks) (getD-set-same ms k true false (subst (λ (n : ℕ). n < length ms) q h))
+        ∙ or-true (getD ms s false) (some-of (eqb s) ks)
+    go false e = ap (λ (b : Bool). b || some-of (eqb s) ks) (getD-set-other ms k s true false (eqb-false s k e))
+
+pub marked-from-none : (n : ℕ) (ks : List ℕ) (s : ℕ) → s < n → getD (marked (replicate n false) ks) s false ≡ some-of (eqb s) ks
+marked-from-none n ks s h =
+    is-marked (replicate n false) ks s (rw length-replicate h)
+    ∙ ap (λ (b : Bool). b || some-of (eqb s) ks) (getD-replicate n s false false h)
 
 -- ---- the whole
 

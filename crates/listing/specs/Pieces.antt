@@ -1,11 +1,15 @@
 -- The pieces of a listing as the code writes them: each field of a line with the tab before it. Assumes nothing.
+use mathlib.Core.Bool.{Bool, true}
 use mathlib.Core.List.{List, [], _∷_, _++_, map}
 use Prim.Native.Nat.{ℕ}
 use lib.IntN.{ℤ}
+use lib.ListN.{set}
 use Rattle.semantics.specs.Lists.{each}
 use Rattle.semantics.specs.Text.{bytes, decimal, line-of}
+use Rattle.semantics.specs.Chart.{Chart}
+use Rattle.semantics.specs.Constants.{AbstractState}
 use Rattle.semantics.specs.Encoding.{val}
-use Rattle.semantics.specs.Listing.{mode-text, order-text, verdict-text, val-text}
+use Rattle.semantics.specs.Listing.{mode-text, order-text, verdict-text, loc-text, val-text, mark}
 use Rattle.semantics.specs.declared.Analysis.{Analysis}
 
 -- a field that is not a line's first
@@ -30,3 +34,12 @@ header-text a =
     mode-text (a .settings .merge) ∷ mode-text (a .settings .stop) ∷ order-text (a .settings .order) ∷ verdict-text (a .verdict)
     ∷ decimal (a .iterations) ∷ decimal (a .used) ∷ decimal (a .edge .0) ∷ []
     )
+
+-- a slot's line, by whether the slot waits
+abbrev pub marked-text : Chart → ℕ → AbstractState → Bool → List ℕ
+marked-text c s e b = line-of (decimal s) (loc-text (c .locs) (e .loc) ∷ (map val-text (e .vals) ++ (mark b ∷ [])))
+
+-- the marks, after those of the slots in a list were set
+unfoldable pub marked : List Bool → List ℕ → List Bool
+marked ms [] = ms
+marked ms (k ∷ ks) = marked (set ms k true) ks

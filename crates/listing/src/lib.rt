@@ -8,24 +8,27 @@ use semantics::Order;
 use semantics::SlotId;
 use semantics::Verdict;
 ghost use mathlib.Core.Path.{_≡_};
+ghost use mathlib.Core.Bool.{true};
 ghost use mathlib.Core.List.{map};
 ghost use Prim.Native.Nat.{_*_, _≤_, _<_, min};
-ghost use lib.Dec.{T, eqb};
+ghost use lib.Dec.{T};
 ghost use lib.IntN.{natAbs};
-ghost use lib.ListN.{length};
-ghost use Rattle.semantics.specs.Lists.{some-of};
+ghost use lib.ListN.{length, set};
 ghost use Rattle.semantics.specs.Text.{decimal};
 ghost use Rattle.semantics.specs.Encoding.{val, decode, well-formed};
 ghost use Rattle.semantics.specs.Memory.{width, state-in, states-in, load, analysis-ok};
-ghost use Rattle.semantics.specs.Listing.{mode-text, order-text, verdict-text, loc-text, val-text, mark, slot-text, slots-text, listing-text};
+ghost use Rattle.semantics.specs.Listing.{mode-text, order-text, verdict-text, loc-text, val-text, mark, slots-text, listing-text};
 ghost use Rattle.semantics.specs.Outcomes.{refusal, text-of, listing-cases, listing-outcome};
 ghost use Rattle.form.specs.Form.{lent};
 ghost use Rattle.writing.specs.Writing.{Put, limit};
-ghost use Rattle.listing.specs.Pieces.{tabbed, values-text, words-text, counts-text, header-text};
+ghost use Rattle.listing.specs.Pieces.{tabbed, values-text, words-text, counts-text, header-text, marked-text, marked};
 
 const TAB: u8 = 9;
 
 const LF: u8 = 10;
+
+// No listing of an analysis in form has more bytes.
+const LONGEST: usize = 24_576;
 
 // ---- the fields of the first line, each after its tab
 
@@ -110,11 +113,11 @@ fn put_name(out: &mut [u8], at: usize, chart: &[i32], l: LocationId) -> usize
     requires { ⌜ T (well-formed (now chart)) ⌝ }
     ensures { λ r. ⌜ Put at (tabbed (loc-text (decode (now (chart .entry)) .locs) (l .0))) (now (out .entry)) (now (out .exit)) r ⌝ }
 {
-    let n = encoded::name_length(chart, l);
+    let name = encoded::name(chart, l);
     let mut place = writing::put_byte(out, at, TAB);
     let mut i = 0;
-    while i < n {
-        let b = encoded::name_byte(chart, l, i);
+    while i < name.len() {
+        let b = encoded::name_byte(name[i]);
         place = writing::put_byte(out, place, b);
         i += 1;
     }
@@ -144,19 +147,24 @@ fn put_values(out: &mut [u8], at: usize, values: &[i32]) -> usize
     place
 }
 
-// Whether the slot is one of the list.
-fn waits(list: &[i32], slot: SlotId) -> bool
-    ensures { λ r. ⌜ r ≡ some-of (eqb (slot .0)) (map natAbs (now (list .entry))) ⌝ }
+// Marks a slot; none past the marks.
+fn set_mark(marks: &mut [bool], slot: usize)
+    ensures { λ _. ⌜ now (marks .exit) ≡ set (now (marks .entry)) slot true ⌝ }
+{
+    if slot < marks.len() {
+        marks[slot] = true;
+    }
+}
+
+// Marks the slots of the list.
+fn mark_waiting(marks: &mut [bool], list: &[i32])
+    ensures { λ _. ⌜ now (marks .exit) ≡ marked (now (marks .entry)) (map natAbs (now (list .entry))) ⌝ }
 {
     let mut i = 0;
     while i < list.len() {
-        let w = list[i];
-        if slot.0 == words::magnitude(w) {
-            return true;
-        }
+        set_mark(marks, words::magnitude(list[i]));
         i += 1;
     }
-    false
 }
 
 fn put_mark(out: &mut [u8], at: usize, waiting: bool) -> usize
@@ -169,24 +177,24 @@ fn put_mark(out: &mut [u8], at: usize, waiting: bool) -> usize
     writing::put_byte(out, place, b'-')
 }
 
-// The line of a slot, whose words are the row, with the slots that wait.
+// The line of a slot, whose words are the row.
 fn put_slot(
     out: &mut [u8],
     at: usize,
     chart: &[i32],
-    list: &[i32],
     slot: SlotId,
     row: &[i32],
+    waiting: bool,
 ) -> usize
     requires { ⌜ T (well-formed (now chart)) × (1 ≤ length (now row)) ⌝ }
-    ensures { λ r. ⌜ Put at (slot-text (decode (now (chart .entry))) (map natAbs (now (list .entry))) (slot .0) (state-in (now (row .entry)))) (now (out .entry)) (now (out .exit)) r ⌝ }
+    ensures { λ r. ⌜ Put at (marked-text (decode (now (chart .entry))) (slot .0) (state-in (now (row .entry))) waiting) (now (out .entry)) (now (out .exit)) r ⌝ }
 {
     let w = row[0];
     let location = LocationId(words::magnitude(w));
     let name = writing::put_decimal(out, at, slot.0);
     let values = put_name(out, name, chart, location);
     let last = put_values(out, values, &row[1..]);
-    let end = put_mark(out, last, waits(list, slot));
+    let end = put_mark(out, last, waiting);
     writing::put_byte(out, end, LF)
 }
 
@@ -199,16 +207,19 @@ fn put_slots(
     list: &[i32],
     used: usize,
 ) -> usize
-    requires { ⌜ T (well-formed (now chart)) × (used * width (decode (now chart)) ≤ length (now table)) ⌝ }
+    requires { ⌜ T (well-formed (now chart)) × (used * width (decode (now chart)) ≤ length (now table)) × (used ≤ 256) ⌝ }
     ensures { λ r. ⌜ Put at (slots-text (decode (now (chart .entry))) (map natAbs (now (list .entry))) 0 (states-in (width (decode (now (chart .entry)))) used (now (table .entry)))) (now (out .entry)) (now (out .exit)) r ⌝ }
 {
     let w = encoded::width(chart);
+    let mut marks = [false; 256];
+    mark_waiting(&mut marks, list);
     let mut place = writing::put_bytes(out, at, b"");
     let mut from = 0;
     let mut s = 0;
     while s < used {
         let to = from + w;
-        place = put_slot(out, place, chart, list, SlotId(s), &table[from..to]);
+        let waiting = marks[s];
+        place = put_slot(out, place, chart, SlotId(s), &table[from..to], waiting);
         from = to;
         s += 1;
     }
@@ -252,6 +263,9 @@ fn listing_refusal(chart: &[i32], a: Analysis, table: &[i32], list: &[i32], spac
     }
     if !form::analysis_ok(chart, table, list, a) {
         return 21;
+    }
+    if LONGEST <= space {
+        return 0;
     }
     if space < listing_length(chart, table, list, a) {
         return 15;

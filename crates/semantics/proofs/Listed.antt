@@ -1,4 +1,4 @@
--- A listing is short: 24,576 bytes hold every listing of an analysis that was begun by a start. Assumes nothing.
+-- A listing is short: 24,576 bytes hold every listing of an analysis that was begun by a start, or that is in form. Assumes nothing.
 use mathlib.Core.Path.{_≡_}
 use mathlib.Core.Bool.{Bool, true, false}
 use mathlib.Core.List.{List, [], _∷_, _++_, map}
@@ -14,11 +14,14 @@ use Rattle.semantics.specs.Chart.{Value, known, top, Var, Loc, Chart, wi
 use Rattle.semantics.specs.Algorithm.{Mode, Sep, Order, Old, New, Verdict, Open, Safe, Alarm, Full, Exploration, Join}
 use Rattle.semantics.specs.Constants.{AbstractState}
 use Rattle.semantics.specs.Encoding.{var-ok}
+use Rattle.semantics.specs.Memory.{Memory, load, capacity-ok, form-tests, analysis-ok}
+use Rattle.semantics.specs.Outcomes.{text-of}
 use Rattle.semantics.specs.Listing.{mode-text, order-text, verdict-text, loc-text, val-text, mark, slot-text, slots-text, listing-text}
 use Rattle.semantics.specs.Coverage.{Every}
 use Rattle.semantics.proofs.Values.{and-left, and-right}
 use Rattle.semantics.proofs.Stored.{both-true, Good}
 use Rattle.semantics.proofs.StatesOk.{ValOk, ValsOk, StateOk, Bounds}
+use Rattle.semantics.proofs.Reloaded.{all-each, states-count, rows-states}
 use Rattle.semantics.proofs.Rendered.{size, dec-short, decZ-short}
 
 pub line-size : (f : List ℕ) (gs : List (List ℕ)) → length (line-of f gs) ≡ size (f ∷ gs)
@@ -72,6 +75,15 @@ verdict-short Safe = omega arith
 verdict-short Alarm = omega arith
 verdict-short Full = omega arith
 
+few-slots : (n : ℕ) → T (capacity-ok (pos n)) → n ≤ 256
+few-slots n t = leb→le n 256 (and-right (leb 1 n) (leb n 256) t)
+
+pub few-used : (c : Chart) (m : Memory) → T (analysis-ok c m) → m .analysis .used ≤ 256
+unfolding analysis-ok
+few-used c m t =
+    let h = all-each (form-tests c m) t in
+    omega (arith, leb→le (m .analysis .used) (m .analysis .capacity) (h .0), few-slots (m .analysis .capacity) (h .1 .1 .1 .1 .1 .1 .1 .1 .1 .1 .0))
+
 module _ (c : Chart) (b : Bounds c) where
   slot-short : (wa : List ℕ) (s : ℕ) (e : AbstractState) → s ≤ 256 → StateOk c e → length (slot-text c wa s e) ≤ 82
   slot-short wa s e l h =
@@ -90,11 +102,10 @@ module _ (c : Chart) (b : Bounds c) where
   slots-short wa s [] l h = omega arith
   slots-short wa s (e ∷ es) l h = omega (arith, length-append (slot-text c wa s e) (slots-text c wa (suc s) es), slot-short wa s e (omega arith) (h .0), slots-short wa (suc s) es (omega arith) (h .1))
 
-  pub listing-short : (w : Exploration AbstractState) → Good c w → length (listing-text c w) ≤ 24576
+  listing-fits : (w : Exploration AbstractState) → length (w .reached) ≤ 256 → w .iterations ≤ 60000 → w .edge ≤ length (c .edges) → Every (StateOk c) (w .reached)
+      → length (listing-text c w) ≤ 24576
   unfolding listing-text
-  listing-short w g =
-      let r = leb→le (w .capacity) 256 (and-right (leb 1 (w .capacity)) (leb (w .capacity) 256) (g .capacity)) in
-      let n : length (w .reached) ≤ 256 = omega (arith, g .tidy .within) in
+  listing-fits w n i e every =
       let fs = mode-text (w .settings .stop) ∷ order-text (w .settings .order) ∷ verdict-text (w .verdict) ∷ decimal (w .iterations) ∷ decimal (length (w .reached)) ∷ decimal (w .edge) ∷ [] in
       let h = line-size (119 ∷ 97 ∷ 108 ∷ 107 ∷ []) (mode-text (w .settings .merge) ∷ fs) in
       omega (
@@ -107,9 +118,25 @@ module _ (c : Chart) (b : Bounds c) where
         verdict-short (w .verdict),
         iterations-short,
         dec-short (length (w .reached)) (omega arith),
-        dec-short (w .edge) (omega (arith, g .tidy .edge-in, b .few-edges)),
-        slots-short (w .waitlist) 0 (w .reached) (omega arith) (g .tidy .every),
+        dec-short (w .edge) (omega (arith, b .few-edges)),
+        slots-short (w .waitlist) 0 (w .reached) (omega arith) every,
       )
     where
       iterations-short : length (decimal (w .iterations)) ≤ 5
-      iterations-short = omega (arith, Rattle.semantics.proofs.Numbers.digits-few 4 (w .iterations) (w .iterations) [] (omega (arith, g .iterations)))
+      iterations-short = omega (arith, Rattle.semantics.proofs.Numbers.digits-few 4 (w .iterations) (w .iterations) [] (omega (arith, i)))
+
+  pub listing-short : (w : Exploration AbstractState) → Good c w → length (listing-text c w) ≤ 24576
+  listing-short w g = listing-fits w (omega (arith, g .tidy .within, few-slots (w .capacity) (g .capacity))) (g .iterations) (g .tidy .edge-in) (g .tidy .every)
+
+  -- and of any analysis in form, whoever made it
+  pub text-short : (m : Memory) → T (analysis-ok c m) → length (text-of c m) ≤ 24576
+  unfolding load analysis-ok
+  text-short m t =
+      let r = m .analysis in
+      let h = all-each (form-tests c m) t in
+      let i = h .1 .1 .1 .1 .1 .1 .1 in
+      listing-fits (load c m)
+      (omega (arith, states-count c (r .used) (m .table), few-used c m t))
+      (leb→le (r .iterations) 60000 (i .0))
+      (leb→le (r .edge .0) (length (c .edges)) (i .1 .0))
+      (rows-states c (r .used) (m .table) (h .1 .1 .0))

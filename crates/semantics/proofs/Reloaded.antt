@@ -1,23 +1,25 @@
--- Words in form are those of the exploration that they hold: storing what was loaded changes nothing. Assumes nothing.
+-- Words in form are those of the exploration that they hold: its states are of the chart, and storing what was loaded changes nothing.
+-- Assumes nothing.
 use mathlib.Core.Path.{_≡_, refl, sym, ap, _∙_}
-use mathlib.Core.Bool.{Bool, true, false}
+use mathlib.Core.Bool.{Bool, true, false, _||_}
 use mathlib.Core.List.{List, [], _∷_, _++_, map}
 use Prim.Native.Nat.{ℕ, zero, suc, _+_, _-_, _*_, _≤_}
 use native.Mathlib.Nat.{mul-le-mul-right}
 use native.Mathlib.Omega.{arith}
-use lib.Dec.{T, ltb, leb→le}
+use lib.Dec.{T, ltb, leb→le, ltb→lt}
 use lib.ListN.{length, take, drop, replicate, take-append-drop, length-drop, length-map}
 use lib.Seq.{length-take-le, take-take, take-add}
 use lib.IntN.{ℤ, pos, natAbs}
 use lib.Signed.{nonNeg, pos-natAbs}
 use Rattle.semantics.specs.Lists.{each, all, all-of, all-pairs}
-use Rattle.semantics.specs.Chart.{Chart, eqZ}
+use Rattle.semantics.specs.Chart.{Var, Chart, eqZ, within}
 use Rattle.semantics.specs.Coverage.{Every}
 use Rattle.semantics.specs.Encoding.{word, val, val-if, padded}
 use Rattle.semantics.specs.Memory.{value-ok, Memory, width, row, table-of, waitlist-of, state-in, states-in, load, below, row-ok, rows-ok, zeros, form-tests, analysis-ok}
 use Rattle.semantics.specs.Outcomes.{put-in}
 use Rattle.semantics.proofs.ListFacts.{from-true}
 use Rattle.semantics.proofs.Values.{and-left, and-right, eqZ-same}
+use Rattle.semantics.proofs.StatesOk.{ValOk, ValsOk, StateOk}
 
 pub all-each : (bs : List Bool) → T (all-of bs) → Every (λ b. T b) bs
 all-each [] t = tt
@@ -58,7 +60,35 @@ padded-back n k ws l h z =
     ∙ ap (λ (x : List ℤ). x ++ drop k (take n ws)) (sym front)
     ∙ take-append-drop k (take n ws)
 
+val-ok : (v : Var) (x : ℤ) → T (value-ok v x) → ValOk v (val x)
+val-ok v x t = go (eqZ x (pos 32768)) t
+  where
+    go : (b : Bool) → T (b || within (v .lo) (v .hi) x) → ValOk v (val-if b x)
+    go true u = tt
+    go false u = u
+
+vals-ok : (vars : List Var) (xs : List ℤ) → T (all-pairs value-ok vars xs) → ValsOk vars (map val xs)
+vals-ok [] [] t = tt
+vals-ok [] (x ∷ xs) t = absurd t
+vals-ok (v ∷ vs) [] t = absurd t
+vals-ok (v ∷ vs) (x ∷ xs) t =
+    (val-ok v x (and-left (value-ok v x) (all-pairs value-ok vs xs) t), vals-ok vs xs (and-right (value-ok v x) (all-pairs value-ok vs xs) t))
+
 module _ (c : Chart) where
+  -- a row in form holds a state of the chart
+  pub row-state : (r : List ℤ) → T (row-ok c r) → StateOk c (state-in r)
+  row-state [] t = absurd t
+  row-state (x ∷ xs) t =
+      let q : T (ltb (natAbs x) (length (c .locs))) = search (and-left, and-right) in
+      let u : T (all-pairs value-ok (c .vars) xs) = search (and-left, and-right) in
+      record { loc = ltb→lt (natAbs x) (length (c .locs)) q; vals = vals-ok (c .vars) xs u }
+
+  pub rows-states : (n : ℕ) (t : List ℤ) → T (rows-ok c n t) → Every (StateOk c) (states-in (width c) n t)
+  rows-states zero t h = tt
+  rows-states (suc n) t h =
+      let k = width c in
+      (row-state (take k t) (and-left (row-ok c (take k t)) (rows-ok c n (drop k t)) h), rows-states n (drop k t) (and-right (row-ok c (take k t)) (rows-ok c n (drop k t)) h))
+
   pub row-back : (r : List ℤ) → T (row-ok c r) → row (state-in r) ≡ r
   row-back [] t = absurd t
   row-back (x ∷ xs) t =

@@ -1,23 +1,20 @@
 -- Rows and the abstract states that they say, both ways: rows in form say the states that are read in them. Assumes nothing.
 use mathlib.Core.Path.{_≡_, refl, sym, ap, _∙_}
-use mathlib.Core.Bool.{Bool, true, false, _||_}
 use mathlib.Core.List.{List, [], _∷_, map}
 use Prim.Native.Nat.{ℕ, zero, suc}
-use lib.Dec.{T, ltb, ltb→lt}
-use lib.IntN.{ℤ, pos, natAbs}
+use lib.Dec.{T}
+use lib.IntN.{ℤ, pos}
 use lib.ListN.{length, take, drop, getD, length-map}
 use lib.Signed.{nonNeg}
-use Rattle.semantics.specs.Lists.{all-pairs}
-use Rattle.semantics.specs.Chart.{Value, known, top, Var, Chart, eqZ, within}
+use Rattle.semantics.specs.Chart.{Value, known, top, Var, Chart}
 use Rattle.semantics.specs.Constants.{AbstractState}
-use Rattle.semantics.specs.Encoding.{word, val, val-if, chart-ok}
-use Rattle.semantics.specs.Memory.{width, state-in, states-in, value-ok, row-ok, rows-ok}
+use Rattle.semantics.specs.Encoding.{word, val, chart-ok}
+use Rattle.semantics.specs.Memory.{width, state-in, states-in, row-ok, rows-ok}
 use Rattle.semantics.proofs.Values.{and-left, and-right}
-use Rattle.semantics.proofs.StatesOk.{ValOk, ValsOk, bounds}
+use Rattle.semantics.proofs.StatesOk.{bounds}
 use Rattle.semantics.proofs.Stored.{vals-length}
-use Rattle.semantics.proofs.Reloaded.{words-back}
+use Rattle.semantics.proofs.Reloaded.{row-state, row-back}
 use Rattle.semantics.proofs.Simulate.{AllPairs}
-use Rattle.words.proofs.Words.{nonNeg-pos}
 use Rattle.rows.specs.Rows.{rows-of}
 use Rattle.transfer.proofs.Effects.{Plain, AllPlain, values-plain}
 use Rattle.transfer.proofs.Agree.{Says}
@@ -57,30 +54,9 @@ module _ (c : Chart) where
 
 -- ---- a row in form
 
-val-ok : (v : Var) (x : ℤ) → T (value-ok v x) → ValOk v (val x)
-val-ok v x t = go (eqZ x (pos 32768)) t
-  where
-    go : (b : Bool) → T (b || within (v .lo) (v .hi) x) → ValOk v (val-if b x)
-    go true u = tt
-    go false u = u
-
-vals-ok : (vars : List Var) (xs : List ℤ) → T (all-pairs value-ok vars xs) → ValsOk vars (map val xs)
-vals-ok [] [] t = tt
-vals-ok [] (x ∷ xs) t = absurd t
-vals-ok (v ∷ vs) [] t = absurd t
-vals-ok (v ∷ vs) (x ∷ xs) t =
-    (val-ok v x (and-left (value-ok v x) (all-pairs value-ok vs xs) t), vals-ok vs xs (and-right (value-ok v x) (all-pairs value-ok vs xs) t))
-
 module _ (c : Chart) where
   pub row-says : (e : List ℤ) → T (row-ok c e) → Says c e (state-in e)
-  row-says [] t = absurd t
-  row-says (x ∷ xs) t =
-      let p : T (nonNeg x) = search (and-left, and-right) in
-      let q : T (ltb (natAbs x) (length (c .locs))) = search (and-left, and-right) in
-      let u : T (all-pairs value-ok (c .vars) xs) = search (and-left, and-right) in
-      let h = nonNeg-pos x p in
-      let k = sym (words-back xs) in
-      record { words = λ i. h i ∷ k i; ok = record { loc = ltb→lt (natAbs x) (length (c .locs)) q; vals = vals-ok (c .vars) xs u } }
+  row-says e t = record { words = sym (row-back c e t); ok = row-state c e t }
 
   pub rows-say : (n : ℕ) (t : List ℤ) → T (rows-ok c n t) → AllPairs (Says c) (rows-of (width c) n t) (states-in (width c) n t)
   rows-say zero t h = tt

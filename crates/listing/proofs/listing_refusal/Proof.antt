@@ -13,6 +13,9 @@ use Rattle.semantics.specs.Encoding.{decode, well-formed}
 use Rattle.semantics.specs.Memory.{Memory, width, analysis-ok}
 use Rattle.semantics.specs.Outcomes.{case, refusal, short, text-of, listing-cases}
 use Rattle.semantics.proofs.ListFacts.{from-true}
+use Rattle.semantics.proofs.StatesOk.{bounds}
+use Rattle.semantics.proofs.Encoded.{well-formed-split}
+use Rattle.semantics.proofs.Listed.{text-short}
 use Rattle.form.specs.Form.{lent}
 use Rattle.form.proofs.Facts.{enough}
 use Rattle.listing.proofs.Refusals.{by-tests}
@@ -74,21 +77,31 @@ returns-3 c =
     let s = start (b .before .before) in
     by-tests (words s) (memory s) (s .args .space) (formed (b .before .before)) (lacks b) (sym (c .before .analysis-ok .ensures) ∙ not-true _ (c .if3 .taken)) refl
 
-listing-length-requires : tie.Need-listing-length-requires
-listing-length-requires c κs =
-    let b = c .before .before in
-    let r = room b in
-    (from-true (formed (b .before .before)), r .0, r .1, from-true (in-form c))
-
+-- no listing in form is longer than the bytes lent
 returns-4 : tie.Need-returns-4
 returns-4 c =
-    let s = start (c .before .before .before .before .before .before) in
-    told (c .before .before) true (lt-ltb (s .args .space) (length (text-of (decode (words s)) (memory s))) (omega (arith, c .if4 .taken, c .before .listing-length .ensures)))
+    let f = c .before in
+    let s = first f in
+    let b = bounds (decode (words s)) (well-formed-split (words s) (from-true (formed (f .before .before .before .before))) .1) in
+    told f false (le-ltb (s .args .space) (length (text-of (decode (words s)) (memory s))) (omega (arith, c .if4 .taken, text-short (decode (words s)) b (memory s) (from-true (in-form f)))))
+
+listing-length-requires : tie.Need-listing-length-requires
+listing-length-requires c κs =
+    let b = c .before .before .before in
+    let r = room b in
+    (from-true (formed (b .before .before)), r .0, r .1, from-true (in-form (c .before)))
 
 returns-5 : tie.Need-returns-5
 returns-5 c =
-    let s = start (c .before .before .before .before .before .before) in
-    told (c .before .before) false (le-ltb (s .args .space) (length (text-of (decode (words s)) (memory s))) (omega (arith, c .if4 .left, c .before .listing-length .ensures, s .pre)))
+    let f = c .before .before .before in
+    let s = first f in
+    told f true (lt-ltb (s .args .space) (length (text-of (decode (words s)) (memory s))) (omega (arith, c .if5 .taken, c .before .listing-length .ensures)))
+
+returns-6 : tie.Need-returns-6
+returns-6 c =
+    let f = c .before .before .before in
+    let s = first f in
+    told f false (le-ltb (s .args .space) (length (text-of (decode (words s)) (memory s))) (omega (arith, c .if5 .left, c .before .listing-length .ensures, s .pre)))
 
 pub listing-refusal-spec : {M : Type 1} → statement M
 listing-refusal-spec =
@@ -100,6 +113,7 @@ listing-refusal-spec =
     returns-2
     analysis-ok-requires
     returns-3
-    listing-length-requires
     returns-4
-    returns-5)
+    listing-length-requires
+    returns-5
+    returns-6)

@@ -1,14 +1,17 @@
 -- `listing::put_name` meets its contract. The invariant: the bytes passed are written after the tab.
 -- Assumes nothing.
-use mathlib.Core.Path.{_≡_, refl, ap, _∙_}
-use Prim.Native.Nat.{_-_, _≤_}
+use mathlib.Core.Path.{_≡_, refl, sym, ap, _∙_}
+use mathlib.Core.List.{List, map}
+use Prim.Native.Nat.{ℕ, _-_, _≤_}
 use native.Mathlib.Numerals.{add-one}
 use native.Mathlib.Omega.{arith}
-use borrow.Author.Needs.{needs}
-use lib.ListN.{length, take, getD}
+use borrow.Author.Needs.{needs, sfits-of}
+use lib.IntN.{pos, natAbs}
+use lib.ListN.{length, take, getD, length-map, List·getD-map}
 use lib.Seq.{take-suc, take-all}
-use Rattle.semantics.specs.Encoding.{decode}
-use Rattle.semantics.specs.Listing.{loc-text}
+use mir.Syntax.{w32}
+use mir.ValLaws.{toZ-ofZ}
+use Rattle.encoded.specs.Encoded.{byte-of}
 use Rattle.encoded.proofs.NameBytes.{names-are-bytes}
 use Rattle.writing.specs.Writing.{Put}
 use Rattle.writing.proofs.Written.{put-then, put-same}
@@ -18,33 +21,45 @@ use Rattle.listing.proofs.put_name.Statement.{statement}
 use Rattle.listing.proofs.put_name.Tie as tie
 
 abbrev Inv-loop : tie.InvT-loop
-Inv-loop out₀ at chart l n place₀ i₀ out place i = (i ≤ n) × (length out ≡ length out₀) × Put place₀ (take i (loc-text (decode chart .locs) (l .0))) out₀ out place
+Inv-loop out₀ at chart name place₀ i₀ out place i = (i ≤ length name) × (length out ≡ length out₀) × Put place₀ (take i (map natAbs name)) out₀ out place
 
 abbrev μ-loop : tie.MeasureT-loop
-μ-loop out₀ at chart l n place₀ i₀ out place i = n - i
+μ-loop out₀ at chart name place₀ i₀ out place i = length name - i
 
 loop-holds : tie.Need-loop-holds Inv-loop μ-loop
 loop-holds c = (omega arith, refl, put-start (c .before .before .put-byte .ensures))
 
+-- the byte is the name's
+module _ (c : tie.After-name-byte Inv-loop μ-loop) where
+  abbrev bytes : List ℕ
+  bytes = map natAbs (c .before .before .before .before .before .before .before .before .name .result .now)
+
+  abbrev place : ℕ
+  place = c .before .before .before .loop .i
+
+  byte : c .name-byte .result ≡ getD bytes place 0
+  byte =
+      let n = c .before .before .before .before .before .before .before .before .name in
+      let s = c .before .before .before .before .before .before .before .before .before .before in
+      let w = rw (toZ-ofZ w32 _ (sfits-of (c .before .name-byte-arg .given))) at (c .name-byte .ensures) in
+      w ∙ ap byte-of (sym (List·getD-map natAbs (n .result .now) place (pos 0)))
+      ∙ rw (n .ensures) (names-are-bytes (s .args .chart .now) (s .pre) (s .args .l .0) place)
+
 loop-again : tie.Need-loop-again Inv-loop μ-loop
 loop-again c =
-    let t = c .before .before .before .before .before in
-    let s = t .before .before .before .before .before .before .before .before in
-    let name = loc-text (decode (s .args .chart .now) .locs) (s .args .l .0) in
-    let i = t .before .loop .i in
-    let e : c .before .before .before .before .name-byte .result ≡ getD name i 0 = c .before .before .before .before .name-byte .ensures ∙ names-are-bytes (s .args .chart .now) (s .pre) (s .args .l .0) i in
-    let m = t .loop-test .taken in (
+    let b = c .before .before .before .before in
+    let l = b .before .before .before .loop in (
       omega arith,
-      c .before .before .put-byte2 .kept .0 ∙ t .before .loop .inv .1,
-      rw (add-one, take-suc name i 0 (omega (arith, t .before .before .before .before .before .before .name-length .ensures .0)), ← e) (put-then (t .before .loop .inv .2) (c .before .before .put-byte2 .ensures)),
+      c .before .before .put-byte2 .kept .0 ∙ l .inv .1,
+      rw (add-one, take-suc (bytes b) (l .i) 0 (rw length-map (b .before .before .loop-test .taken)), ← byte b) (put-then (l .inv .2) (c .before .before .put-byte2 .ensures)),
     )
 
 returns : tie.Need-returns Inv-loop μ-loop
 returns c =
-    let s = c .before .before .before .before .before .before .before .before in
-    let name = loc-text (decode (s .args .chart .now) .locs) (s .args .l .0) in
-    let e : take (c .before .loop .i) name ≡ name = take-all (c .before .loop .i) name (omega (arith, c .before .before .before .before .before .before .name-length .ensures .0)) in
-    put-same (ap tabbed e) (put-then (c .before .before .before .before .put-byte .ensures) (c .before .loop .inv .2))
+    let l = c .before .loop in
+    let n = c .before .before .before .before .before .before .name in
+    let e : take (l .i) (map natAbs (n .result .now)) ≡ map natAbs (n .result .now) = take-all (l .i) (map natAbs (n .result .now)) (rw length-map (omega arith)) in
+    put-same (ap tabbed (e ∙ n .ensures)) (put-then (c .before .before .before .before .put-byte .ensures) (l .inv .2))
 
 pub put-name-spec : {M : Type 1} → statement M
 put-name-spec =
@@ -55,6 +70,8 @@ put-name-spec =
     (λ c κs. search needs)
     (λ c κs. search needs)
     loop-holds
+    (λ c. search needs)
+    (λ c. search needs)
     (λ c κs. search needs)
     (λ c κs. search needs)
     (λ c. search needs)

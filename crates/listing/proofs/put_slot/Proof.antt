@@ -1,6 +1,5 @@
 -- `listing::put_slot` meets its contract. Assumes nothing.
 use mathlib.Core.Path.{_≡_}
-use mathlib.Core.List.{map}
 use borrow.Author.Needs.{needs, sfits-of}
 use lib.IntN.{pos, natAbs}
 use lib.ListN.{getD}
@@ -14,14 +13,15 @@ use Rattle.listing.proofs.put_slot.Tie as tie
 
 returns : tie.Need-returns
 returns c =
-    let s = c .before .before .before .before .before .before .before .before .before .before .before .before .before .before .before .before .before .before .before .before .before .before .before .before .before in
+    let s = c .before .before .before .before .before .before .before .before .before .before .before .before .before .before .before .before .before .before .before .before .before .before .before .before in
     let a = s .args in
-    let n : c .before .before .before .before .before .before .before .before .before .before .before .before .before .before .before .before .before .before .before .before .before .before .magnitude .result ≡ natAbs (getD (a .row .now) 0 (pos 0)) = rw (toZ-ofZ w32 _ (sfits-of (c .before .before .before .before .before .before .before .before .before .before .before .before .before .before .before .before .before .before .before .before .before .before .before .w .given))) at (c .before .before .before .before .before .before .before .before .before .before .before .before .before .before .before .before .before .before .before .before .before .before .magnitude .ensures .0) in
+    let m = c .before .before .before .before .before .before .before .before .before .before .before .before .before .before .before .before .before .before .before .before .before in
+    let n : m .magnitude .result ≡ natAbs (getD (a .row .now) 0 (pos 0)) = rw (toZ-ofZ w32 _ (sfits-of (m .before .w .given))) at (m .magnitude .ensures .0) in
     put-same
-    (slot-is (decode (a .chart .now)) (map natAbs (a .list .now)) (a .slot .0) (a .row .now) _ _ (s .pre .1) n (c .before .before .before .before .before .before .before .waits .ensures))
-    (put-then (c .before .before .before .before .before .before .before .before .before .before .before .before .before .before .before .before .before .before .before .before .put-decimal .ensures) (
-    put-then (c .before .before .before .before .before .before .before .before .before .before .before .before .before .before .before .before .put-name .ensures) (
-    put-then (c .before .before .before .before .before .before .before .before .before .before .before .put-values .ensures) (
+    (slot-is (decode (a .chart .now)) (a .slot .0) (a .row .now) _ (a .waiting) (s .pre .1) n)
+    (put-then (c .before .before .before .before .before .before .before .before .before .before .before .before .before .before .before .before .before .before .before .put-decimal .ensures) (
+    put-then (c .before .before .before .before .before .before .before .before .before .before .before .before .before .before .before .put-name .ensures) (
+    put-then (c .before .before .before .before .before .before .before .before .before .before .put-values .ensures) (
     put-then (c .before .before .before .before .before .before .put-mark .ensures) (c .before .before .put-byte .ensures)
     ))))
 
@@ -36,7 +36,6 @@ put-slot-spec =
     (λ c. search needs)
     (λ c. search needs)
     (λ c. search needs)
-    (λ c κs. search needs)
     (λ c κs. search needs)
     (λ c κs. search needs)
     (λ c κs. search needs)

@@ -7,6 +7,7 @@ use borrow.Author.Needs.{needs}
 use lib.Seq.{length-take-le}
 use Rattle.semantics.specs.Encoding.{decode}
 use Rattle.semantics.specs.Memory.{width}
+use Rattle.semantics.proofs.Listed.{few-used}
 use Rattle.form.specs.Form.{lent}
 use Rattle.writing.proofs.Written.{put-then, put-same}
 use Rattle.listing.proofs.Facts.{counts-in-order, listing-is}
@@ -27,7 +28,7 @@ put-slots-requires c κs =
     let s = c .before .before .before .before .before .before .before in
     let o = order s in
     let w = width (decode (s .args .chart .now)) in
-    (s .pre .0, omega (arith, s .pre .1, mul-le-mul-right w (o .0)))
+    (s .pre .0, omega (arith, s .pre .1, mul-le-mul-right w (o .0)), few-used (decode (s .args .chart .now)) (lent (s .args .table .now) (s .args .list .now) (s .args .a)) (s .pre .3))
 
 returns : tie.Need-returns
 returns c =
