@@ -6,7 +6,7 @@ use lib.Dec.{T}
 use lib.IntN.{ℤ, pos}
 use lib.ListN.{length, take, drop, getD, length-map}
 use lib.Signed.{nonNeg}
-use Rattle.semantics.specs.Chart.{Value, known, top, Var, Chart}
+use Rattle.semantics.specs.Chart.{Value, known, top, Chart}
 use Rattle.semantics.specs.Constants.{AbstractState}
 use Rattle.semantics.specs.Encoding.{word, val, chart-ok}
 use Rattle.semantics.specs.Memory.{width, state-in, states-in, row-ok, rows-ok}

@@ -71,17 +71,8 @@ module _ (c : tie.After-covered) where
       (rows-sized (length e) (at-start .args .used) (at-start .args .table .now) (in-table (at-start .pre .0)))
       (rows-of (length e) (at-start .args .used) table) (waits count list) (m .ensures .0) (m .ensures .1 .0) (sym (c .covered .ensures) ∙ h) (omega (arith, n, l))
 
-merge-by-requires : tie.Need-merge-by-requires
-merge-by-requires c κs = search needs
-
 covered-requires : tie.Need-covered-requires
 covered-requires c κs = let k = c .before .before .before .merge-by .ensures .1 .1 in (k .wide, in-table k)
-
-same-length : tie.Need-same-length
-same-length c = search needs
-
-same-length-2 : tie.Need-same-length-2
-same-length-2 c = search needs
 
 returns : tie.Need-returns
 returns c = record { out = dropped (c .before) (c .if1 .taken); kept = form (c .before) }
@@ -97,15 +88,6 @@ append-requires c κs =
     let l : at-start d .args .used < at-start d .args .capacity = c .before .before .before .before .if2 .taken in
     (k .slots, omega (arith, q, k .slots .count, k .list, l), omega (arith, l, k .small))
 
-add-t29 : tie.Need-add-t29
-add-t29 c = search needs
-
-same-length-3 : tie.Need-same-length-3
-same-length-3 c = search needs
-
-same-length-4 : tie.Need-same-length-4
-same-length-4 c = search needs
-
 returns-2 : tie.Need-returns-2
 returns-2 c =
     let d = c .before .before .before .before .before .before .before .before in
@@ -119,12 +101,6 @@ returns-2 c =
       kept = kept-stored k l (e d) refl (app .ensures) (app .kept .0);
     })
 
-same-length-5 : tie.Need-same-length-5
-same-length-5 c = search needs
-
-same-length-6 : tie.Need-same-length-6
-same-length-6 c = search needs
-
 returns-3 : tie.Need-returns-3
 returns-3 c = record { out = filled (c .before .before) (c .before .if1 .left) (c .if2 .left); kept = form (c .before .before) }
 
@@ -132,17 +108,17 @@ pub arrive-spec : {M : Type 1} → statement M
 arrive-spec =
     tie.close
     (tie.spec
-    merge-by-requires
+    (λ c κs. search needs)
     covered-requires
-    same-length
-    same-length-2
+    (λ c. search needs)
+    (λ c. search needs)
     returns
     put-row-requires
     append-requires
-    add-t29
-    same-length-3
-    same-length-4
+    (λ c. search needs)
+    (λ c. search needs)
+    (λ c. search needs)
     returns-2
-    same-length-5
-    same-length-6
+    (λ c. search needs)
+    (λ c. search needs)
     returns-3)

@@ -8,27 +8,6 @@ use Rattle.waitlist.proofs.Laws.{held, kept}
 use Rattle.analysis.proofs.finish.Statement.{statement}
 use Rattle.analysis.proofs.finish.Tie as tie
 
-add-iterations : tie.Need-add-iterations
-add-iterations c = search needs
-
-enum-told : tie.Need-enum-told
-enum-told c = search needs
-
-verdict-of-requires : tie.Need-verdict-of-requires
-verdict-of-requires c κs = search needs
-
-enum-told-2 : tie.Need-enum-told-2
-enum-told-2 c = search needs
-
-put-back-requires : tie.Need-put-back-requires
-put-back-requires c κs = search needs
-
-enum-told-3 : tie.Need-enum-told-3
-enum-told-3 c = search needs
-
-put-back-requires-2 : tie.Need-put-back-requires-2
-put-back-requires-2 c κs = search needs
-
 returns : tie.Need-returns
 returns c =
     let s = c .before .before .before .before .before .before in
@@ -37,18 +16,12 @@ returns c =
     let v = c .verdict-of .ensures .verdict n (s .pre .0 .count) in
     record { load = λ w t t₀ l₀. rw (e, v, add-one); put = s .pre .0; used = refl; capacity = refl; settings = refl; iterations = refl }
 
-same-length : tie.Need-same-length
-same-length c = search needs
-
 returns-2 : tie.Need-returns-2
 returns-2 c =
     let s = c .before .before .before .before .before .before .before .before in
     let e = c .before .before .before .enum-told2 .given .1 in
     let b = held (c .before .put-back .ensures) in
     record { load = λ w t t₀ l₀. rw (e, b, add-one); put = kept (c .before .put-back .ensures); used = refl; capacity = refl; settings = refl; iterations = refl }
-
-same-length-2 : tie.Need-same-length-2
-same-length-2 c = search needs
 
 returns-3 : tie.Need-returns-3
 returns-3 c =
@@ -61,15 +34,15 @@ pub finish-spec : {M : Type 1} → statement M
 finish-spec =
     tie.close
     (tie.spec
-    add-iterations
-    enum-told
-    verdict-of-requires
-    enum-told-2
-    put-back-requires
-    enum-told-3
-    put-back-requires-2
+    (λ c. search needs)
+    (λ c. search needs)
+    (λ c κs. search needs)
+    (λ c. search needs)
+    (λ c κs. search needs)
+    (λ c. search needs)
+    (λ c κs. search needs)
     returns
-    same-length
+    (λ c. search needs)
     returns-2
-    same-length-2
+    (λ c. search needs)
     returns-3)

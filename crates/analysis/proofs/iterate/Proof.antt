@@ -20,9 +20,6 @@ use Rattle.analysis.proofs.Iterations.{taken-left, kept-taken, iteratio
 use Rattle.analysis.proofs.iterate.Statement.{statement}
 use Rattle.analysis.proofs.iterate.Tie as tie
 
-cast-capacity : tie.Need-cast-capacity
-cast-capacity c = search needs
-
 -- what is known once the slot is copied
 module _ (c : tie.After-copy) where
   abbrev at-start : tie.Start
@@ -52,9 +49,6 @@ module _ (c : tie.After-copy) where
   row-is : row ≡ take w (drop (slot * w) (at-start .args .table .now))
   row-is = c .before .get-row .ensures
 
-take-slot-requires : tie.Need-take-slot-requires
-take-slot-requires c κs = search needs
-
 get-row-requires : tie.Need-get-row-requires
 get-row-requires c κs =
     let d = c .before .before .before in
@@ -62,9 +56,6 @@ get-row-requires c κs =
     let h = s .pre .0 in
     let k = taken-left (length (s .args .copy .now)) (s .args .edges) (s .args .a) (s .args .table .now) (s .args .list .now) h (d .take-slot .result .0) (d .take-slot .last .1 .0) (d .take-slot .ensures) .1 in
     omega (arith, row-in (d .take-slot .result .0) (s .args .a .used) (length (s .args .copy .now)) k, in-table (h .kept))
-
-sub-leave : tie.Need-sub-leave
-sub-leave c = search needs
 
 played : (c : tie.After-leave) →
     let d = c .before .before .before .before .before in
@@ -92,17 +83,8 @@ finish-requires c κs =
     let q = taken-left (w d) (s .args .edges) (s .args .a) (s .args .table .now) (s .args .list .now) (s .pre .0) (slot d) (rest d) (taken d) in
     (k .slots, omega (arith, q .1, s .pre .0 .kept .capacity, k .list), omega (arith, k .small, k .list), more (v .leave .result .used) (length (v .leave .last .1 .1 .1 .1 .1 .1 .1 .1 .1 .1 .1 .0)) _ (omega (arith, k .capacity, k .list)) (k .queue), s .pre .1)
 
-same-length : tie.Need-same-length
-same-length c = search needs
-
 same-length-2 : tie.Need-same-length-2
 same-length-2 c = c .before .finish .kept .1 .1 .1 .0 ∙ c .before .before .before .before .before .before .leave .kept .1 .1 .1 .1 .1 .1 .1 .1 .1 .1 .1 .0 ∙ c .before .before .before .before .before .before .before .before .before .before .before .before .before .before .before .before .take-slot .kept .1 .0
-
-same-length-3 : tie.Need-same-length-3
-same-length-3 c = search needs
-
-same-length-4 : tie.Need-same-length-4
-same-length-4 c = search needs
 
 returns : tie.Need-returns
 returns c =
@@ -116,14 +98,14 @@ pub iterate-spec : {M : Type 1} → statement M
 iterate-spec =
     tie.close
     (tie.spec
-    cast-capacity
-    take-slot-requires
+    (λ c. search needs)
+    (λ c κs. search needs)
     get-row-requires
-    sub-leave
+    (λ c. search needs)
     leave-requires
     finish-requires
-    same-length
+    (λ c. search needs)
     same-length-2
-    same-length-3
-    same-length-4
+    (λ c. search needs)
+    (λ c. search needs)
     returns)

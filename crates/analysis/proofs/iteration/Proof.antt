@@ -29,12 +29,6 @@ iterate-requires c κs =
     let s = c .before .before .before .before .before .before in
     rw (row-length (s .args .width) (s .pre .3)) (s .pre .0, s .pre .1, s .pre .2, refl, s .pre .4, s .pre .5, s .pre .6)
 
-same-length : tie.Need-same-length
-same-length c = search needs
-
-same-length-2 : tie.Need-same-length-2
-same-length-2 c = search needs
-
 returns : tie.Need-returns
 returns c =
     let s = c .before .before .before .before .before .before .before .before .before .before .before in
@@ -49,6 +43,6 @@ iteration-spec =
     array-borrow-prefix-next
     slice-aggregate-iterate-2
     iterate-requires
-    same-length
-    same-length-2
+    (λ c. search needs)
+    (λ c. search needs)
     returns)

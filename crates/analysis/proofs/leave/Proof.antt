@@ -30,12 +30,6 @@ Inv-loop chart first edges heads nexts settings capacity table₀ used copy next
 abbrev μ-loop : tie.MeasureT-loop
 μ-loop chart first edges heads nexts settings capacity table₀ used copy next₀ list₀ waiting slots₀ count₀ location g₀ table next list slots count g = edges - g
 
-location-of-requires : tie.Need-location-of-requires Inv-loop μ-loop
-location-of-requires c κs = search needs
-
-first-leaving-requires : tie.Need-first-leaving-requires Inv-loop μ-loop
-first-leaving-requires c κs = search needs
-
 loop-holds : tie.Need-loop-holds Inv-loop μ-loop
 loop-holds c =
     let s = c .before .before .before .before in
@@ -95,14 +89,8 @@ turn c =
     ∙ ap (λ (x : List ℕ). leave D (a .settings) (a .capacity) e x en wa) (edges-turn (b .loop .g) (a .edges) (d .before .loop-test .taken))
     ∙ ap (λ (x : Out (List ℤ)). then x (λ en wa. leave D (a .settings) (a .capacity) e gs en wa)) (sym o)
 
-has-ended-requires : tie.Need-has-ended-requires Inv-loop μ-loop
-has-ended-requires c κs = search needs
-
 same-length : tie.Need-same-length Inv-loop μ-loop
 same-length c = c .before .before .before .before .before .visit .ensures .kept .table ∙ sym (c .before .before .before .before .before .before .before .before .before .before .before .before .before .before .before .before .pre .0 .table)
-
-same-length-2 : tie.Need-same-length-2 Inv-loop μ-loop
-same-length-2 c = search needs
 
 same-length-3 : tie.Need-same-length-3 Inv-loop μ-loop
 same-length-3 c = c .before .before .before .before .before .visit .ensures .kept .list ∙ sym (c .before .before .before .before .before .before .before .before .before .before .before .before .before .before .before .before .pre .0 .list)
@@ -140,15 +128,6 @@ loop-again c =
           ∙ passed (a .chart .now) (a .settings) (a .capacity) e (a .edges) en wa (b .loop .g + 1) (c .next-leaving .result) (omega (arith, c .next-leaving .ensures .0)) (rw (b .before .before .location-of .ensures .0) at (c .next-leaving .ensures .1)),
     )
 
-same-length-4 : tie.Need-same-length-4 Inv-loop μ-loop
-same-length-4 c = search needs
-
-same-length-5 : tie.Need-same-length-5 Inv-loop μ-loop
-same-length-5 c = search needs
-
-same-length-6 : tie.Need-same-length-6 Inv-loop μ-loop
-same-length-6 c = search needs
-
 returns-2 : tie.Need-returns-2 Inv-loop μ-loop
 returns-2 c =
     let b = c .before in
@@ -160,20 +139,20 @@ leave-spec =
     (tie.spec
     Inv-loop
     μ-loop
-    location-of-requires
-    first-leaving-requires
+    (λ c κs. search needs)
+    (λ c κs. search needs)
     loop-holds
     edge-after-requires
     visit-requires
-    has-ended-requires
+    (λ c κs. search needs)
     same-length
-    same-length-2
+    (λ c. search needs)
     same-length-3
     returns
     next-leaving-requires
     loop-less
     loop-again
-    same-length-4
-    same-length-5
-    same-length-6
+    (λ c. search needs)
+    (λ c. search needs)
+    (λ c. search needs)
     returns-2)

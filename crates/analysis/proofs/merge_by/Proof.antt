@@ -13,12 +13,6 @@ use Rattle.analysis.proofs.Merges.{rewaits-all}
 use Rattle.analysis.proofs.merge_by.Statement.{statement}
 use Rattle.analysis.proofs.merge_by.Tie as tie
 
-enum-told : tie.Need-enum-told
-enum-told c = search needs
-
-enum-told-2 : tie.Need-enum-told-2
-enum-told-2 c = search needs
-
 merge-slots-requires : tie.Need-merge-slots-requires
 merge-slots-requires c κs =
     let s = c .before .before .before .before in
@@ -27,12 +21,6 @@ merge-slots-requires c κs =
 
 returns : tie.Need-returns
 returns c = rw (c .enum-told .given .1) (refl, (refl, c .before .before .pre))
-
-same-length : tie.Need-same-length
-same-length c = search needs
-
-same-length-2 : tie.Need-same-length-2
-same-length-2 c = search needs
 
 returns-2 : tie.Need-returns-2
 returns-2 c =
@@ -57,10 +45,10 @@ pub merge-by-spec : {M : Type 1} → statement M
 merge-by-spec =
     tie.close
     (tie.spec
-    enum-told
-    enum-told-2
+    (λ c. search needs)
+    (λ c. search needs)
     merge-slots-requires
     returns
-    same-length
-    same-length-2
+    (λ c. search needs)
+    (λ c. search needs)
     returns-2)

@@ -27,15 +27,6 @@ abbrev μ-loop : tie.MeasureT-loop
 loop-holds : tie.Need-loop-holds Inv-loop μ-loop
 loop-holds c = let s = c .before .before in (s .pre .0, refl, refl, s .pre .1, refl)
 
-has-verdict-requires : tie.Need-has-verdict-requires Inv-loop μ-loop
-has-verdict-requires c κs = search needs
-
-same-length : tie.Need-same-length Inv-loop μ-loop
-same-length c = search needs
-
-same-length-2 : tie.Need-same-length-2 Inv-loop μ-loop
-same-length-2 c = search needs
-
 returns : tie.Need-returns Inv-loop μ-loop
 returns c =
     let b = c .before .before .before in
@@ -55,12 +46,6 @@ iteration-requires c κs =
     let o = open-waits (s .args .width) (s .args .edges) (b .loop .at) (b .loop .table) (b .loop .list) h none in
     (h, omega (arith, b .loop .inv .3, c .before .before .before .before .loop-test .taken), o, s .pre .2, s .pre .3, s .pre .4, s .pre .5)
 
-sub-left : tie.Need-sub-left Inv-loop μ-loop
-sub-left c = search needs
-
-loop-less : tie.Need-loop-less Inv-loop μ-loop
-loop-less c = search needs
-
 loop-again : tie.Need-loop-again Inv-loop μ-loop
 loop-again c =
     let b = c .before .before .before .before .before .before .before .before in
@@ -76,12 +61,6 @@ loop-again c =
       omega (arith, i .ensures .1, b .loop .inv .3, lt),
       b .loop .inv .4 ∙ run-open (domain-of (s .args .chart .now)) (edges-from 0 (s .args .edges)) (b .loop .left) (b .loop .left - 1) x none m ∙ rw (i .ensures .0 .load),
     )
-
-same-length-3 : tie.Need-same-length-3 Inv-loop μ-loop
-same-length-3 c = search needs
-
-same-length-4 : tie.Need-same-length-4 Inv-loop μ-loop
-same-length-4 c = search needs
 
 returns-2 : tie.Need-returns-2 Inv-loop μ-loop
 returns-2 c =
@@ -100,14 +79,14 @@ play-spec =
     Inv-loop
     μ-loop
     loop-holds
-    has-verdict-requires
-    same-length
-    same-length-2
+    (λ c κs. search needs)
+    (λ c. search needs)
+    (λ c. search needs)
     returns
     iteration-requires
-    sub-left
-    loop-less
+    (λ c. search needs)
+    (λ c. search needs)
     loop-again
-    same-length-3
-    same-length-4
+    (λ c. search needs)
+    (λ c. search needs)
     returns-2)

@@ -32,29 +32,11 @@ module _ (c : tie.After-list) where
       empty-kept (length (s .args .row .now)) (s .args .capacity) table list (s .pre .0) (s .pre .2) (lt ∙ s .pre .3) (ll ∙ s .pre .4)
       (c .before .before .before .before .fill-zero .ensures ∙ ap (λ (n : ℕ). replicate n (pos 0)) (sym lt)) (c .before .fill-zero2 .ensures ∙ ap (λ (n : ℕ). replicate n (pos 0)) (sym ll))
 
-fill-zero-requires : tie.Need-fill-zero-requires
-fill-zero-requires c κs = search needs
-
-fill-zero-requires-2 : tie.Need-fill-zero-requires-2
-fill-zero-requires-2 c κs = search needs
-
 put-row-requires : tie.Need-put-row-requires
 put-row-requires c κs = let d = c .before in next-row (form d) (at-start d .pre .1)
 
 append-requires : tie.Need-append-requires
 append-requires c κs = let d = c .before .before .before .before in (form d .slots, omega (arith, form d .list, at-start d .pre .1), omega arith)
-
-is-error-requires : tie.Need-is-error-requires
-is-error-requires c κs = search needs
-
-first-verdict-requires : tie.Need-first-verdict-requires
-first-verdict-requires c κs = search needs
-
-same-length : tie.Need-same-length
-same-length c = search needs
-
-same-length-2 : tie.Need-same-length-2
-same-length-2 c = search needs
 
 returns : tie.Need-returns
 returns c =
@@ -69,12 +51,12 @@ pub start-core-spec : {M : Type 1} → statement M
 start-core-spec =
     tie.close
     (tie.spec
-    fill-zero-requires
-    fill-zero-requires-2
+    (λ c κs. search needs)
+    (λ c κs. search needs)
     put-row-requires
     append-requires
-    is-error-requires
-    first-verdict-requires
-    same-length
-    same-length-2
+    (λ c κs. search needs)
+    (λ c κs. search needs)
+    (λ c. search needs)
+    (λ c. search needs)
     returns)

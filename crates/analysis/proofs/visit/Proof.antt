@@ -14,21 +14,12 @@ use Rattle.analysis.proofs.visit.Tie as tie
 successor-requires : tie.Need-successor-requires
 successor-requires c κs = let s = c .before in (s .pre .0 .wide, s .pre .2, s .pre .3)
 
-same-length : tie.Need-same-length
-same-length c = search needs
-
 returns : tie.Need-returns
 returns c =
     let d = c .before .before in
     let s = d .before .before in
     let h : post-at (s .args .chart .now) (s .args .edge .at) (s .args .copy .now) ≡ halt = sym (d .successor .ensures) ∙ rw (not-true (d .successor .result) (c .if1 .taken)) in
     record { out = rw h; kept = s .pre .0 }
-
-is-error-requires : tie.Need-is-error-requires
-is-error-requires c κs = search needs
-
-same-length-2 : tie.Need-same-length-2
-same-length-2 c = search needs
 
 returns-2 : tie.Need-returns-2
 returns-2 c =
@@ -46,15 +37,6 @@ arrive-requires c κs =
     let len : length (d .successor .last .1 .1 .1 .0) ≡ length (s .args .copy .now) = d .successor .kept .1 .1 .1 .0 ∙ s .pre .2 in
     rw len (s .pre .0, s .pre .1)
 
-same-length-3 : tie.Need-same-length-3
-same-length-3 c = search needs
-
-same-length-4 : tie.Need-same-length-4
-same-length-4 c = search needs
-
-same-length-5 : tie.Need-same-length-5
-same-length-5 c = search needs
-
 returns-3 : tie.Need-returns-3
 returns-3 c =
     let r = c .before .before .arrive in
@@ -71,13 +53,13 @@ visit-spec =
     tie.close
     (tie.spec
     successor-requires
-    same-length
+    (λ c. search needs)
     returns
-    is-error-requires
-    same-length-2
+    (λ c κs. search needs)
+    (λ c. search needs)
     returns-2
     arrive-requires
-    same-length-3
-    same-length-4
-    same-length-5
+    (λ c. search needs)
+    (λ c. search needs)
+    (λ c. search needs)
     returns-3)
