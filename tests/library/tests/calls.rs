@@ -18,8 +18,8 @@ const CALLS_PER_CHART: usize = 16;
 const FEWEST: usize = 20;
 /// Words and bytes around each buffer that is lent.
 const FENCE: usize = 4;
-/// More than any listing takes.
-const SPACE: usize = 21_000;
+/// More than any listing takes: into as many bytes it is written without being measured.
+const SPACE: usize = 24_576;
 
 /// Before the first start.
 const NO_RECORD: Record = Record {
@@ -203,10 +203,13 @@ fn lend(random: &mut Random, memory: &Memory, made: Made) -> Memory {
     lent
 }
 
-/// How much to lend for a listing: now and then just enough, one byte more or one less.
+/// How much to lend for a listing: now and then enough for any, just enough, one byte more or one less.
 fn listing_space(random: &mut Random, memory: &Memory, space: usize) -> usize {
-    if random.percent(75) {
+    if random.percent(50) {
         return space;
+    }
+    if random.percent(50) {
+        return SPACE;
     }
     let length = memory.listing(SPACE).1.len();
     (length + random.below(3)).saturating_sub(1)

@@ -95,7 +95,7 @@ impl Subject {
             record,
             table: vec![0; self.capacity * 9],
             list: vec![0; self.capacity],
-            space: vec![0; 21_000],
+            space: vec![0; 24_576],
             length: 0,
         };
         for call in [READ, WALK_SEP, LISTING] {
