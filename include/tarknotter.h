@@ -14,7 +14,7 @@
 #define TARKNOTTER_TABLE_WORDS 2304
 #define TARKNOTTER_LIST_WORDS 256
 
-/* Bytes that hold the listing of every analysis that a start began. */
+/* Bytes that hold the listing of every analysis in form. */
 #define TARKNOTTER_LISTING_BYTES 24576
 
 /* Ways to merge and to stop, and the order in which waiting slots are taken. */
