@@ -10,7 +10,7 @@ use lib.ListN.{length, getD, take, drop, set, length-append}
 use lib.IntN.{ℤ, pos}
 use lib.Seq.{getD-drop, drop-drop, take-suc-set, append-snoc, take-all}
 use Rattle.semantics.specs.Chart.{eqZ}
-use Rattle.words.proofs.Rows.{take-put, drop-put, length-put}
+use Rattle.words.proofs.Rows.{take-put, drop-put}
 use Rattle.reader.specs.Rows.{name-row, names-it, seen, stored}
 
 -- ---- a name's words
@@ -81,10 +81,6 @@ module _ (at : ℕ) (row table : List ℤ) (fits : at + length row ≤ length ta
   pub stored-drop : drop (at + length row) (stored at row table) ≡ drop (length row) (drop at table)
   unfolding stored
   stored-drop = drop-put table at (length row) row fits refl
-
-  pub stored-length : length (stored at row table) ≡ length table
-  unfolding stored
-  stored-length = length-put table at (length row) row fits refl
 
   -- two rows, one after the other, are one
   pub stored-then : (more : List ℤ) → stored (at + length row) more (stored at row table) ≡ stored at (row ++ more) table

@@ -121,12 +121,6 @@ joins-length [] ws = refl
 joins-length (v ∷ vs) [] = refl
 joins-length (v ∷ vs) (w ∷ ws) = ap suc (joins-length vs ws)
 
-pub matches-length : (vs : List Value) (xs : List ℤ) → Matches vs xs → length vs ≡ length xs
-matches-length [] [] m = refl
-matches-length [] (x ∷ xs) m = absurd m
-matches-length (v ∷ vs) [] m = absurd m
-matches-length (v ∷ vs) (x ∷ xs) m = ap suc (matches-length vs xs (m .1))
-
 matches-get : (vs : List Value) (xs : List ℤ) (k : ℕ) → Matches vs xs → Matches₁ (getD vs k (known (pos 0))) (getD xs k (pos 0))
 matches-get [] [] k m = refl
 matches-get [] (x ∷ xs) k m = absurd m

@@ -3,16 +3,14 @@ use mathlib.Core.Path.{_≡_, refl, sym, ap, _∙_}
 use mathlib.Core.List.{List, [], _∷_, map}
 use Prim.Native.Nat.{ℕ, zero, suc}
 use lib.Dec.{T}
-use lib.IntN.{ℤ, pos}
-use lib.ListN.{length, take, drop, getD, length-map}
-use lib.Signed.{nonNeg}
+use lib.IntN.{ℤ}
+use lib.ListN.{take, drop}
 use Rattle.semantics.specs.Chart.{Value, known, top, Chart}
 use Rattle.semantics.specs.Constants.{AbstractState}
 use Rattle.semantics.specs.Encoding.{word, val, chart-ok}
 use Rattle.semantics.specs.Memory.{width, state-in, states-in, row-ok, rows-ok}
 use Rattle.semantics.proofs.Values.{and-left, and-right}
 use Rattle.semantics.proofs.StatesOk.{bounds}
-use Rattle.semantics.proofs.Stored.{vals-length}
 use Rattle.semantics.proofs.Reloaded.{row-state, row-back}
 use Rattle.semantics.proofs.Simulate.{AllPairs}
 use Rattle.rows.specs.Rows.{rows-of}
@@ -33,12 +31,6 @@ vals-words (x ∷ xs) h =
     λ i. a i ∷ b i
 
 module _ (c : Chart) where
-  pub says-length : (e : List ℤ) (f : AbstractState) → Says c e f → length e ≡ width c
-  says-length e f r = ap length (r .words) ∙ ap suc (length-map (f .vals) word ∙ vals-length (c .vars) (f .vals) (r .ok .vals))
-
-  pub says-placed : (e : List ℤ) (f : AbstractState) → Says c e f → T (nonNeg (getD e 0 (pos 0)))
-  says-placed e f r = rw (r .words) tt
-
   pub says-state : T (chart-ok c) → (e : List ℤ) (f : AbstractState) → Says c e f → state-in e ≡ f
   says-state ok e f r =
       ap state-in (r .words) ∙ ap (λ (vs : List Value). record { loc = f .loc; vals = vs }) (vals-words (f .vals) (values-plain (c .vars) (f .vals) (bounds c ok .vars) (r .ok .vals)))

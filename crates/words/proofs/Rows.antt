@@ -1,5 +1,5 @@
 -- Rows of a table: parts of it, and what a row put at a place changes. Assumes nothing.
-use mathlib.Core.Path.{_≡_, refl, sym, ap, subst, _∙_}
+use mathlib.Core.Path.{_≡_, refl, sym, ap, subst}
 use mathlib.Core.List.{List, [], _∷_, _++_, append-assoc}
 use Prim.Native.Nat.{ℕ, zero, suc, _+_, _-_, _*_, _≤_, _<_}
 use native.Mathlib.Nat.{suc-mul, mul-le-mul-right, sub-zero, zero-sub, suc-sub-suc}
@@ -7,7 +7,7 @@ use native.Mathlib.Omega.{arith}
 use native.Mathlib.Numerals.{add-one}
 use lib.IntN.{ℤ, pos}
 use lib.ListN.{length, take, drop, length-take, length-drop, length-append, set, replicate}
-use lib.Seq.{take-at, drop-at, drop-drop, drop-nil, take-nil, take-take, length-take-le, take-suc-set}
+use lib.Seq.{take-at, drop-at, drop-nil, take-nil, length-take-le, take-suc-set}
 
 pub drop-take : (b a : ℕ) (l : List ℤ) → drop b (take a l) ≡ take (a - b) (drop b l)
 drop-take zero a l = rw sub-zero
@@ -45,21 +45,6 @@ module _ (t : List ℤ) (a w : ℕ) (ws : List ℤ) (fits : a + w ≤ length t) 
 
   pub length-put : length put ≡ length t
   length-put = simp (length-append, length-drop, length-take) (omega arith)
-
-  -- a row that ends at a or before, and one that begins at a + w or after, are as they were
-  pub put-before : (b : ℕ) → b + w ≤ a → take w (drop b put) ≡ take w (drop b t)
-  put-before b h =
-      within put ∙ ap (λ (l : List ℤ). take w (drop b l)) (take-at (take a t) (ws ++ drop w (drop a t)) a front) ∙ sym (within t) where
-        within : (l : List ℤ) → take w (drop b l) ≡ take w (drop b (take a l))
-        within l = sym (ap (take w) (drop-take b a l) ∙ take-take w (a - b) (drop b l) (omega arith))
-
-  pub put-after : (b : ℕ) → a + w ≤ b → drop b put ≡ drop b t
-  put-after b h =
-      let m = b - (a + w) in
-      let e : a + w + m ≡ b = omega arith in
-      ap (λ (k : ℕ). drop k put) (sym e) ∙ sym (drop-drop m (a + w) put) ∙ ap (λ (l : List ℤ). drop m l) (drop-put ∙ drop-drop w a t)
-      ∙ drop-drop m (a + w) t
-      ∙ ap (λ (k : ℕ). drop k t) e
 
 -- one zero more
 pub zero-turn : (s : List ℤ) (i : ℕ) → i < length s → take i s ≡ replicate i (pos 0) → take (i + 1) (set s i (pos 0)) ≡ replicate (i + 1) (pos 0)

@@ -112,12 +112,6 @@ pub abs-small : (z : ℤ) → SFits w32 z → natAbs z < 2147483649
 abs-small (pos n) f = omega (arith, f .sfits)
 abs-small (negsuc n) f = omega (arith, f .sfits)
 
--- two words that say locations are equal where the locations are
-pub placed-eq : (a b : ℤ) → T (nonNeg a) → T (nonNeg b) → eqb (natAbs a) (natAbs b) ≡ eqZ a b
-placed-eq (pos a) (pos b) p q = refl
-placed-eq (pos a) (negsuc b) p q = absurd q
-placed-eq (negsuc a) b p q = absurd p
-
 -- what is below 0, taken from 0
 pub below-zero : (z : ℤ) → ltZ z (pos 0) ≡ true → pos 0 -ℤ z ≡ pos (natAbs z)
 below-zero (pos n) e = absurd (omega (arith, ltb-true n 0 e))

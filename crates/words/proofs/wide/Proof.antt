@@ -1,3 +1,4 @@
+-- `words::wide` meets its contract. Assumes nothing.
 use Rattle.words.proofs.Words.{widens, widened}
 use Rattle.words.proofs.wide.Statement.{statement}
 use Rattle.words.proofs.wide.Tie as tie
