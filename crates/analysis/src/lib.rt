@@ -30,7 +30,7 @@ pub enum Exit {
     Full,
 }
 
-// The state between two edges: how the last one ended, and the counts of slots in use and waiting.
+// The state between two edges: how the last one ended, the alarm's edge or 0, and the counts of slots in use and waiting.
 pub struct Progress {
     pub exit: Exit,
     pub edge: EdgeId,
@@ -101,7 +101,7 @@ fn arrive(
     }
 }
 
-// One edge, with the copy of the taken state. `next` is room for the successor.
+// One edge, with the copy of the taken state. `next` is a row lent for the successor.
 fn visit(
     chart: &[i32],
     edge: Edge,
@@ -170,9 +170,9 @@ fn leave(
     let mut slots = used;
     let mut count = waiting;
     let location = transfer::location_of(copy);
-    let mut g = leaving::first_leaving(heads, location);
-    while g < edges {
-        let edge = encoded::edge_after(first, g);
+    let mut id = leaving::first_leaving(heads, location);
+    while id.0 <= edges {
+        let edge = encoded::edge_of(first, id);
         let p = visit(
             chart,
             edge,
@@ -191,7 +191,7 @@ fn leave(
         }
         slots = p.used;
         count = p.waiting;
-        g = leaving::next_leaving(chart, edge, g, nexts, location);
+        id = leaving::next_leaving(chart, edge, nexts, location);
     }
     Progress {
         exit: Exit::On,
@@ -201,7 +201,7 @@ fn leave(
     }
 }
 
-// The verdict after an iteration that met no error and had room.
+// The verdict after an iteration that met no error and no full table.
 fn verdict_of(waiting: usize) -> Verdict
     ensures { λ r. ⌜ Ended waiting r ⌝ }
 {
@@ -261,7 +261,7 @@ fn finish(a: Analysis, slot: SlotId, p: Progress, list: &mut [i32]) -> Analysis
     }
 }
 
-// One iteration, with room lent for the copy of the taken state and for its successors.
+// One iteration, with rows lent for the copy of the taken state and for its successors.
 fn iterate(
     chart: &[i32],
     first: Edge,
@@ -317,6 +317,7 @@ fn iteration(
     requires { ⌜ Held width edges a (now table) (now list) × (a .iterations < 60000) × (0 < a .waiting) × (width ≤ 9) × Is-edge (now chart) 0 first × (edge-at (now chart) edges < 4294967296) × Chained (now chart) 0 (now heads) (now nexts) ⌝ }
     ensures { λ r. ⌜ Loaded width edges r (now (table .exit)) (now (list .exit)) (iteration (domain-of (now (chart .entry))) (edges-from 0 edges) (load-of width a (now (table .entry)) (now (list .entry)))) × (r .iterations ≡ a .iterations + 1) ⌝ }
 {
+    // a location and 8 variables at most
     let mut copy = [0i32; 9];
     let mut next = [0i32; 9];
     iterate(
@@ -333,6 +334,7 @@ fn iteration(
     )
 }
 
+// Safe, alarm or full (22).
 pub fn has_verdict(verdict: Verdict) -> bool
     ensures { λ r. ⌜ r ≡ has-verdict verdict ⌝ }
 {
@@ -345,7 +347,7 @@ pub fn has_verdict(verdict: Verdict) -> bool
 }
 
 // How many iterations the budget still allows.
-fn allowance(budget: u32, iterations: u32) -> u32
+fn iterations_left(budget: u32, iterations: u32) -> u32
     requires { ⌜ iterations ≤ 60000 ⌝ }
     ensures { λ r. ⌜ r ≡ min budget (60000 - iterations) ⌝ }
 {
@@ -399,10 +401,11 @@ pub fn run_core(
     ensures { λ r. ⌜ Loaded width edges r (now (table .exit)) (now (list .exit)) (run (domain-of (now (chart .entry))) (edges-from 0 edges) (min budget (60000 - a .iterations)) (load-of width a (now (table .entry)) (now (list .entry)))) ⌝ }
 {
     let first = encoded::first_edge(chart);
-    let mut heads = [edges; 64];
+    let none = edges + 1;
+    let mut heads = [none; 64];
     let mut nexts = [0usize; 256];
     leaving::chain(chart, edges, &mut heads, &mut nexts);
-    let most = allowance(budget, a.iterations);
+    let most = iterations_left(budget, a.iterations);
     play(
         chart,
         first,

@@ -4,7 +4,7 @@ use semantics::LocationId;
 ghost use mathlib.Core.Path.{_≡_};
 ghost use mathlib.Core.Bool.{not};
 ghost use mathlib.Core.List.{map};
-ghost use Prim.Native.Nat.{suc, _+_, _*_, _<_, _≤_};
+ghost use Prim.Native.Nat.{suc, _+_, _-_, _*_, _<_, _≤_};
 ghost use lib.IntN.{pos, natAbs};
 ghost use lib.ListN.{length, getD};
 ghost use Rattle.semantics.specs.Lists.{all};
@@ -413,7 +413,7 @@ pub fn is_error_location(words: &[i32], l: LocationId) -> bool
     kind == 1
 }
 
-// ---- edges
+// ---- edges, for those who use the chart
 
 // An edge: its number, and where its words stand. The two are carried along together, so that no accessor has to count.
 pub struct Edge {
@@ -430,16 +430,15 @@ pub fn first_edge(words: &[i32]) -> Edge
     }
 }
 
-// The edge that stands n edges after.
-pub fn edge_after(e: Edge, n: usize) -> Edge
-    requires { ⌜ (e .id .0 < 4294967296) × (e .at < 68719476736) × (n < 4294967296) ⌝ }
-    ensures { λ r. ⌜ (r .id .0 ≡ e .id .0 + n) × (r .at ≡ e .at + 8 * n) ⌝ }
+// An edge by its number, from the first.
+pub fn edge_of(first: Edge, id: EdgeId) -> Edge
+    requires { ⌜ (first .at < 68719476736) × (1 ≤ id .0) × (id .0 < 4294967297) ⌝ }
+    ensures { λ r. ⌜ (r .id .0 ≡ id .0) × (r .at ≡ first .at + 8 * (id .0 - 1)) ⌝ }
 {
-    let id = e.id;
-    let number = id.0 + n;
+    let before = id.0 - 1;
     Edge {
-        id: EdgeId(number),
-        at: e.at + 8 * n,
+        id,
+        at: first.at + 8 * before,
     }
 }
 

@@ -1,4 +1,4 @@
-// Form rule 21: whether lent words and a record are an analysis of a chart. Leaves look at one row or one part of the words and are total;
+// The tests of 11 to 14, and form rule 21: whether lent words and a record are an analysis of a chart. Leaves look at one row or one part of the words and are total;
 // the counts are tested first, since they bound what is read after.
 use semantics::Analysis;
 use semantics::EdgeId;
@@ -239,7 +239,7 @@ fn record_ok(a: Analysis, edges: usize) -> bool
     counts & edge_ok(edge, verdict) & rest & empty_if_safe(verdict, a.waiting)
 }
 
-// ---- the tests of 11, 13, 14 and 21
+// ---- the tests of 11, 13, 14 and 21, for other crates
 
 pub fn capacity_ok(capacity: i32) -> bool
     ensures { λ r. ⌜ r ≡ capacity-ok capacity ⌝ }

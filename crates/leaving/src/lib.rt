@@ -1,11 +1,12 @@
 // The edges that leave a location, chained in file order in lent numbers, so that an iteration looks at the edges of its
-// location and not at all. `heads` has for each location the first edge that leaves it, `nexts` for each edge the next one
-// that leaves the same location; edges count from 0, and the count of edges stands for none. Past the end of either a
-// number is 0, which passes over nothing: so nothing is asked of a location or of the count of edges.
+// location and not at every edge. `heads` has for each location the number of the first edge that leaves it, `nexts` for
+// each edge that of the next one that leaves the same location; one more than the count of edges stands for none. Past the
+// end of either a number is 0, which passes over nothing: so nothing is asked of a location or of the count of edges.
 use encoded::Edge;
+use semantics::EdgeId;
 use semantics::LocationId;
 ghost use mathlib.Core.Path.{_≡_};
-ghost use Prim.Native.Nat.{_+_, _<_};
+ghost use Prim.Native.Nat.{_-_, _<_, _≤_, max};
 ghost use lib.ListN.{getD, set};
 ghost use Rattle.transfer.specs.Transfer.{edge-at};
 ghost use Rattle.leaving.specs.Chains.{from-at, Passed, Chained};
@@ -29,44 +30,50 @@ fn put(s: &mut [usize], i: usize, x: usize)
     }
 }
 
-// Chains all edges, from the last to the first: each becomes the head of its chain.
+// Chains all edges, from the last to the first.
 pub fn chain(chart: &[i32], edges: usize, heads: &mut [usize], nexts: &mut [usize])
     requires { ⌜ Chained (now chart) edges (now heads) (now nexts) × (edge-at (now chart) edges < 4294967296) ⌝ }
     ensures { λ _. ⌜ Chained (now (chart .entry)) 0 (now (heads .exit)) (now (nexts .exit)) ⌝ }
 {
     let first = encoded::first_edge(chart);
-    let mut g = edges;
-    while 0 < g {
-        g -= 1;
-        let edge = encoded::edge_after(first, g);
+    let mut number = edges;
+    while 0 < number {
+        let edge = encoded::edge_of(first, EdgeId(number));
         let from = encoded::edge_from(chart, edge);
         let l = from.0;
         let head = number_at(heads, l);
-        put(nexts, g, head);
-        put(heads, l, g);
+        put(nexts, number - 1, head);
+        put(heads, l, number);
+        number -= 1;
     }
 }
 
-// The first edge of the location's chain.
-pub fn first_leaving(heads: &[usize], l: LocationId) -> usize
-    ensures { λ r. ⌜ r ≡ getD (now (heads .entry)) (l .0) 0 ⌝ }
+// The first edge to look at, for a location.
+pub fn first_leaving(heads: &[usize], l: LocationId) -> EdgeId
+    ensures { λ r. ⌜ r .0 ≡ max 1 (getD (now (heads .entry)) (l .0) 0) ⌝ }
 {
-    number_at(heads, l.0)
+    let number = number_at(heads, l.0);
+    if number == 0 {
+        return EdgeId(1);
+    }
+    EdgeId(number)
 }
 
-// The edge to look at after edge g. The chain of g serves only if g leaves the location.
-pub fn next_leaving(chart: &[i32], edge: Edge, g: usize, nexts: &[usize], l: LocationId) -> usize
-    requires { ⌜ Passed (now chart) (from-at (now chart) g) (g + 1) (getD (now nexts) g 0) × (edge .at ≡ edge-at (now chart) g) × (g < 4294967296) ⌝ }
-    ensures { λ r. ⌜ (g < r) × Passed (now (chart .entry)) (l .0) (g + 1) r ⌝ }
+// The edge to look at next. The chain of this one serves if it leaves the location.
+pub fn next_leaving(chart: &[i32], edge: Edge, nexts: &[usize], l: LocationId) -> EdgeId
+    requires { ⌜ Passed (now chart) (from-at (now chart) (edge .id .0 - 1)) (edge .id .0) (getD (now nexts) (edge .id .0 - 1) 0 - 1) × (edge .at ≡ edge-at (now chart) (edge .id .0 - 1)) × (1 ≤ edge .id .0) × (edge .id .0 < 4294967297) ⌝ }
+    ensures { λ r. ⌜ (edge .id .0 < r .0) × Passed (now (chart .entry)) (l .0) (edge .id .0) (r .0 - 1) ⌝ }
 {
-    let step = g + 1;
+    let id = edge.id;
+    let number = id.0;
+    let step = number + 1;
     let from = encoded::edge_from(chart, edge);
-    if from.0 != l.0 {
-        return step;
+    if !transfer::same_location(from, l) {
+        return EdgeId(step);
     }
-    let next = number_at(nexts, g);
+    let next = number_at(nexts, number - 1);
     if next < step {
-        return step;
+        return EdgeId(step);
     }
-    next
+    EdgeId(next)
 }

@@ -148,11 +148,12 @@ fn put_values(out: &mut [u8], at: usize, values: &[i32]) -> usize
 }
 
 // Marks a slot; none past the marks.
-fn set_mark(marks: &mut [bool], slot: usize)
-    ensures { λ _. ⌜ now (marks .exit) ≡ set (now (marks .entry)) slot true ⌝ }
+fn set_mark(marks: &mut [bool], slot: SlotId)
+    ensures { λ _. ⌜ now (marks .exit) ≡ set (now (marks .entry)) (slot .0) true ⌝ }
 {
-    if slot < marks.len() {
-        marks[slot] = true;
+    let s = slot.0;
+    if s < marks.len() {
+        marks[s] = true;
     }
 }
 
@@ -162,7 +163,7 @@ fn mark_waiting(marks: &mut [bool], list: &[i32])
 {
     let mut i = 0;
     while i < list.len() {
-        set_mark(marks, words::magnitude(list[i]));
+        set_mark(marks, SlotId(words::magnitude(list[i])));
         i += 1;
     }
 }

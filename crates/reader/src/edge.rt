@@ -49,6 +49,7 @@ fn field_count(w: text::OpWord) -> usize
     }
 }
 
+// The edge's words, from the operation's.
 fn with_op(from: semantics::LocationId, to: semantics::LocationId, op: OpLine) -> EdgeLine
     requires { ⌜ (from .0 < 1000) × (to .0 < 1000) ⌝ }
     ensures { λ r. ⌜ edge-res r ≡ op-after (from .0) (to .0) (op-res op) ⌝ }
@@ -63,6 +64,7 @@ fn with_op(from: semantics::LocationId, to: semantics::LocationId, op: OpLine) -
     }
 }
 
+// The fields from `to` on.
 fn with_from(
     from: semantics::LocationId,
     w: text::OpWord,
@@ -83,6 +85,7 @@ fn with_from(
     }
 }
 
+// The fields from `from` on.
 fn judged(w: text::OpWord, t: Tally, table: &[i32], line: &[u8]) -> EdgeLine
     requires { ⌜ Few t ⌝ }
     ensures { λ r. ⌜ edge-res r ≡ edge-read (t .locs) (op-read (now (table .entry)) (t .vars) (the-word w) (fields (now (line .entry)))) (fields (now (line .entry))) ⌝ }
@@ -93,6 +96,7 @@ fn judged(w: text::OpWord, t: Tally, table: &[i32], line: &[u8]) -> EdgeLine
     }
 }
 
+// The edge's row, after those held.
 fn push(t: Tally, table: &mut [i32], g: EdgeRow)
     requires { ⌜ Few t × (t .edges < 256) × (length (now table) ≡ 3160) ⌝ }
     ensures { λ _. ⌜ now (table .exit) ≡ stored (used-words t) (edge-row g) (now (table .entry)) ⌝ }
@@ -112,6 +116,7 @@ fn push(t: Tally, table: &mut [i32], g: EdgeRow)
     rows::push_row(table, at, &row);
 }
 
+// A line whose operation is known: 5 by its count, then its fields.
 fn worded(w: text::OpWord, t: Tally, table: &mut [i32], line: &[u8]) -> Step
     requires { ⌜ Few t × (t .edges < 256) × (length (now table) ≡ 3160) ⌝ }
     ensures { λ r. ⌜ ((s : So-far) (names : List ℤ) → Rows t (now (table .entry)) (s .chart) → Names (t .vars) names (s .names) → Stepped r (edge-worded s (the-word w) (fields (now (line .entry)))) (now (table .exit)) names) ⌝ }
@@ -132,6 +137,7 @@ fn worded(w: text::OpWord, t: Tally, table: &mut [i32], line: &[u8]) -> Step
     }
 }
 
+// Four fields at least, none of them empty.
 fn enough(line: &[u8]) -> bool
     ensures { λ r. ⌜ r ≡ leb 4 (length (fields (now (line .entry)))) && none-empty (fields (now (line .entry))) ⌝ }
 {

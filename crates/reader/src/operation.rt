@@ -119,6 +119,7 @@ fn up_to(table: &[i32], v: usize, p: i32, q: i32) -> bool
     in_range(table, v, q) & (p <= q)
 }
 
+// q, after p.
 fn high(table: &[i32], v: usize, p: i32, f: &[u8]) -> OpLine
     requires { ⌜ v < 1000 ⌝ }
     ensures { λ r. ⌜ op-res r ≡ high-read (now (table .entry)) v p (number-field (now (f .entry))) ⌝ }
@@ -141,6 +142,7 @@ fn high(table: &[i32], v: usize, p: i32, f: &[u8]) -> OpLine
     }
 }
 
+// p and q of `in`.
 fn bounds(table: &[i32], v: usize, line: &[u8]) -> OpLine
     requires { ⌜ v < 1000 ⌝ }
     ensures { λ r. ⌜ op-res r ≡ bounds-read (now (table .entry)) v (number-field (nth (fields (now (line .entry))) 5)) (number-field (nth (fields (now (line .entry))) 6)) ⌝ }
@@ -195,6 +197,7 @@ fn unchanged() -> OpLine
     })
 }
 
+// The fields after the target.
 fn after_target(w: text::OpWord, v: usize, vars: usize, table: &[i32], line: &[u8]) -> OpLine
     requires { ⌜ (vars ≤ 8) × (v < 1000) ⌝ }
     ensures { λ r. ⌜ op-res r ≡ after-target-read (now (table .entry)) vars (the-word w) v (fields (now (line .entry))) ⌝ }
@@ -209,6 +212,7 @@ fn after_target(w: text::OpWord, v: usize, vars: usize, table: &[i32], line: &[u
     }
 }
 
+// The fields from the target on.
 fn targeted(w: text::OpWord, vars: usize, table: &[i32], line: &[u8]) -> OpLine
     requires { ⌜ vars ≤ 8 ⌝ }
     ensures { λ r. ⌜ op-res r ≡ targeted-read (now (table .entry)) vars (the-word w) (fields (now (line .entry))) ⌝ }
@@ -219,6 +223,7 @@ fn targeted(w: text::OpWord, vars: usize, table: &[i32], line: &[u8]) -> OpLine
     }
 }
 
+// The fields after the operation's word.
 pub fn read(w: text::OpWord, vars: usize, table: &[i32], line: &[u8]) -> OpLine
     requires { ⌜ vars ≤ 8 ⌝ }
     ensures { λ r. ⌜ op-res r ≡ op-read (now (table .entry)) vars (the-word w) (fields (now (line .entry))) ⌝ }

@@ -33,7 +33,8 @@ fn put_refusal(out: &mut [u8], number: u32, line: usize) -> usize
     writing::put_byte(out, end, LF)
 }
 
-// A start asks for the record before it. There is none, and a start that goes through does not look at it.
+// A start asks for the record before it. There is none, and a start that goes through does not look at it. So do all
+// calls here: no answer of theirs is looked at but the listing's length.
 fn no_analysis(settings: Settings) -> Analysis
     ensures { λ r. ⌜ r ≡ no-analysis settings ⌝ }
 {

@@ -1,5 +1,7 @@
 -- The algorithm of source document 000, section 3.4, over any abstract domain: reached table, waitlist, the iteration with its
--- merge and stop, and the run of iterations. Document 01, "One round". Nothing here looks into an abstract state. Assumes nothing.
+-- merge and stop, and the run of iterations. Document 01, "One round". Nothing here looks into an abstract state. Letters: e, x abstract
+-- states; en the reached table; wa the waitlist; w an exploration; s, z settings; r the capacity; g an edge; k a slot; n an edge's number.
+-- Assumes nothing.
 use mathlib.Core.Bool.{Bool, true, false}
 use mathlib.Core.List.{List, [], _∷_, _++_, map}
 use mathlib.Core.Option.{Option, none, some}
@@ -100,7 +102,7 @@ put-back New k w = without k w ++ (k ∷ [])
 
 -- ---- one iteration
 
--- how the edges of an iteration, or some of them, end: on with the next, an alarm at edge n, or no room; with the table and list
+-- how the edges of an iteration, or some of them, end: on with the next, an alarm at edge n, or a full table; with the table and list
 pub data Out (E : Type 0) : Type 0 where
   on : List E → List ℕ → Out E
   alarmed : ℕ → List E → List ℕ → Out E
@@ -184,6 +186,7 @@ module _ {E G : Type 0} (D : Domain E G) where
     error-if true n e en wa = alarmed n en wa
     error-if false n e en wa = arrive e en wa
 
+    -- one edge: its successor, if there is one, by steps 1 to 4
     abbrev pub visit : ℕ → Step E → List E → List ℕ → Out E
     visit n halt en wa = on en wa
     visit n fault en wa = alarmed n en wa
@@ -221,6 +224,7 @@ module _ {E G : Type 0} (D : Domain E G) where
   with-taken gs w none = w
   with-taken gs w (some t) = with-copy gs w (t .slot) (t .rest) (get (w .reached) (t .slot))
 
+  -- a round: take, copy, follow each edge, end
   unfoldable pub iteration : List G → Exploration E → Exploration E
   iteration gs w = with-taken gs w (take-by (w .settings .order) (w .waitlist))
 

@@ -65,6 +65,7 @@ leq e f = same-location e f && all-pairs leq-value (e .vals) (f .vals)
 unfoldable pub join : AbstractState → AbstractState → AbstractState
 join e f = record { loc = f .loc; vals = join-values (e .vals) (f .vals) }
 
+-- "the join of all slots of its location"
 abbrev pub join-all : AbstractState → List AbstractState → AbstractState
 join-all e [] = e
 join-all e (x ∷ xs) = join-all (join e x) xs
@@ -117,6 +118,7 @@ tested vars r a b (known x) top vs = one-known vars r b x vs
 tested vars r a b top (known y) vs = one-known vars r a y vs
 tested vars r a b top top vs = some vs
 
+-- the values after the operation, if there is a successor
 abbrev pub effect : List Var → Op → List Value → Option (List Value)
 effect vars (assign v a) vs = assign-value vars v (operand-value a vs) vs
 effect vars (add v a b) vs = assign-value vars v (both _+ℤ_ (operand-value a vs) (operand-value b vs)) vs
@@ -133,9 +135,11 @@ abbrev pub post-if : Bool → List Var → Edge → List Value → Step Abstract
 post-if true vars g vs = arrive-at (g .to) (effect vars (g .op) vs)
 post-if false vars g vs = halt
 
+-- one abstract move; none where the edge leaves another location
 unfoldable pub post : Chart → Edge → AbstractState → Step AbstractState
 post c g e = post-if (eqb (g .from) (e .loc)) (c .vars) g (e .vals)
 
+-- the constants as a domain of the algorithm
 abbrev pub constants : Chart → Domain AbstractState Numbered
 constants c = record {
   number = λ g. g .no;

@@ -95,6 +95,7 @@ operand-if false x = var (natAbs x)
 abbrev pub operand : ℤ → ℤ → Operand
 operand t x = operand-if (eqZ t (pos 0)) x
 
+-- by the operation's code, 0 to 10; the two numbers are p and q of `in`
 abbrev pub op-of : ℕ → ℕ → Operand → Operand → ℤ → ℤ → Op
 op-of zero v a b x y = skip
 op-of (suc zero) v a b x y = assign v a
@@ -127,6 +128,7 @@ past k (suc n) ws = past k n (drop k ws)
 abbrev pub count : List ℤ → ℕ → ℕ
 count ws i = natAbs (getD ws i (pos 0))
 
+-- the chart that words say, whatever they are; sign and rubbish are judged by `well-formed`
 unfoldable pub decode : List ℤ → Chart
 decode ws = record {
   vars = several var-in 3 (count ws 0) (drop 3 ws);

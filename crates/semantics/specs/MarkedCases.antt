@@ -120,7 +120,7 @@ AllHold (x ∷ xs) = Holds x × AllHold xs
 abbrev state : ℕ → List Value → AbstractState
 state loc vals = record { loc = loc; vals = vals }
 
--- by `old`, with an allowance of 100
+-- by `old`, with a budget of 100
 abbrev walk-of : Mode → Mode → ℕ → List Request
 walk-of merge stop capacity = ask-start (record { merge = merge; stop = stop; order = Old }) (pos capacity) ∷ ask-run (pos 100) ∷ []
 

@@ -47,6 +47,7 @@ analysis-of w = record {
   edge = record { 0 = w .edge };
 }
 
+-- an exploration in words
 unfoldable pub store : Chart → Exploration AbstractState → Memory
 store c w = record { table = table-of c w; waitlist = waitlist-of w; analysis = analysis-of w }
 
@@ -61,6 +62,7 @@ abbrev pub states-in : ℕ → ℕ → List ℤ → List AbstractState
 states-in k zero t = []
 states-in k (suc n) t = state-in (take k t) ∷ states-in k n (drop k t)
 
+-- and back
 unfoldable pub load : Chart → Memory → Exploration AbstractState
 load c m = record {
   settings = m .analysis .settings;

@@ -240,6 +240,7 @@ abbrev pub refused-if : Bool → ℕ → Reading → Reading
 refused-if true k r = refused k 0
 refused-if false k r = r
 
+-- the file by 1, 2 and 3, then its lines in order
 unfoldable pub read : List ℕ → Reading
 read text =
     refused-if (ltb 32768 (length text)) 1

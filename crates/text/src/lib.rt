@@ -229,28 +229,32 @@ pub fn number(f: &[u8]) -> NumberRead
     unsigned(f)
 }
 
-// What a field says, or the refusal's number: a location or a variable by its number, a number, an operand, a test.
+// What a field says, or the refusal's number. First, a location or a variable by its number.
 pub enum Index {
     Refused(u32),
     Is(usize),
 }
 
+// A number, or the word of an initial value.
 pub enum Word {
     Refused(u32),
     Is(i32),
 }
 
+// A number or `$k`.
 pub enum Operand {
     Refused(u32),
     Number(i32),
     Var(usize),
 }
 
+// Whether the kind is `e`.
 pub enum Flag {
     Refused(u32),
     Is(bool),
 }
 
+// `eq` to `ge`.
 pub enum Relation {
     Refused(u32),
     Eq,
@@ -261,6 +265,7 @@ pub enum Relation {
     Ge,
 }
 
+// The operation's word.
 pub enum OpWord {
     Refused(u32),
     Set,

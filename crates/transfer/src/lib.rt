@@ -51,7 +51,7 @@ fn location_word(l: LocationId) -> i32
     0
 }
 
-fn same_location(a: LocationId, b: LocationId) -> bool
+pub fn same_location(a: LocationId, b: LocationId) -> bool
     ensures { λ r. ⌜ r ≡ eqb (a .0) (b .0) ⌝ }
 {
     a.0 == b.0
@@ -182,7 +182,7 @@ fn input(chart: &[i32], e: Edge, row: &mut [i32]) -> bool
     true
 }
 
-// Whether the relation of a code holds.
+// Whether the relation of a code (docs/memory.md) holds.
 fn holds(n: usize, a: i32, b: i32) -> bool
     ensures { λ r. ⌜ r ≡ holds-by n a b ⌝ }
 {

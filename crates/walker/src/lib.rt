@@ -1,4 +1,4 @@
-// The public calls. Each judges all that it is given in document 01's order; a refused call has written nothing.
+// The public calls start and run. Each judges all that it is given in document 01's order; a refused call has written nothing.
 use semantics::Analysis;
 use semantics::Answer;
 use semantics::Settings;
@@ -120,6 +120,7 @@ fn begin(
     requires { ⌜ Begins (now chart) settings capacity width (now table) (now list) × (width ≤ 9) ⌝ }
     ensures { λ r. ⌜ ((last : ℕ) → Loaded width last r (now (table .exit)) (now (list .exit)) (start (domain-of (now (chart .entry))) settings capacity (initial-row (now (chart .entry))))) ⌝ }
 {
+    // a location and 8 variables at most
     let mut row = [0i32; 9];
     begin_with(chart, settings, capacity, table, list, &mut row[..width])
 }

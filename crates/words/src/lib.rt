@@ -19,6 +19,7 @@ pub fn word_at(s: &[i32], i: usize) -> i32
     0
 }
 
+// A word in 64 bits, where sums and negations fit.
 pub fn wide(a: i32) -> i64
     ensures { λ r. ⌜ r ≡ a ⌝ }
 {

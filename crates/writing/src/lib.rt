@@ -3,7 +3,6 @@
 ghost use mathlib.Core.Path.{_≡_};
 ghost use mathlib.Core.List.{[], _∷_};
 ghost use Prim.Native.Nat.{_+_, _%_, min};
-ghost use lib.ListN.{length};
 ghost use Rattle.semantics.specs.Text.{decimal, decimalZ};
 ghost use Rattle.writing.specs.Writing.{Put, limit};
 
@@ -48,19 +47,6 @@ pub fn put_bytes(out: &mut [u8], at: usize, s: &[u8]) -> usize
         i += 1;
     }
     place
-}
-
-// How many digits there are.
-pub fn decimal_len(n: usize) -> usize
-    ensures { λ r. ⌜ r ≡ length (decimal n) ⌝ }
-{
-    let mut count = 1;
-    let mut left = n;
-    while 10 <= left {
-        left = left / 10;
-        count += 1;
-    }
-    count
 }
 
 // The byte of the last digit.

@@ -8,7 +8,7 @@ use lib.Seq.{length-take-le}
 use Rattle.analysis.proofs.iteration.Statement.{statement}
 use Rattle.analysis.proofs.iteration.Tie as tie
 
--- the room that a row takes
+-- the words that a row takes
 row-length : (w : ℕ) → w ≤ 9 → length (take w (replicate 9 (pos 0))) ≡ w
 row-length w h = length-take-le w (replicate 9 (pos 0)) h
 

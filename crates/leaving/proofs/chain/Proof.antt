@@ -12,11 +12,11 @@ use Rattle.leaving.proofs.chain.Statement.{statement}
 use Rattle.leaving.proofs.chain.Tie as tie
 
 abbrev Inv-loop : tie.InvT-loop
-Inv-loop chart edges heads₀ nexts₀ first g₀ heads nexts g =
-    Chained chart g heads nexts × (g ≤ edges) × (length heads ≡ length heads₀) × (length nexts ≡ length nexts₀)
+Inv-loop chart edges heads₀ nexts₀ first number₀ heads nexts number =
+    Chained chart number heads nexts × (number ≤ edges) × (length heads ≡ length heads₀) × (length nexts ≡ length nexts₀)
 
 abbrev μ-loop : tie.MeasureT-loop
-μ-loop chart edges heads₀ nexts₀ first g₀ heads nexts g = g
+μ-loop chart edges heads₀ nexts₀ first number₀ heads nexts number = number
 
 loop-holds : tie.Need-loop-holds Inv-loop μ-loop
 loop-holds c = (c .before .before .before .pre .0, omega arith, refl, refl)
@@ -29,10 +29,11 @@ loop-again c =
     let e = d .before .before in
     let b = e .before .before .before in
     let s = b .before .before .before .before in
-    let k : b .loop .g - 1 + 1 ≡ b .loop .g = omega (arith, e .before .before .loop-test .taken) in
-    let at : e .before .edge-after .result .at ≡ edge-at (s .args .chart .now) (b .loop .g - 1) = omega (arith, e .before .edge-after .ensures .1, b .before .first-edge .ensures .1) in
-    let from : e .edge-from .result .0 ≡ from-at (s .args .chart .now) (b .loop .g - 1) = e .edge-from .ensures .0 ∙ ap (count (s .args .chart .now)) at in (
-      rw (two .ensures, one .ensures, d .number-at .ensures) (linked (s .args .chart .now) (b .loop .g - 1) (e .edge-from .result .0) (b .loop .heads) (b .loop .nexts) from (rw k (b .loop .inv .0))),
+    let k : b .loop .number - 1 + 1 ≡ b .loop .number = omega (arith, e .before .before .loop-test .taken) in
+    let at : e .before .edge-of .result .at ≡ edge-at (s .args .chart .now) (b .loop .number - 1) = omega (arith, e .before .edge-of .ensures .1, b .before .first-edge .ensures .1) in
+    let from : e .edge-from .result .0 ≡ from-at (s .args .chart .now) (b .loop .number - 1) = e .edge-from .ensures .0 ∙ ap (count (s .args .chart .now)) at in
+    let more = linked (s .args .chart .now) (b .loop .number - 1) (e .edge-from .result .0) (b .loop .heads) (b .loop .nexts) from (rw k (b .loop .inv .0)) in (
+      rw (two .ensures, one .ensures, d .number-at .ensures) (rw k at more),
       omega (arith, b .loop .inv .1),
       two .kept .0 ∙ b .loop .inv .2,
       one .kept .0 ∙ b .loop .inv .3,
@@ -41,7 +42,7 @@ loop-again c =
 returns : tie.Need-returns Inv-loop μ-loop
 returns c =
     let b = c .before in
-    let z : b .loop .g ≡ 0 = omega (arith, c .loop-test .left) in
+    let z : b .loop .number ≡ 0 = omega (arith, c .loop-test .left) in
     rw z at (b .loop .inv .0)
 
 pub chain-spec : {M : Type 1} → statement M
@@ -52,12 +53,13 @@ chain-spec =
     μ-loop
     (λ c κs. search needs)
     loop-holds
+    (λ c κs. search needs)
+    (λ c κs. search needs)
+    (λ c κs. search needs)
     (λ c. search needs)
     (λ c κs. search needs)
     (λ c κs. search needs)
-    (λ c κs. search needs)
-    (λ c κs. search needs)
-    (λ c κs. search needs)
+    (λ c. search needs)
     (λ c. search needs)
     loop-again
     (λ c. search needs)
