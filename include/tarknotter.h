@@ -27,7 +27,7 @@
 #define TARKNOTTER_OPEN 0
 #define TARKNOTTER_SAFE 1
 #define TARKNOTTER_ALARM 2
-#define TARKNOTTER_ROOM 3
+#define TARKNOTTER_FULL 3
 
 /* 0 and line 0 from a call that goes through, with the length in bytes of a listing; else the
    refusal's number and line. A refused call has written nothing. */

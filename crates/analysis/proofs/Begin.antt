@@ -9,7 +9,7 @@ use Rattle.semantics.specs.Algorithm.{Exploration, first-verdict, start}
 use Rattle.semantics.specs.Coverage.{Allowed, Tidy}
 use Rattle.semantics.proofs.Tidy.{start-tidy}
 use Rattle.rows.specs.Rows.{rows-of}
-use Rattle.waitlist.specs.Waits.{Put}
+use Rattle.waitlist.specs.Waits.{Stored}
 use Rattle.waitlist.proofs.Laws.{held}
 use Rattle.reached.specs.Reached.{Kept}
 use Rattle.reached.proofs.Table.{rows-stored, stored}
@@ -22,7 +22,7 @@ module _ (w r : ℕ) (t l : List ℤ) (k : Kept w r t l 0 0) (h : 0 < r) (e : Li
   abbrev begun-table : List ℤ
   begun-table = stored w 0 t e (next-row k h) len
 
-  pub begun : (last : ℕ) (c : List ℤ) (a : Analysis) (l′ : List ℤ) → Put l′ (a .waiting) (0 ∷ []) → length l′ ≡ length l → Allowed (a .settings)
+  pub begun : (last : ℕ) (c : List ℤ) (a : Analysis) (l′ : List ℤ) → Stored l′ (a .waiting) (0 ∷ []) → length l′ ≡ length l → Allowed (a .settings)
       → a .capacity ≡ r → a .iterations ≡ 0 → a .used ≡ 1 → a .edge .0 ≡ 0 → a .verdict ≡ first-verdict (error-row c e)
       → Loaded w last a begun-table l′ (start (domain-of c) (a .settings) r e)
   unfolding start

@@ -16,7 +16,8 @@ use Rattle.semantics.specs.declared.Verdict.{Verdict}
 use Rattle.semantics.specs.declared.Verdict.the-variants.{Open, Safe, Alarm, Full}
 use Rattle.semantics.specs.Lists.{In, some-of, all}
 use Rattle.semantics.specs.Chart.{Chart, eqZ}
-use Rattle.semantics.specs.Coverage.{Distinct, Queue, Every, Tidy, allowed}
+use Rattle.semantics.specs.Coverage.{Distinct, Queue, Every, Tidy}
+use Rattle.semantics.specs.Algorithm.{allowed}
 use Rattle.semantics.specs.Memory.{Memory, width, load, below, rows-ok, each-once, zeros, is-alarm, empty-if-safe, capacity-ok, form-tests, analysis-ok}
 use Rattle.semantics.proofs.Values.{and-left, and-right, eqZ-same}
 use Rattle.semantics.proofs.Tidy.{some-not}
@@ -24,7 +25,7 @@ use Rattle.semantics.proofs.Reloaded.{all-each}
 use Rattle.semantics.proofs.Simulate.{ExplorationR}
 use Rattle.words.proofs.Words.{nonNeg-pos}
 use Rattle.rows.specs.Rows.{rows-of}
-use Rattle.waitlist.specs.Waits.{waits, Put}
+use Rattle.waitlist.specs.Waits.{waits, Stored}
 use Rattle.waitlist.proofs.Laws.{any-some}
 use Rattle.reached.specs.Reached.{Kept}
 use Rattle.reached.proofs.Table.{rows-length, rows-prefix}
@@ -163,7 +164,7 @@ module _ (c : Chart) (m : Memory) (lt : m .analysis .capacity * width c ≤ leng
   size : length list-in ≡ m .analysis .capacity
   size = length-take-le (m .analysis .capacity) (m .waitlist) ll
 
-  put : Put list-in (m .analysis .waiting) (waits (m .analysis .waiting) list-in)
+  put : Stored list-in (m .analysis .waiting) (waits (m .analysis .waiting) list-in)
   put =
       let n = m .analysis .waiting in
       let le : n ≤ length list-in = omega (arith, few, fewer, size) in

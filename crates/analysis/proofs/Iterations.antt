@@ -23,7 +23,7 @@ use Rattle.reached.proofs.Table.{rows-length, rows-get}
 use Rattle.reached.proofs.Forms.{kept-after}
 use Rattle.analysis.specs.declared.Progress.{Progress}
 use Rattle.transfer.specs.Transfer.{edges-from}
-use Rattle.analysis.specs.Loaded.{domain-of, Any, load-of, Held, Loaded, Finished, Played}
+use Rattle.analysis.specs.Loaded.{domain-of, Any, load-of, Held, Loaded, Finished, Progressed}
 
 -- each edge has a number up to the last
 pub keeps : (c : List ℤ) (last i n : ℕ) → i + n ≤ last → Every (Keeps (domain-of c) Any last) (edges-from i n)
@@ -47,7 +47,7 @@ module _ (w last : ℕ) (a : Analysis) (t l : List ℤ) (h : Held w last a t l) 
 
   -- the end of an iteration holds the rules' iteration
   pub iteration-held : (c : List ℤ) (p : Progress) (t₂ l₂ : List ℤ)
-      → Played w (a .capacity) t₂ l₂ p (leave (domain-of c) (a .settings) (a .capacity) (take w (drop (k * w) t)) (edges-from 0 last) (rows-of w (a .used) t) (waits (a .waiting - 1) l₁))
+      → Progressed w (a .capacity) t₂ l₂ p (leave (domain-of c) (a .settings) (a .capacity) (take w (drop (k * w) t)) (edges-from 0 last) (rows-of w (a .used) t) (waits (a .waiting - 1) l₁))
       → (r : Analysis) (l₃ : List ℤ) → length l₃ ≡ length l₂ → Finished a k p l₂ r l₃
       → Loaded w last r t₂ l₃ (iteration (domain-of c) (edges-from 0 last) (load-of w a t l))
   iteration-held c p t₂ l₂ y r l₃ ll f = record { load = load; held = record { kept = form; allowed = rw (f .settings) (h .allowed); tidy = tidy } }
@@ -67,7 +67,7 @@ module _ (w last : ℕ) (a : Analysis) (t l : List ℤ) (h : Held w last a t l) 
 
 -- the edges played with a row that is e
 pub played-at : (c row e : List ℤ) (w r : ℕ) (s : Settings) (gs : List ℕ) (u : ℕ) (t t₂ l₂ : List ℤ) (wa : List ℕ) (p : Progress) → length row ≡ w → row ≡ e
-    → Played (length row) r t₂ l₂ p (leave (domain-of c) s r row gs (rows-of (length row) u t) wa) → Played w r t₂ l₂ p (leave (domain-of c) s r e gs (rows-of w u t) wa)
+    → Progressed (length row) r t₂ l₂ p (leave (domain-of c) s r row gs (rows-of (length row) u t) wa) → Progressed w r t₂ l₂ p (leave (domain-of c) s r e gs (rows-of w u t) wa)
 played-at c row e w r s gs u t t₂ l₂ wa p lw re y = rw (← lw, ← re) y
 
 -- ---- the run

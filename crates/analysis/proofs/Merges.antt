@@ -11,9 +11,9 @@ use lib.ListN.{length, drop}
 use Rattle.semantics.specs.declared.Mode.{Mode}
 use Rattle.semantics.specs.declared.Mode.the-variants.{Sep, Join}
 use Rattle.semantics.specs.Chart.{eqZ}
-use Rattle.semantics.specs.Lists.{pick, some-of}
-use Rattle.semantics.specs.Algorithm.{wait, wait-all, note-unless, changed, merged, keep-if, of-place, leq-joined, stopped}
-use Rattle.semantics.specs.Coverage.{Every, allowed}
+use Rattle.semantics.specs.Lists.{pick, some-of, cons-unless}
+use Rattle.semantics.specs.Algorithm.{wait, wait-all, changed, merged, keep-if, of-place, leq-joined, stopped, allowed}
+use Rattle.semantics.specs.Coverage.{Every}
 use Rattle.semantics.proofs.Values.{left-true, right-true}
 use Rattle.words.proofs.Words.{eqZ-true}
 use Rattle.rows.specs.Rows.{word-leq, word-join, words-leq, words-join, same-words, same-place, row-leq, row-join, row-merge, join-of}
@@ -30,7 +30,7 @@ rewaits-all e i [] wa = refl
 rewaits-all e i (x ∷ xs) wa = go (same-words (row-merge e x) x) (rewaits-all e (suc i) xs)
   where
     go : (b : Bool) → ((v : List ℕ) → rewaits e (suc i) xs v ≡ wait-all (changed rows-only e (suc i) xs) v)
-        → rewaits e (suc i) xs (wait-unless b i wa) ≡ wait-all (note-unless b i (changed rows-only e (suc i) xs)) wa
+        → rewaits e (suc i) xs (wait-unless b i wa) ≡ wait-all (cons-unless b i (changed rows-only e (suc i) xs)) wa
     go true ih = ih wa
     go false ih = ih (wait i wa)
 

@@ -11,7 +11,7 @@ use Rattle.semantics.specs.declared.Analysis.{Analysis}
 use Rattle.semantics.specs.Algorithm.{Domain, Out, on, alarmed, full, halt, Exploration, finish, verdict-of}
 use Rattle.semantics.specs.Coverage.{Allowed, Tidy}
 use Rattle.rows.specs.Rows.{rows-of, row-domain}
-use Rattle.waitlist.specs.Waits.{waits, Put}
+use Rattle.waitlist.specs.Waits.{waits, Stored}
 use Rattle.reached.specs.Reached.{Kept}
 use Rattle.encoded.specs.declared.Edge.{Edge}
 use Rattle.transfer.specs.Transfer.{edge-at, post-words, error-row}
@@ -49,7 +49,7 @@ has-ended Alarm = true
 has-ended Full = true
 
 -- the words t, l and the counts p are in form and hold the outcome o
-pub record Played (w r : ℕ) (t l : List ℤ) (p : Progress) (o : Out (List ℤ)) : Type 0 where
+pub record Progressed (w r : ℕ) (t l : List ℤ) (p : Progress) (o : Out (List ℤ)) : Type 0 where
   pub out : out-of w t l p ≡ o
   pub kept : Kept w r t l (p .used) (p .waiting)
 
@@ -91,7 +91,7 @@ pub record Ended (waiting : ℕ) (v : Verdict) : Type 0 where
 -- the record r and the list l′ hold the end of an iteration that took slot k and ended with p over the list l
 pub record Finished (a : Analysis) (k : ℕ) (p : Progress) (l : List ℤ) (r : Analysis) (l′ : List ℤ) : Type 0 where
   pub load : (w : ℕ) (t t₀ l₀ : List ℤ) → load-of w r t l′ ≡ finish rows-only (load-of w a t₀ l₀) k (out-of w t l p)
-  pub put : Put l′ (r .waiting) (waits (r .waiting) l′)
+  pub put : Stored l′ (r .waiting) (waits (r .waiting) l′)
   pub used : r .used ≡ p .used
   pub capacity : r .capacity ≡ a .capacity
   pub settings : r .settings ≡ a .settings

@@ -14,11 +14,11 @@ ghost use Rattle.semantics.specs.Algorithm.{merged, rewait, arrive, visit, leav
 ghost use Rattle.semantics.specs.Coverage.{Queue, Allowed};
 ghost use Rattle.semantics.specs.Outcomes.{has-verdict};
 ghost use Rattle.rows.specs.Rows.{rows-of};
-ghost use Rattle.waitlist.specs.Waits.{waits, Put};
+ghost use Rattle.waitlist.specs.Waits.{waits, Stored};
 ghost use Rattle.reached.specs.Reached.{Kept};
 ghost use Rattle.transfer.specs.Transfer.{edge-at, edges-from, post-at};
 ghost use Rattle.leaving.specs.Chains.{Chained};
-ghost use Rattle.analysis.specs.Loaded.{Is-edge, rows-only, domain-of, has-ended, Played, load-of, Held, Loaded, Ended, Finished};
+ghost use Rattle.analysis.specs.Loaded.{Is-edge, rows-only, domain-of, has-ended, Progressed, load-of, Held, Loaded, Ended, Finished};
 
 // The most iterations that an analysis plays.
 pub const MOST_ITERATIONS: u32 = 60000;
@@ -71,7 +71,7 @@ fn arrive(
     waiting: usize,
 ) -> Progress
     requires { ⌜ Kept (length (now e)) capacity (now table) (now list) used waiting × Allowed settings ⌝ }
-    ensures { λ p. ⌜ Played (length (now (e .entry))) capacity (now (table .exit)) (now (list .exit)) p (arrive rows-only settings capacity (now (e .entry)) (rows-of (length (now (e .entry))) used (now (table .entry))) (waits waiting (now (list .entry)))) ⌝ }
+    ensures { λ p. ⌜ Progressed (length (now (e .entry))) capacity (now (table .exit)) (now (list .exit)) p (arrive rows-only settings capacity (now (e .entry)) (rows-of (length (now (e .entry))) used (now (table .entry))) (waits waiting (now (list .entry)))) ⌝ }
 {
     let merge = settings.merge;
     let count = merge_by(merge, capacity, table, used, e, list, waiting);
@@ -115,7 +115,7 @@ fn visit(
     waiting: usize,
 ) -> Progress
     requires { ⌜ Kept (length (now copy)) capacity (now table) (now list) used waiting × Allowed settings × (length (now next) ≡ length (now copy)) × (edge .at < 4294967296) ⌝ }
-    ensures { λ p. ⌜ Played (length (now (copy .entry))) capacity (now (table .exit)) (now (list .exit)) p (visit (domain-of (now (chart .entry))) settings capacity (edge .id .0) (post-at (now (chart .entry)) (edge .at) (now (copy .entry))) (rows-of (length (now (copy .entry))) used (now (table .entry))) (waits waiting (now (list .entry)))) ⌝ }
+    ensures { λ p. ⌜ Progressed (length (now (copy .entry))) capacity (now (table .exit)) (now (list .exit)) p (visit (domain-of (now (chart .entry))) settings capacity (edge .id .0) (post-at (now (chart .entry)) (edge .at) (now (copy .entry))) (rows-of (length (now (copy .entry))) used (now (table .entry))) (waits waiting (now (list .entry)))) ⌝ }
 {
     let moved = transfer::successor(chart, edge, copy, next);
     if !moved {
@@ -165,11 +165,11 @@ fn leave(
     waiting: usize,
 ) -> Progress
     requires { ⌜ Kept (length (now copy)) capacity (now table) (now list) used waiting × Allowed settings × (length (now next) ≡ length (now copy)) × Is-edge (now chart) 0 first × (edge-at (now chart) edges < 4294967296) × Chained (now chart) 0 (now heads) (now nexts) ⌝ }
-    ensures { λ p. ⌜ Played (length (now (copy .entry))) capacity (now (table .exit)) (now (list .exit)) p (leave (domain-of (now (chart .entry))) settings capacity (now (copy .entry)) (edges-from 0 edges) (rows-of (length (now (copy .entry))) used (now (table .entry))) (waits waiting (now (list .entry)))) ⌝ }
+    ensures { λ p. ⌜ Progressed (length (now (copy .entry))) capacity (now (table .exit)) (now (list .exit)) p (leave (domain-of (now (chart .entry))) settings capacity (now (copy .entry)) (edges-from 0 edges) (rows-of (length (now (copy .entry))) used (now (table .entry))) (waits waiting (now (list .entry)))) ⌝ }
 {
     let mut slots = used;
     let mut count = waiting;
-    let location = transfer::location_of(copy);
+    let location = rows::location_of(copy);
     let mut id = leaving::first_leaving(heads, location);
     while id.0 <= edges {
         let edge = encoded::edge_of(first, id);
@@ -213,7 +213,7 @@ fn verdict_of(waiting: usize) -> Verdict
 
 // The end of an iteration that took the slot.
 fn finish(a: Analysis, slot: SlotId, p: Progress, list: &mut [i32]) -> Analysis
-    requires { ⌜ Put (now list) (p .waiting) (waits (p .waiting) (now list)) × (slot .0 < length (now list)) × (length (now list) < 65536) × Queue (length (now list)) (waits (p .waiting) (now list)) × (a .iterations < 60000) ⌝ }
+    requires { ⌜ Stored (now list) (p .waiting) (waits (p .waiting) (now list)) × (slot .0 < length (now list)) × (length (now list) < 65536) × Queue (length (now list)) (waits (p .waiting) (now list)) × (a .iterations < 60000) ⌝ }
     ensures { λ r. ⌜ Finished a (slot .0) p (now (list .entry)) r (now (list .exit)) ⌝ }
 {
     let settings = a.settings;
@@ -262,7 +262,7 @@ fn finish(a: Analysis, slot: SlotId, p: Progress, list: &mut [i32]) -> Analysis
 }
 
 // One iteration, with rows lent for the copy of the taken state and for its successors.
-fn iterate(
+fn iteration_with(
     chart: &[i32],
     first: Edge,
     edges: usize,
@@ -320,7 +320,7 @@ fn iteration(
     // a location and 8 variables at most
     let mut copy = [0i32; 9];
     let mut next = [0i32; 9];
-    iterate(
+    iteration_with(
         chart,
         first,
         edges,

@@ -17,12 +17,6 @@ ghost use Rattle.encoded.specs.Encoded.{rows, at-most, name-word, counts
 
 // ---- one word
 
-fn lies_within(lo: i32, hi: i32, w: i32) -> bool
-    ensures { λ r. ⌜ r ≡ within lo hi w ⌝ }
-{
-    (lo <= w) & (w <= hi)
-}
-
 fn is_small(w: i32) -> bool
     ensures { λ r. ⌜ r ≡ small w ⌝ }
 {
@@ -35,71 +29,68 @@ fn is_at_most(n: usize, w: i32) -> bool
     (0 <= w) & (words::magnitude(w) <= n)
 }
 
-fn is_index(n: usize, w: i32) -> bool
-    ensures { λ r. ⌜ r ≡ below n w ⌝ }
-{
-    (0 <= w) & (words::magnitude(w) < n)
-}
-
 fn is_name_byte(w: i32) -> bool
     ensures { λ r. ⌜ r ≡ name-word w ⌝ }
 {
-    lies_within(65, 90, w) | lies_within(97, 122, w) | lies_within(48, 57, w) | (w == 45)
+    words::lies_within(65, 90, w)
+        | words::lies_within(97, 122, w)
+        | words::lies_within(48, 57, w)
+        | (w == 45)
 }
 
 // ---- the counts, and where the rows stand
 
-pub fn var_count(words: &[i32]) -> usize
-    ensures { λ r. ⌜ (r ≡ count (now (words .entry)) 0) × (r < 2147483649) ⌝ }
+pub fn var_count(chart: &[i32]) -> usize
+    ensures { λ r. ⌜ (r ≡ count (now (chart .entry)) 0) × (r < 2147483649) ⌝ }
 {
-    words::number_at(words, 0)
+    words::number_at(chart, 0)
 }
 
-pub fn location_count(words: &[i32]) -> usize
-    ensures { λ r. ⌜ (r ≡ count (now (words .entry)) 1) × (r < 2147483649) ⌝ }
+pub fn location_count(chart: &[i32]) -> usize
+    ensures { λ r. ⌜ (r ≡ count (now (chart .entry)) 1) × (r < 2147483649) ⌝ }
 {
-    words::number_at(words, 1)
+    words::number_at(chart, 1)
 }
 
-pub fn edge_count(words: &[i32]) -> usize
-    ensures { λ r. ⌜ (r ≡ count (now (words .entry)) 2) × (r < 2147483649) ⌝ }
+pub fn edge_count(chart: &[i32]) -> usize
+    ensures { λ r. ⌜ (r ≡ count (now (chart .entry)) 2) × (r < 2147483649) ⌝ }
 {
-    words::number_at(words, 2)
+    words::number_at(chart, 2)
 }
 
 // The words of a slot of the reached table.
-pub fn width(words: &[i32]) -> usize
-    ensures { λ r. ⌜ (r ≡ suc (count (now (words .entry)) 0)) × (r < 2147483650) ⌝ }
+pub fn width(chart: &[i32]) -> usize
+    ensures { λ r. ⌜ (r ≡ suc (count (now (chart .entry)) 0)) × (r < 2147483650) ⌝ }
 {
-    words::number_at(words, 0) + 1
+    words::number_at(chart, 0) + 1
 }
 
 // Where the words of the locations begin, and those of the edges.
-fn locations_at(words: &[i32]) -> usize
-    ensures { λ r. ⌜ (r ≡ locations-at (now (words .entry))) × (r < 8589934592) ⌝ }
+fn locations_at(chart: &[i32]) -> usize
+    ensures { λ r. ⌜ (r ≡ locations-at (now (chart .entry))) × (r < 8589934592) ⌝ }
 {
-    3 + 3 * words::number_at(words, 0)
+    3 + 3 * words::number_at(chart, 0)
 }
 
-fn edges_at(words: &[i32]) -> usize
-    ensures { λ r. ⌜ (r ≡ edges-at (now (words .entry))) × (r < 51539607552) ⌝ }
+fn edges_at(chart: &[i32]) -> usize
+    ensures { λ r. ⌜ (r ≡ edges-at (now (chart .entry))) × (r < 51539607552) ⌝ }
 {
-    locations_at(words) + 17 * words::number_at(words, 1)
+    locations_at(chart) + 17 * words::number_at(chart, 1)
 }
 
 // How many words the chart takes.
-fn end_of(words: &[i32]) -> usize
-    ensures { λ r. ⌜ r ≡ edges-at (now (words .entry)) + 8 * count (now (words .entry)) 2 ⌝ }
+fn end_of(chart: &[i32]) -> usize
+    ensures { λ r. ⌜ r ≡ edges-at (now (chart .entry)) + 8 * count (now (chart .entry)) 2 ⌝ }
 {
-    edges_at(words) + 8 * words::number_at(words, 2)
+    edges_at(chart) + 8 * words::number_at(chart, 2)
 }
 
-fn counts_ok(words: &[i32]) -> bool
-    ensures { λ r. ⌜ r ≡ counts-fine (now (words .entry)) ⌝ }
+fn counts_ok(chart: &[i32]) -> bool
+    ensures { λ r. ⌜ r ≡ counts-fine (now (chart .entry)) ⌝ }
 {
-    let v = words::word_at(words, 0);
-    let l = words::word_at(words, 1);
-    let e = words::word_at(words, 2);
+    let v = words::word_at(chart, 0);
+    let l = words::word_at(chart, 1);
+    let e = words::word_at(chart, 2);
     is_at_most(8, v) & is_at_most(64, l) & (1 <= words::magnitude(l)) & is_at_most(256, e)
 }
 
@@ -112,7 +103,7 @@ fn init_word_ok(lo: i32, hi: i32, init: i32) -> bool
     if init == words::TOP {
         return true;
     }
-    is_small(init) & lies_within(lo, hi, init)
+    is_small(init) & words::lies_within(lo, hi, init)
 }
 
 fn var_row_ok(row: &[i32]) -> bool
@@ -257,7 +248,7 @@ fn operand_ok(v: usize, tag: i32, w: i32) -> bool
     if tag == 0 {
         return is_small(w);
     }
-    (tag == 1) & is_index(v, w)
+    (tag == 1) & words::is_below(v, w)
 }
 
 // Whether a number lies in the range of a variable.
@@ -266,7 +257,7 @@ fn in_var_range(vars: &[i32], k: usize, w: i32) -> bool
     ensures { λ r. ⌜ r ≡ ranged (now (vars .entry)) k w ⌝ }
 {
     let at = 3 * k;
-    lies_within(words::word_at(vars, at), words::word_at(vars, at + 1), w)
+    words::lies_within(words::word_at(vars, at), words::word_at(vars, at + 1), w)
 }
 
 fn two_operands_ok(v: usize, row: &[i32]) -> bool
@@ -319,15 +310,15 @@ fn operation_ok(vars: &[i32], v: usize, row: &[i32]) -> bool
     if n == 0 {
         return words::all_zero(&row[3..8]);
     }
-    is_index(v, words::word_at(row, 3)) & operands_ok(n, vars, v, row)
+    words::is_below(v, words::word_at(row, 3)) & operands_ok(n, vars, v, row)
 }
 
 fn edge_row_ok(vars: &[i32], v: usize, l: usize, row: &[i32]) -> bool
     requires { ⌜ 8 ≤ length (now row) ⌝ }
     ensures { λ r. ⌜ r ≡ edge-fine (now (vars .entry)) v l (now (row .entry)) ⌝ }
 {
-    is_index(l, words::word_at(row, 0))
-        & is_index(l, words::word_at(row, 1))
+    words::is_below(l, words::word_at(row, 0))
+        & words::is_below(l, words::word_at(row, 1))
         & is_at_most(10, words::word_at(row, 2))
         & operation_ok(vars, v, row)
 }
@@ -349,31 +340,31 @@ fn edges_ok(vars: &[i32], v: usize, l: usize, edges: &[i32], n: usize) -> bool
 
 // ---- the check
 
-fn rows_ok(words: &[i32]) -> bool
-    requires { ⌜ edges-at (now words) + 8 * count (now words) 2 ≤ length (now words) ⌝ }
-    ensures { λ r. ⌜ r ≡ rows-fine (now (words .entry)) ⌝ }
+fn rows_ok(chart: &[i32]) -> bool
+    requires { ⌜ edges-at (now chart) + 8 * count (now chart) 2 ≤ length (now chart) ⌝ }
+    ensures { λ r. ⌜ r ≡ rows-fine (now (chart .entry)) ⌝ }
 {
-    let v = var_count(words);
-    let l = location_count(words);
-    let e = edge_count(words);
-    let at = locations_at(words);
-    let from = edges_at(words);
-    let vars = &words[3..];
-    let locations = &words[at..];
+    let v = var_count(chart);
+    let l = location_count(chart);
+    let e = edge_count(chart);
+    let at = locations_at(chart);
+    let from = edges_at(chart);
+    let vars = &chart[3..];
+    let locations = &chart[at..];
     vars_ok(vars, v)
         & locations_ok(locations, l)
         & names_differ(locations, l)
-        & edges_ok(vars, v, l, &words[from..], e)
+        & edges_ok(vars, v, l, &chart[from..], e)
 }
 
 // Whether the words begin with the encoding of a chart that reading can produce: else the refusal is 20.
-pub fn well_formed(words: &[i32]) -> bool
-    ensures { λ r. ⌜ r ≡ well-formed (now (words .entry)) ⌝ }
+pub fn well_formed(chart: &[i32]) -> bool
+    ensures { λ r. ⌜ r ≡ well-formed (now (chart .entry)) ⌝ }
 {
-    if counts_ok(words) {
-        let end = end_of(words);
-        if end <= words.len() {
-            return rows_ok(words);
+    if counts_ok(chart) {
+        let end = end_of(chart);
+        if end <= chart.len() {
+            return rows_ok(chart);
         }
     }
     false
@@ -382,34 +373,34 @@ pub fn well_formed(words: &[i32]) -> bool
 // ---- what the words say of a variable, a location and an edge, for those who use the chart
 
 // A variable's range, and its initial value.
-pub fn variable_low(words: &[i32], k: usize) -> i32
+pub fn variable_low(chart: &[i32], k: usize) -> i32
     requires { ⌜ k < 2305843009213693952 ⌝ }
-    ensures { λ r. ⌜ r ≡ getD (now (words .entry)) (3 + 3 * k) (pos 0) ⌝ }
+    ensures { λ r. ⌜ r ≡ getD (now (chart .entry)) (3 + 3 * k) (pos 0) ⌝ }
 {
-    words::word_at(words, 3 + 3 * k)
+    words::word_at(chart, 3 + 3 * k)
 }
 
-pub fn variable_high(words: &[i32], k: usize) -> i32
+pub fn variable_high(chart: &[i32], k: usize) -> i32
     requires { ⌜ k < 2305843009213693952 ⌝ }
-    ensures { λ r. ⌜ r ≡ getD (now (words .entry)) (3 + 3 * k + 1) (pos 0) ⌝ }
+    ensures { λ r. ⌜ r ≡ getD (now (chart .entry)) (3 + 3 * k + 1) (pos 0) ⌝ }
 {
-    words::word_at(words, 3 + 3 * k + 1)
+    words::word_at(chart, 3 + 3 * k + 1)
 }
 
-pub fn variable_init(words: &[i32], k: usize) -> i32
+pub fn variable_init(chart: &[i32], k: usize) -> i32
     requires { ⌜ k < 2305843009213693952 ⌝ }
-    ensures { λ r. ⌜ r ≡ getD (now (words .entry)) (3 + 3 * k + 2) (pos 0) ⌝ }
+    ensures { λ r. ⌜ r ≡ getD (now (chart .entry)) (3 + 3 * k + 2) (pos 0) ⌝ }
 {
-    words::word_at(words, 3 + 3 * k + 2)
+    words::word_at(chart, 3 + 3 * k + 2)
 }
 
 // Whether the location's kind is that of an error location.
-pub fn is_error_location(words: &[i32], l: LocationId) -> bool
+pub fn is_error_location(chart: &[i32], l: LocationId) -> bool
     requires { ⌜ l .0 < 2147483649 ⌝ }
-    ensures { λ r. ⌜ r ≡ eqZ (getD (now (words .entry)) (locations-at (now (words .entry)) + 17 * l .0) (pos 0)) (pos 1) ⌝ }
+    ensures { λ r. ⌜ r ≡ eqZ (getD (now (chart .entry)) (locations-at (now (chart .entry)) + 17 * l .0) (pos 0)) (pos 1) ⌝ }
 {
     let k = l.0;
-    let kind = words::word_at(words, locations_at(words) + 17 * k);
+    let kind = words::word_at(chart, locations_at(chart) + 17 * k);
     kind == 1
 }
 
@@ -421,12 +412,12 @@ pub struct Edge {
     pub at: usize,
 }
 
-pub fn first_edge(words: &[i32]) -> Edge
-    ensures { λ r. ⌜ (r .id .0 ≡ 1) × (r .at ≡ edges-at (now (words .entry))) ⌝ }
+pub fn first_edge(chart: &[i32]) -> Edge
+    ensures { λ r. ⌜ (r .id .0 ≡ 1) × (r .at ≡ edges-at (now (chart .entry))) ⌝ }
 {
     Edge {
         id: EdgeId(1),
-        at: edges_at(words),
+        at: edges_at(chart),
     }
 }
 
@@ -442,95 +433,95 @@ pub fn edge_of(first: Edge, id: EdgeId) -> Edge
     }
 }
 
-pub fn edge_from(words: &[i32], e: Edge) -> LocationId
-    ensures { λ r. ⌜ (r .0 ≡ count (now (words .entry)) (e .at)) × (r .0 < 2147483649) ⌝ }
+pub fn edge_from(chart: &[i32], edge: Edge) -> LocationId
+    ensures { λ r. ⌜ (r .0 ≡ count (now (chart .entry)) (edge .at)) × (r .0 < 2147483649) ⌝ }
 {
-    LocationId(words::number_at(words, e.at))
+    LocationId(words::number_at(chart, edge.at))
 }
 
-pub fn edge_to(words: &[i32], e: Edge) -> LocationId
-    requires { ⌜ e .at < 68719476736 ⌝ }
-    ensures { λ r. ⌜ (r .0 ≡ count (now (words .entry)) (e .at + 1)) × (r .0 < 2147483649) ⌝ }
+pub fn edge_to(chart: &[i32], edge: Edge) -> LocationId
+    requires { ⌜ edge .at < 68719476736 ⌝ }
+    ensures { λ r. ⌜ (r .0 ≡ count (now (chart .entry)) (edge .at + 1)) × (r .0 < 2147483649) ⌝ }
 {
-    LocationId(words::number_at(words, e.at + 1))
+    LocationId(words::number_at(chart, edge.at + 1))
 }
 
-pub fn edge_operation(words: &[i32], e: Edge) -> usize
-    requires { ⌜ e .at < 68719476736 ⌝ }
-    ensures { λ r. ⌜ (r ≡ count (now (words .entry)) (e .at + 2)) × (r < 2147483649) ⌝ }
+pub fn edge_operation(chart: &[i32], edge: Edge) -> usize
+    requires { ⌜ edge .at < 68719476736 ⌝ }
+    ensures { λ r. ⌜ (r ≡ count (now (chart .entry)) (edge .at + 2)) × (r < 2147483649) ⌝ }
 {
-    words::number_at(words, e.at + 2)
+    words::number_at(chart, edge.at + 2)
 }
 
-pub fn edge_target(words: &[i32], e: Edge) -> usize
-    requires { ⌜ e .at < 68719476736 ⌝ }
-    ensures { λ r. ⌜ (r ≡ count (now (words .entry)) (e .at + 3)) × (r < 2147483649) ⌝ }
+pub fn edge_target(chart: &[i32], edge: Edge) -> usize
+    requires { ⌜ edge .at < 68719476736 ⌝ }
+    ensures { λ r. ⌜ (r ≡ count (now (chart .entry)) (edge .at + 3)) × (r < 2147483649) ⌝ }
 {
-    words::number_at(words, e.at + 3)
+    words::number_at(chart, edge.at + 3)
 }
 
 // Its two operands: what each is, and the word that it holds; the first as the number of a variable.
-pub fn first_tag(words: &[i32], e: Edge) -> i32
-    requires { ⌜ e .at < 68719476736 ⌝ }
-    ensures { λ r. ⌜ r ≡ getD (now (words .entry)) (e .at + 4) (pos 0) ⌝ }
+pub fn first_tag(chart: &[i32], edge: Edge) -> i32
+    requires { ⌜ edge .at < 68719476736 ⌝ }
+    ensures { λ r. ⌜ r ≡ getD (now (chart .entry)) (edge .at + 4) (pos 0) ⌝ }
 {
-    words::word_at(words, e.at + 4)
+    words::word_at(chart, edge.at + 4)
 }
 
-pub fn first_value(words: &[i32], e: Edge) -> i32
-    requires { ⌜ e .at < 68719476736 ⌝ }
-    ensures { λ r. ⌜ r ≡ getD (now (words .entry)) (e .at + 5) (pos 0) ⌝ }
+pub fn first_value(chart: &[i32], edge: Edge) -> i32
+    requires { ⌜ edge .at < 68719476736 ⌝ }
+    ensures { λ r. ⌜ r ≡ getD (now (chart .entry)) (edge .at + 5) (pos 0) ⌝ }
 {
-    words::word_at(words, e.at + 5)
+    words::word_at(chart, edge.at + 5)
 }
 
-pub fn first_variable(words: &[i32], e: Edge) -> usize
-    requires { ⌜ e .at < 68719476736 ⌝ }
-    ensures { λ r. ⌜ (r ≡ count (now (words .entry)) (e .at + 5)) × (r < 2147483649) ⌝ }
+pub fn first_variable(chart: &[i32], edge: Edge) -> usize
+    requires { ⌜ edge .at < 68719476736 ⌝ }
+    ensures { λ r. ⌜ (r ≡ count (now (chart .entry)) (edge .at + 5)) × (r < 2147483649) ⌝ }
 {
-    words::number_at(words, e.at + 5)
+    words::number_at(chart, edge.at + 5)
 }
 
-pub fn second_tag(words: &[i32], e: Edge) -> i32
-    requires { ⌜ e .at < 68719476736 ⌝ }
-    ensures { λ r. ⌜ r ≡ getD (now (words .entry)) (e .at + 6) (pos 0) ⌝ }
+pub fn second_tag(chart: &[i32], edge: Edge) -> i32
+    requires { ⌜ edge .at < 68719476736 ⌝ }
+    ensures { λ r. ⌜ r ≡ getD (now (chart .entry)) (edge .at + 6) (pos 0) ⌝ }
 {
-    words::word_at(words, e.at + 6)
+    words::word_at(chart, edge.at + 6)
 }
 
-pub fn second_value(words: &[i32], e: Edge) -> i32
-    requires { ⌜ e .at < 68719476736 ⌝ }
-    ensures { λ r. ⌜ r ≡ getD (now (words .entry)) (e .at + 7) (pos 0) ⌝ }
+pub fn second_value(chart: &[i32], edge: Edge) -> i32
+    requires { ⌜ edge .at < 68719476736 ⌝ }
+    ensures { λ r. ⌜ r ≡ getD (now (chart .entry)) (edge .at + 7) (pos 0) ⌝ }
 {
-    words::word_at(words, e.at + 7)
+    words::word_at(chart, edge.at + 7)
 }
 
 // ---- names
 
 // The words from a location's row on; none where there is no such location.
-fn location_row(words: &[i32], l: LocationId) -> &[i32]
-    ensures { λ r. ⌜ loc-in (now r) .name ≡ loc-text (decode (now (words .entry)) .locs) (l .0) ⌝ }
+fn location_row(chart: &[i32], l: LocationId) -> &[i32]
+    ensures { λ r. ⌜ loc-in (now r) .name ≡ loc-text (decode (now (chart .entry)) .locs) (l .0) ⌝ }
 {
     let k = l.0;
-    if k < location_count(words) {
-        let at = locations_at(words) + 17 * k;
-        if at <= words.len() {
-            return &words[at..];
+    if k < location_count(chart) {
+        let at = locations_at(chart) + 17 * k;
+        if at <= chart.len() {
+            return &chart[at..];
         }
     }
-    &words[0..0]
+    &chart[0..0]
 }
 
 // The words of a location's name, a byte each; none where there is no such location.
-pub fn name(words: &[i32], l: LocationId) -> &[i32]
-    ensures { λ r. ⌜ map natAbs (now r) ≡ loc-text (decode (now (words .entry)) .locs) (l .0) ⌝ }
+pub fn name(chart: &[i32], l: LocationId) -> &[i32]
+    ensures { λ r. ⌜ map natAbs (now r) ≡ loc-text (decode (now (chart .entry)) .locs) (l .0) ⌝ }
 {
-    let row = location_row(words, l);
+    let row = location_row(chart, l);
     let end = row_name_length(row) + 1;
     if end <= row.len() {
         return &row[1..end];
     }
-    &words[0..0]
+    &chart[0..0]
 }
 
 // The byte in a word of a name; a name in form has no other words.

@@ -25,7 +25,7 @@ abbrev pub record-after : Record → Answer → Analysis → Record
 record-after before answer a = pick (eqb (answer .number) 0) (record-of a) before
 
 -- a call lent the record `before`
-pub record Leaves (o : Outcome) (before : Record) (r : Called) (t l : List ℤ) : Type 0 where
+pub record Ends-by-codes (o : Outcome) (before : Record) (r : Called) (t l : List ℤ) : Type 0 where
   pub reply : r .reply ≡ reply-of (o .answer)
   pub after : r .record ≡ record-after before (o .answer) (o .memory .analysis)
   pub table : t ≡ o .memory .table

@@ -12,7 +12,7 @@ ghost use Rattle.semantics.specs.Outcomes.{read-outcome, run-outcome, listing-o
 ghost use Rattle.form.specs.Form.{lent};
 ghost use Rattle.exports.specs.Replies.{reply-of};
 ghost use Rattle.exports.specs.Records.{mode-code, order-code, verdict-code, record-of, mode-in, order-in, verdict-in, settings-in, settings-named, codes-named, analysis-in};
-ghost use Rattle.exports.specs.Calls.{start-by-codes, record-after, Leaves};
+ghost use Rattle.exports.specs.Calls.{start-by-codes, record-after, Ends-by-codes};
 
 // `semantics::Answer` with the layout of C: 0 and line 0 with the length of a listing, or the refusal's number and line.
 #[repr(C)]
@@ -234,7 +234,7 @@ pub extern "C" fn tarknotter_start(
     table: &mut [i32],
     list: &mut [i32],
 ) -> Called
-    ensures { λ r. ⌜ Leaves (start-by-codes (now (chart .entry)) merge stop order capacity (lent (now (table .entry)) (now (list .entry)) (analysis-in «record»))) «record» r (now (table .exit)) (now (list .exit)) ⌝ }
+    ensures { λ r. ⌜ Ends-by-codes (start-by-codes (now (chart .entry)) merge stop order capacity (lent (now (table .entry)) (now (list .entry)) (analysis-in «record»))) «record» r (now (table .exit)) (now (list .exit)) ⌝ }
 {
     if !settings_named(merge, stop, order) {
         return Called {
@@ -262,7 +262,7 @@ pub extern "C" fn tarknotter_run(
     table: &mut [i32],
     list: &mut [i32],
 ) -> Called
-    ensures { λ r. ⌜ Leaves (run-outcome (now (chart .entry)) budget (lent (now (table .entry)) (now (list .entry)) (analysis-in «record»))) «record» r (now (table .exit)) (now (list .exit)) ⌝ }
+    ensures { λ r. ⌜ Ends-by-codes (run-outcome (now (chart .entry)) budget (lent (now (table .entry)) (now (list .entry)) (analysis-in «record»))) «record» r (now (table .exit)) (now (list .exit)) ⌝ }
 {
     answered(
         record,

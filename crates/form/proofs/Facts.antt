@@ -21,16 +21,6 @@ use Rattle.semantics.specs.Outcomes.{short}
 use Rattle.semantics.proofs.Decoded.{vars-count, locs-count, edges-count}
 use Rattle.form.specs.Form.{lent, lent-tests, record-tests}
 
--- ---- a word and a bound
-
-pub below-neg : (n : ℕ) (x : ℤ) → ltZ x (pos 0) ≡ true → below n x ≡ false
-below-neg n (pos m) e = absurd (omega (arith, ltb-true m 0 e))
-below-neg n (negsuc m) e = refl
-
-pub below-pos : (n : ℕ) (x : ℤ) → ltZ x (pos 0) ≡ false → below n x ≡ ltb (natAbs x) n
-below-pos n (pos m) e = refl
-below-pos n (negsuc m) e = absurd (subst T e tt)
-
 -- ---- tests
 
 -- the first test of two, by its flag r, and then the second alone
@@ -55,15 +45,6 @@ module _ (l : List ℤ) (i : ℕ) (h : i < length l) (b : Bool) where
     split : each-once (drop i l) ≡ not (some-of (eqZ word) (drop (i + 1) l)) && each-once (drop (i + 1) l)
     split = rw (add-one, drop-cons l i (pos 0) h)
 
-  pub some-turn : (p : ℤ → Bool) → p word ≡ b → some-of p (drop i l) ≡ b || some-of p (drop (i + 1) l)
-  some-turn p e = split ∙ ap (λ (x : Bool). x || some-of p (drop (i + 1) l)) e where
-    either : (x y : Bool) → elim x [ true ↦ true | false ↦ y ] ≡ x || y
-    either true y = refl
-    either false y = refl
-
-    split : some-of p (drop i l) ≡ p word || some-of p (drop (i + 1) l)
-    split = rw (add-one, drop-cons l i (pos 0) h) (either (p word) (some-of p (drop (suc i) l)))
-
   -- a value, and its variable's words at `at`
   pub values-turn : (ws : List ℤ) (at n : ℕ) → (eqZ word (pos 32768) || within (getD ws at (pos 0)) (getD ws (at + 1) (pos 0)) word) ≡ b →
       all-pairs value-ok (several var-in 3 (suc n) (drop at ws)) (drop i l) ≡ b && all-pairs value-ok (several var-in 3 n (drop (at + 3) ws)) (drop (i + 1) l)
@@ -86,13 +67,6 @@ rows-turn ws t from w n e b q =
     (λ j. row-ok (decode ws) (take (sym e j) (drop from t)) && rows-ok (decode ws) n (drop (sym e j) (drop from t)))
     ∙ (λ j. q j && rows-ok (decode ws) n (drop-drop w from t j))
 
--- ---- parts
-
--- `&l[j..]`
-pub tail : (l : List ℤ) (j : ℕ) → take (length l - j) (drop j l) ≡ drop j l
-tail l j = take-all (length l - j) (drop j l) (simp length-drop (omega arith))
-
--- `&l[b..a]`
 -- ---- the rule in its two parts
 
 all-of-append : (xs ys : List Bool) → all-of xs && all-of ys ≡ all-of (xs ++ ys)

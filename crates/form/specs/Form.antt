@@ -7,7 +7,7 @@ use lib.IntN.{ℤ, pos}
 use lib.ListN.{take, drop}
 use Rattle.semantics.specs.Lists.{all}
 use Rattle.semantics.specs.Chart.{Chart}
-use Rattle.semantics.specs.Coverage.{allowed}
+use Rattle.semantics.specs.Algorithm.{allowed}
 use Rattle.semantics.specs.declared.Analysis.{Analysis}
 use Rattle.semantics.specs.Memory.{Memory, width, below, rows-ok, each-once, zeros, is-alarm, empty-if-safe, capacity-ok}
 

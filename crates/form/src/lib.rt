@@ -12,7 +12,7 @@ ghost use lib.IntN.{pos};
 ghost use lib.ListN.{length, drop};
 ghost use Rattle.semantics.specs.Lists.{some-of, all, all-pairs, all-of};
 ghost use Rattle.semantics.specs.Chart.{eqZ, within};
-ghost use Rattle.semantics.specs.Coverage.{allowed};
+ghost use Rattle.semantics.specs.Algorithm.{allowed};
 ghost use Rattle.semantics.specs.Encoding.{several, var-in, decode};
 ghost use Rattle.semantics.specs.Memory.{width, capacity-ok, value-ok, below, row-ok, rows-ok, each-once, is-alarm, empty-if-safe, analysis-ok};
 ghost use Rattle.semantics.specs.Outcomes.{budget-ok, short};
@@ -20,21 +20,11 @@ ghost use Rattle.form.specs.Form.{lent, lent-tests, record-tests};
 
 // ---- the reached table
 
-// A number from 0 up to, not including, n.
-fn is_below(n: usize, x: i32) -> bool
-    ensures { λ r. ⌜ r ≡ below n x ⌝ }
-{
-    if x < 0 {
-        return false;
-    }
-    words::magnitude(x) < n
-}
-
 // Top, or a value of the range.
 fn value_ok(lo: i32, hi: i32, x: i32) -> bool
     ensures { λ r. ⌜ r ≡ (eqZ x (pos 32768) || within lo hi x) ⌝ }
 {
-    (x == words::TOP) | ((lo <= x) & (x <= hi))
+    (x == words::TOP) | words::lies_within(lo, hi, x)
 }
 
 // Whether each value is one of its variable.
@@ -60,7 +50,7 @@ fn row_ok(chart: &[i32], row: &[i32]) -> bool
     ensures { λ r. ⌜ r ≡ row-ok (decode (now (chart .entry))) (now (row .entry)) ⌝ }
 {
     let location = row[0];
-    if is_below(encoded::location_count(chart), location) {
+    if words::is_below(encoded::location_count(chart), location) {
         return values_ok(chart, &row[1..]);
     }
     false
@@ -94,27 +84,12 @@ fn all_below(list: &[i32], n: usize) -> bool
     let mut i = 0;
     while i < list.len() {
         let x = list[i];
-        if !is_below(n, x) {
+        if !words::is_below(n, x) {
             return false;
         }
         i += 1;
     }
     true
-}
-
-// Whether the word is one of the list.
-fn contains(list: &[i32], x: i32) -> bool
-    ensures { λ r. ⌜ r ≡ some-of (eqZ x) (now (list .entry)) ⌝ }
-{
-    let mut i = 0;
-    while i < list.len() {
-        let y = list[i];
-        if x == y {
-            return true;
-        }
-        i += 1;
-    }
-    false
 }
 
 // No word stands twice.
@@ -125,7 +100,7 @@ fn each_once(list: &[i32]) -> bool
     while i < list.len() {
         let x = list[i];
         i += 1;
-        if contains(&list[i..], x) {
+        if words::contains(&list[i..], x) {
             return false;
         }
     }

@@ -8,13 +8,13 @@ use lib.Dec.{leb}
 use lib.IntN.{ℤ, pos, negsuc}
 use borrow.Author.Tests.{leb-true, leb-false, lt-leb}
 use Rattle.semantics.specs.Chart.{within}
-use Rattle.semantics.specs.Reading.{Res, ok, check, andThen}
-use Rattle.semantics.specs.Coverage.{allowed}
+use Rattle.semantics.specs.Reading.{Res, ok, check, if-ok}
+use Rattle.semantics.specs.Algorithm.{allowed}
 use Rattle.semantics.specs.Memory.{capacity-ok}
 use Rattle.semantics.specs.Outcomes.{budget-ok}
 use Rattle.semantics.specs.Program.{Go}
 use Rattle.semantics.specs.declared.Settings.{Settings}
-use Rattle.text.specs.Fields.{clamp, numberRead, numberSaid}
+use Rattle.text.specs.Fields.{clamp, number-read, number-said}
 use Rattle.text.proofs.Bytes.{and-no}
 use Rattle.go_line.specs.Asked.{sized, numbers}
 
@@ -35,8 +35,8 @@ sized-cut s r a =
     range-cut 1 256 (omega arith) 11 (λ x. check (allowed (s .merge) (s .stop)) 12 (check (budget-ok (clamp a)) 13 (ok (record { settings = s; capacity = x; budget = clamp a })))) r
     ∙ ap (λ (x : Res Go). check (capacity-ok r) 11 (check (allowed (s .merge) (s .stop)) 12 x)) (range-cut 0 60000 (omega arith) 13 (λ x. ok (record { settings = s; capacity = r; budget = x })) a)
 
-pub numbers-cut : (s : Settings) (p q : Option ℤ) → numbers s (numberSaid (numberRead p)) (numberSaid (numberRead q)) ≡ numbers s p q
-unfolding numbers numberSaid numberRead andThen
+pub numbers-cut : (s : Settings) (p q : Option ℤ) → numbers s (number-said (number-read p)) (number-said (number-read q)) ≡ numbers s p q
+unfolding numbers number-said number-read if-ok
 numbers-cut s none q = refl
 numbers-cut s (some r) none = refl
 numbers-cut s (some r) (some a) = sized-cut s r a

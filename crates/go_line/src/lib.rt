@@ -4,15 +4,11 @@ use semantics::Order;
 use semantics::Settings;
 use text::NumberRead;
 ghost use mathlib.Core.Path.{_≡_};
-ghost use mathlib.Core.Bool.{_&&_};
-ghost use lib.Dec.{eqb};
-ghost use lib.ListN.{length};
 ghost use Rattle.semantics.specs.Lists.{all};
 ghost use Rattle.semantics.specs.Text.{fields};
-ghost use Rattle.semantics.specs.Reading.{none-empty};
-ghost use Rattle.semantics.specs.Program.{mode-field, order-field};
-ghost use Rattle.text.specs.Fields.{numberSaid};
-ghost use Rattle.go_line.specs.Asked.{modeRes, orderRes, askedRes, line-byte, sized, numbers, from-order, from-stop, from-merge, line-fields, GoRead};
+ghost use Rattle.semantics.specs.Program.{mode-field, order-field, line-byte};
+ghost use Rattle.text.specs.Fields.{number-said};
+ghost use Rattle.go_line.specs.Asked.{mode-res, order-res, asked-res, sized, numbers, from-order, from-stop, from-merge, line-fields, GoRead};
 
 // What the go line asks, and where the chart's bytes begin.
 pub struct Go {
@@ -48,7 +44,7 @@ enum OrderRead {
 }
 
 fn mode_field(f: &[u8]) -> ModeRead
-    ensures { λ r. ⌜ modeRes r ≡ mode-field (now (f .entry)) ⌝ }
+    ensures { λ r. ⌜ mode-res r ≡ mode-field (now (f .entry)) ⌝ }
 {
     if text::same_bytes(f, b"sep") {
         return ModeRead::Is(Mode::Sep);
@@ -60,7 +56,7 @@ fn mode_field(f: &[u8]) -> ModeRead
 }
 
 fn order_field(f: &[u8]) -> OrderRead
-    ensures { λ r. ⌜ orderRes r ≡ order-field (now (f .entry)) ⌝ }
+    ensures { λ r. ⌜ order-res r ≡ order-field (now (f .entry)) ⌝ }
 {
     if text::same_bytes(f, b"old") {
         return OrderRead::Is(Order::Old);
@@ -73,7 +69,7 @@ fn order_field(f: &[u8]) -> OrderRead
 
 // 11, 12, 13, once every field is well formed.
 fn sizes(settings: Settings, capacity: i32, budget: i32) -> Asked
-    ensures { λ r. ⌜ askedRes r ≡ sized settings capacity budget ⌝ }
+    ensures { λ r. ⌜ asked-res r ≡ sized settings capacity budget ⌝ }
 {
     let merge = settings.merge;
     let stop = settings.stop;
@@ -98,7 +94,7 @@ fn sizes(settings: Settings, capacity: i32, budget: i32) -> Asked
 
 // Capacity and budget, numbers in form only, then their sizes.
 fn counts(settings: Settings, capacity: NumberRead, budget: NumberRead) -> Asked
-    ensures { λ r. ⌜ askedRes r ≡ numbers settings (numberSaid capacity) (numberSaid budget) ⌝ }
+    ensures { λ r. ⌜ asked-res r ≡ numbers settings (number-said capacity) (number-said budget) ⌝ }
 {
     match capacity {
         NumberRead::Malformed => Asked::Refused(6),
@@ -111,7 +107,7 @@ fn counts(settings: Settings, capacity: NumberRead, budget: NumberRead) -> Asked
 
 // The fields from the order on; then those from the stop and from the merge on.
 fn from_order(merge: Mode, stop: Mode, line: &[u8]) -> Asked
-    ensures { λ r. ⌜ askedRes r ≡ from-order merge stop (fields (now (line .entry))) ⌝ }
+    ensures { λ r. ⌜ asked-res r ≡ from-order merge stop (fields (now (line .entry))) ⌝ }
 {
     match order_field(text::field(line, 3)) {
         OrderRead::Malformed => Asked::Refused(6),
@@ -125,7 +121,7 @@ fn from_order(merge: Mode, stop: Mode, line: &[u8]) -> Asked
 }
 
 fn from_stop(merge: Mode, line: &[u8]) -> Asked
-    ensures { λ r. ⌜ askedRes r ≡ from-stop merge (fields (now (line .entry))) ⌝ }
+    ensures { λ r. ⌜ asked-res r ≡ from-stop merge (fields (now (line .entry))) ⌝ }
 {
     match mode_field(text::field(line, 2)) {
         ModeRead::Malformed => Asked::Refused(6),
@@ -134,7 +130,7 @@ fn from_stop(merge: Mode, line: &[u8]) -> Asked
 }
 
 fn from_merge(line: &[u8]) -> Asked
-    ensures { λ r. ⌜ askedRes r ≡ from-merge (fields (now (line .entry))) ⌝ }
+    ensures { λ r. ⌜ asked-res r ≡ from-merge (fields (now (line .entry))) ⌝ }
 {
     match mode_field(text::field(line, 1)) {
         ModeRead::Malformed => Asked::Refused(6),
@@ -142,18 +138,11 @@ fn from_merge(line: &[u8]) -> Asked
     }
 }
 
-// Six fields, none of them empty.
-fn filled(line: &[u8]) -> bool
-    ensures { λ r. ⌜ r ≡ (eqb (length (fields (now (line .entry)))) 6 && none-empty (fields (now (line .entry)))) ⌝ }
-{
-    (text::field_count(line) == 6) & text::none_empty(line)
-}
-
 // The line without its LF, by 5 and what follows it.
 fn judged(line: &[u8]) -> Asked
-    ensures { λ r. ⌜ askedRes r ≡ line-fields (fields (now (line .entry))) ⌝ }
+    ensures { λ r. ⌜ asked-res r ≡ line-fields (fields (now (line .entry))) ⌝ }
 {
-    if !filled(line) {
+    if !text::filled(line, 6) {
         return Asked::Refused(5);
     }
     if !text::same_bytes(text::field(line, 0), b"go") {

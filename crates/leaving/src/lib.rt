@@ -68,7 +68,7 @@ pub fn next_leaving(chart: &[i32], edge: Edge, nexts: &[usize], l: LocationId) -
     let number = id.0;
     let step = number + 1;
     let from = encoded::edge_from(chart, edge);
-    if !transfer::same_location(from, l) {
+    if !semantics::same_location(from, l) {
         return EdgeId(step);
     }
     let next = number_at(nexts, number - 1);

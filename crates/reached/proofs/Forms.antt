@@ -9,7 +9,7 @@ use lib.ListN.{length, drop, replicate}
 use Rattle.semantics.specs.Coverage.{Queue}
 use Rattle.semantics.proofs.Tidy.{more, join-queue}
 use Rattle.words.proofs.Rows.{row-in, length-put}
-use Rattle.waitlist.specs.Waits.{waits, Put}
+use Rattle.waitlist.specs.Waits.{waits, Stored}
 use Rattle.waitlist.proofs.Laws.{held, kept}
 use Rattle.reached.specs.Reached.{Kept}
 use Rattle.reached.proofs.Table.{rest-stored, stored}
@@ -38,7 +38,7 @@ module _ {w r : ℕ} {t l : List ℤ} {used waiting : ℕ} (k : Kept w r t l use
   in-table = rw (k .table) (mul-le-mul-right w (k .capacity))
 
   pub kept-after : {l′ : List ℤ} {n′ : ℕ} {wa′ : List ℕ} (t′ : List ℤ) → length t′ ≡ length t → drop (used * w) t′ ≡ drop (used * w) t
-      → Put l′ n′ wa′ → length l′ ≡ length l → Queue used wa′ → Kept w r t′ l′ used n′
+      → Stored l′ n′ wa′ → length l′ ≡ length l → Queue used wa′ → Kept w r t′ l′ used n′
   kept-after t′ lt rest p ll q = record {
     wide = k .wide;
     capacity = k .capacity;
@@ -56,7 +56,7 @@ module _ {w r : ℕ} {t l : List ℤ} {used waiting : ℕ} (k : Kept w r t l use
     next-row = rw (k .table) (row-in used r w h)
 
     -- a successor that is stored there
-    pub kept-stored : {l′ : List ℤ} {n′ : ℕ} (e : List ℤ) (len : length e ≡ w) → Put l′ n′ (waits waiting l ++ (used ∷ [])) → length l′ ≡ length l
+    pub kept-stored : {l′ : List ℤ} {n′ : ℕ} (e : List ℤ) (len : length e ≡ w) → Stored l′ n′ (waits waiting l ++ (used ∷ [])) → length l′ ≡ length l
         → Kept w r (stored w used t e next-row len) l′ (used + 1) n′
     kept-stored e len p ll = record {
       wide = k .wide;

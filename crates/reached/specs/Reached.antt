@@ -7,7 +7,7 @@ use lib.IntN.{ℤ, pos}
 use lib.ListN.{length, drop, replicate}
 use Rattle.semantics.specs.Coverage.{Queue}
 use Rattle.rows.specs.Rows.{same-words, row-merge}
-use Rattle.waitlist.specs.Waits.{waits, Put, wait-unless}
+use Rattle.waitlist.specs.Waits.{waits, Stored, wait-unless}
 
 -- the slots wait again that the merge with e changes; i is the first slot's number
 abbrev pub rewaits : List ℤ → ℕ → List (List ℤ) → List ℕ → List ℕ
@@ -22,5 +22,5 @@ pub record Kept (w r : ℕ) (t l : List ℤ) (used waiting : ℕ) : Type 0 where
   pub table : length t ≡ r * w
   pub list : length l ≡ r
   pub rest : drop (used * w) t ≡ replicate (length t - used * w) (pos 0)
-  pub slots : Put l waiting (waits waiting l)
+  pub slots : Stored l waiting (waits waiting l)
   pub queue : Queue used (waits waiting l)

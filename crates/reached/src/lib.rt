@@ -7,7 +7,7 @@ ghost use lib.ListN.{length, take, drop};
 ghost use Rattle.semantics.specs.Lists.{some-of};
 ghost use Rattle.semantics.specs.Coverage.{Queue};
 ghost use Rattle.rows.specs.Rows.{row-leq, rows-merge, rows-of};
-ghost use Rattle.waitlist.specs.Waits.{waits, Put};
+ghost use Rattle.waitlist.specs.Waits.{waits, Stored};
 ghost use Rattle.reached.specs.Reached.{rewaits};
 
 // Merges the row e into each slot in use; each slot that changes waits again. How many are waiting then.
@@ -19,8 +19,8 @@ pub fn merge_slots(
     waiting: usize,
 ) -> usize
     requires { ⌜ (0 < length (now e)) × (used * length (now e) ≤ length (now table)) ⌝ }
-    requires { ⌜ Put (now list) waiting (waits waiting (now list)) × Queue used (waits waiting (now list)) × (used ≤ length (now list)) × (length (now list) < 65536) ⌝ }
-    ensures { λ r. ⌜ (now (table .exit) ≡ rows-merge (now (e .entry)) (length (now (e .entry))) used (now (table .entry))) × Put (now (list .exit)) r (rewaits (now (e .entry)) 0 (rows-of (length (now (e .entry))) used (now (table .entry))) (waits waiting (now (list .entry)))) ⌝ }
+    requires { ⌜ Stored (now list) waiting (waits waiting (now list)) × Queue used (waits waiting (now list)) × (used ≤ length (now list)) × (length (now list) < 65536) ⌝ }
+    ensures { λ r. ⌜ (now (table .exit) ≡ rows-merge (now (e .entry)) (length (now (e .entry))) used (now (table .entry))) × Stored (now (list .exit)) r (rewaits (now (e .entry)) 0 (rows-of (length (now (e .entry))) used (now (table .entry))) (waits waiting (now (list .entry)))) ⌝ }
 {
     let w = e.len();
     let mut count = waiting;
@@ -46,7 +46,7 @@ pub fn covered(table: &[i32], used: usize, e: &[i32]) -> bool
     let mut s = 0;
     while s < used {
         let to = from + w;
-        if rows::leq_row(&table[from..to], e) {
+        if rows::leq_row(e, &table[from..to]) {
             return true;
         }
         from = to;

@@ -16,7 +16,7 @@ use Rattle.lines.specs.Lines.{line-of, place-after}
 use Rattle.lines.specs.declared.Line.{Line}
 use Rattle.lines.proofs.Places.{Lies, line-some}
 use Rattle.reader.specs.Held.{Stepped, goes-on, nothing-judged, Along, Through, Goes, Stands-by, Stands, Few-of, Ready}
-use Rattle.reader.specs.declared.Progress.{Progress}
+use Rattle.reader.specs.declared.Descent.{Descent}
 use Rattle.reader.specs.declared.tally.Tally.{Tally}
 use Rattle.reader.specs.declared.tally.Step.{Step}
 use Rattle.reader.specs.declared.tally.Step.the-variants as step
@@ -97,7 +97,7 @@ module _ (text : List ℕ) (at : ℕ) (table names : List ℤ) where
   counted-now line (step.Go t) h = h .counted
 
   -- what `advance` asks
-  pub ready : (p : Progress) (l : Line) → l ≡ line-of text at → p .going ≡ true → Stands text at p table names → Ready text p l
+  pub ready : (p : Descent) (l : Line) → l ≡ line-of text at → p .going ≡ true → Stands text at p table names → Ready text p l
   ready p l e g h = record { at = at; is = e; few = few-now (p .line) (p .step) (rw g at h); counted = counted-now (p .line) (p .step) (rw g at h) }
 
 -- how many turns are left at most, in a text of n bytes

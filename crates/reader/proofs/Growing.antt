@@ -13,7 +13,7 @@ use Rattle.semantics.specs.Chart.{Var, Loc, Op, assign, add, sub, input, assume
 use Rattle.semantics.specs.Encoding.{var-words, loc-words, op-words, edge-words, kind-word}
 use Rattle.semantics.specs.Reading.{So-far, with-var, with-loc, with-edge}
 use Rattle.reader.specs.Rows.{name-row, stored, seen}
-use Rattle.reader.specs.Held.{rows-of, used, Rows, Names, in-order}
+use Rattle.reader.specs.Held.{rows-of, used-words, Rows, Names, in-order}
 use Rattle.reader.specs.declared.tally.Tally.{Tally}
 use Rattle.reader.proofs.Storing.{stored-take}
 use Rattle.reader.proofs.Naming.{and-true, name-short, name-row-padded, name-row-length, locs-seen}
@@ -45,9 +45,9 @@ edge-long g = by-op (g .op) where
   by-op skip = refl
 
 -- what is stored at the end of the rows
-module _ {t : Tally} {table : List ℤ} {c : Chart} (h : Rows t table c) (row : List ℤ) (fits : used t + length row ≤ length table) where
-  pub rows-more : (n : ℕ) → n ≡ used t + length row → take n (stored (used t) row table) ≡ rows-of c ++ row
-  rows-more n e = ap (λ (k : ℕ). take k (stored (used t) row table)) e ∙ stored-take (used t) row table fits ∙ ap (λ (l : List ℤ). l ++ row) (h .rows)
+module _ {t : Tally} {table : List ℤ} {c : Chart} (h : Rows t table c) (row : List ℤ) (fits : used-words t + length row ≤ length table) where
+  pub rows-more : (n : ℕ) → n ≡ used-words t + length row → take n (stored (used-words t) row table) ≡ rows-of c ++ row
+  rows-more n e = ap (λ (k : ℕ). take k (stored (used-words t) row table)) e ∙ stored-take (used-words t) row table fits ∙ ap (λ (l : List ℤ). l ++ row) (h .rows)
 
 -- ---- the rows
 
@@ -64,7 +64,7 @@ module _ {t : Tally} {table : List ℤ} (s : So-far) (h : Rows t table (s .chart
   pub rows-var : (name : List ℕ) (v : Var) (row : List ℤ) → row ≡ var-words v → t .locs ≡ 0 → t .edges ≡ 0 → 3 * t .vars + 3 ≤ length table
       → Rows (record { vars = t .vars + 1; locs = 0; edges = 0 }) (stored (3 * t .vars) row table) (with-var s name v .chart)
   rows-var name v row e l g fits =
-      let u : 3 * t .vars ≡ used t = omega arith in
+      let u : 3 * t .vars ≡ used-words t = omega arith in
       let n : length row ≡ 3 = ap length e in
       let t′ : Tally = record { vars = t .vars + 1; locs = 0; edges = 0 } in
       record {
@@ -72,14 +72,14 @@ module _ {t : Tally} {table : List ℤ} (s : So-far) (h : Rows t table (s .chart
         locs = omega (arith, h .locs);
         edges = omega (arith, h .edges);
         rows =
-            ap (λ (k : ℕ). take (used t′) (stored k row table)) u
-            ∙ rows-more h row (omega arith) (used t′) (omega arith)
+            ap (λ (k : ℕ). take (used-words t′) (stored k row table)) u
+            ∙ rows-more h row (omega arith) (used-words t′) (omega arith)
             ∙ rw (each-none loc-words (s .chart .locs) (omega (arith, h .locs)), each-none edge-words (s .chart .edges) (omega (arith, h .edges)), each-snoc var-words (s .chart .vars) v, e) (simp append-nil);
         named = h .named;
       }
 
-  pub rows-loc : (name : List ℕ) (k : Bool) → name-ok name ≡ true → t .edges ≡ 0 → used t + 17 ≤ length table
-      → Rows (record { vars = t .vars; locs = t .locs + 1; edges = 0 }) (stored (used t) (kind-word k ∷ name-row 16 name) table) (with-loc s (record { name = name; error = k }) .chart)
+  pub rows-loc : (name : List ℕ) (k : Bool) → name-ok name ≡ true → t .edges ≡ 0 → used-words t + 17 ≤ length table
+      → Rows (record { vars = t .vars; locs = t .locs + 1; edges = 0 }) (stored (used-words t) (kind-word k ∷ name-row 16 name) table) (with-loc s (record { name = name; error = k }) .chart)
   rows-loc name k o g fits =
       let l : Loc = record { name = name; error = k } in
       let t′ : Tally = record { vars = t .vars; locs = t .locs + 1; edges = 0 } in
@@ -91,13 +91,13 @@ module _ {t : Tally} {table : List ℤ} (s : So-far) (h : Rows t table (s .chart
         locs = omega (arith, h .locs, length-snoc (s .chart .locs) l);
         edges = omega (arith, h .edges);
         rows =
-            rows-more h row (omega arith) (used t′) (omega arith)
+            rows-more h row (omega arith) (used-words t′) (omega arith)
             ∙ rw (each-none edge-words (s .chart .edges) (omega (arith, h .edges)), each-snoc loc-words (s .chart .locs) l, e) (simp (append-nil, append-assoc));
         named = all-more (λ (m : Loc). name-ok (m .name)) (s .chart .locs) l (h .named) o;
       }
 
-  pub rows-edge : (g : Edge) (row : List ℤ) → row ≡ edge-words g → used t + 8 ≤ length table
-      → Rows (record { vars = t .vars; locs = t .locs; edges = t .edges + 1 }) (stored (used t) row table) (with-edge s g .chart)
+  pub rows-edge : (g : Edge) (row : List ℤ) → row ≡ edge-words g → used-words t + 8 ≤ length table
+      → Rows (record { vars = t .vars; locs = t .locs; edges = t .edges + 1 }) (stored (used-words t) row table) (with-edge s g .chart)
   rows-edge g row e fits =
       let t′ : Tally = record { vars = t .vars; locs = t .locs; edges = t .edges + 1 } in
       let n : length row ≡ 8 = ap length e ∙ edge-long g in
@@ -106,7 +106,7 @@ module _ {t : Tally} {table : List ℤ} (s : So-far) (h : Rows t table (s .chart
         locs = h .locs;
         edges = omega (arith, h .edges, length-snoc (s .chart .edges) g);
         rows =
-            rows-more h row (omega arith) (used t′) (omega arith)
+            rows-more h row (omega arith) (used-words t′) (omega arith)
             ∙ rw (each-snoc edge-words (s .chart .edges) g, e) (simp append-assoc);
         named = h .named;
       }
@@ -139,21 +139,21 @@ ranges (v ∷ vs) rest (suc k) z h =
     rw (d, e) (ranges vs rest k z (omega arith))
 
 module _ {t : Tally} {table : List ℤ} {c : Chart} (h : Rows t table c) where
-  table-is : table ≡ each var-words (c .vars) ++ (each loc-words (c .locs) ++ (each edge-words (c .edges) ++ drop (used t) table))
+  table-is : table ≡ each var-words (c .vars) ++ (each loc-words (c .locs) ++ (each edge-words (c .edges) ++ drop (used-words t) table))
   table-is =
-      sym (take-append-drop (used t) table) ∙ ap (λ (l : List ℤ). l ++ drop (used t) table) (h .rows)
-      ∙ append-assoc (each var-words (c .vars)) (each loc-words (c .locs) ++ each edge-words (c .edges)) (drop (used t) table)
-      ∙ ap (λ (l : List ℤ). each var-words (c .vars) ++ l) (append-assoc (each loc-words (c .locs)) (each edge-words (c .edges)) (drop (used t) table))
+      sym (take-append-drop (used-words t) table) ∙ ap (λ (l : List ℤ). l ++ drop (used-words t) table) (h .rows)
+      ∙ append-assoc (each var-words (c .vars)) (each loc-words (c .locs) ++ each edge-words (c .edges)) (drop (used-words t) table)
+      ∙ ap (λ (l : List ℤ). each var-words (c .vars) ++ l) (append-assoc (each loc-words (c .locs)) (each edge-words (c .edges)) (drop (used-words t) table))
 
   pub range-held : (k : ℕ) (z : ℤ) → k < t .vars → within (getD table (3 * k) (pos 0)) (getD table (3 * k + 1) (pos 0)) z ≡ in-range (c .vars) k z
   range-held k z l =
       ap (λ (w : List ℤ). within (getD w (3 * k) (pos 0)) (getD w (3 * k + 1) (pos 0)) z) table-is
-      ∙ ranges (c .vars) (each loc-words (c .locs) ++ (each edge-words (c .edges) ++ drop (used t) table)) k z (omega (arith, h .vars))
+      ∙ ranges (c .vars) (each loc-words (c .locs) ++ (each edge-words (c .edges) ++ drop (used-words t) table)) k z (omega (arith, h .vars))
 
   pub name-held : (n : List ℕ) → name-ok n ≡ true → seen 17 (t .locs) (drop (3 * t .vars + 1) table) n ≡ not (all (λ (l : Loc). not (same-bytes (l .name) n)) (c .locs))
   name-held n o =
       let ls = each loc-words (c .locs) in
-      let rest = each edge-words (c .edges) ++ drop (used t) table in
+      let rest = each edge-words (c .edges) ++ drop (used-words t) table in
       let v : length (each var-words (c .vars)) ≡ 3 * t .vars = omega (arith, vars-length (c .vars), h .vars) in
       let d : drop (3 * t .vars + 1) table ≡ drop 1 (ls ++ rest)
       = sym (drop-drop 1 (3 * t .vars) table) ∙ ap (drop 1) (ap (drop (3 * t .vars)) table-is ∙ drop-at (each var-words (c .vars)) (ls ++ rest) (3 * t .vars) v) in

@@ -13,7 +13,7 @@ use Rattle.semantics.specs.Lists.{is-empty}
 use Rattle.semantics.specs.Chart.{Chart}
 use Rattle.semantics.specs.Encoding.{encode}
 use Rattle.reader.specs.Rows.{stored}
-use Rattle.reader.specs.Held.{rows-of, used, Rows}
+use Rattle.reader.specs.Held.{rows-of, used-words, Rows}
 use Rattle.reader.specs.declared.tally.Tally.{Tally}
 use Rattle.reader.proofs.Storing.{stored-then}
 
@@ -25,13 +25,13 @@ pub some-list : {A : Type 0} (l : List A) → 0 < length l → is-empty l ≡ fa
 some-list [] e = absurd (omega arith)
 some-list (x ∷ xs) e = refl
 
-module _ {t : Tally} {table : List ℤ} {c : Chart} (h : Rows t table c) (room : used t ≤ length table) where
-  pub encode-length : length (encode c) ≡ used t + 3
+module _ {t : Tally} {table : List ℤ} {c : Chart} (h : Rows t table c) (room : used-words t ≤ length table) where
+  pub encode-length : length (encode c) ≡ used-words t + 3
   unfolding encode
-  encode-length = omega (arith, ap length (h .rows), length-take-le (used t) table room)
+  encode-length = omega (arith, ap length (h .rows), length-take-le (used-words t) table room)
 
-  pub held-words : (ws : List ℤ) → used t + 3 ≤ length ws
-      → stored 3 (take (used t) table) (stored 0 (pos (t .vars) ∷ pos (t .locs) ∷ pos (t .edges) ∷ []) ws) ≡ encode c ++ drop (length (encode c)) ws
+  pub held-words : (ws : List ℤ) → used-words t + 3 ≤ length ws
+      → stored 3 (take (used-words t) table) (stored 0 (pos (t .vars) ∷ pos (t .locs) ∷ pos (t .edges) ∷ []) ws) ≡ encode c ++ drop (length (encode c)) ws
   unfolding stored encode
   held-words ws f =
       rw (h .rows) (stored-then 0 (pos (t .vars) ∷ pos (t .locs) ∷ pos (t .edges) ∷ []) ws (omega arith) (rows-of c) ∙ rw (h .vars, h .locs, h .edges))

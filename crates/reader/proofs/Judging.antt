@@ -12,7 +12,7 @@ use borrow.Author.Tests.{ltb-true}
 use Rattle.semantics.specs.Lists.{pick}
 use Rattle.semantics.specs.Text.{natural-of, nonnegative, number-of}
 use Rattle.semantics.specs.Chart.{num, var}
-use Rattle.semantics.specs.Reading.{Res, fail, ok, check, andThen, below-or, number-field, location-field, target-field, operand-field}
+use Rattle.semantics.specs.Reading.{Res, fail, ok, check, if-ok, below-or, number-field, location-field, target-field, operand-field}
 
 module _ {A : Type 0} {b : Bool} (n : ℕ) (r : Res A) where
   pub check-no : b ≡ false → check b n r ≡ fail n
@@ -24,12 +24,12 @@ module _ {A : Type 0} {b : Bool} (n : ℕ) (r : Res A) where
   check-yes e = rw e
 
 module _ {A B : Type 0} {r : Res A} (f : A → Res B) where
-  pub then-fail : {n : ℕ} → r ≡ fail n → andThen r f ≡ fail n
-  unfolding andThen
+  pub then-fail : {n : ℕ} → r ≡ fail n → if-ok r f ≡ fail n
+  unfolding if-ok
   then-fail e = rw e
 
-  pub then-ok : {a : A} → r ≡ ok a → andThen r f ≡ f a
-  unfolding andThen
+  pub then-ok : {a : A} → r ≡ ok a → if-ok r f ≡ f a
+  unfolding if-ok
   then-ok e = rw e
 
 pub not-no : {b : Bool} → not b ≡ true → b ≡ false
@@ -52,13 +52,13 @@ check-passed false n r e = fail-ok e
 
 -- ---- one judgement after another
 
-pub check-then : {A B : Type 0} (b : Bool) (n : ℕ) (r : Res A) (f : A → Res B) → andThen (check b n r) f ≡ check b n (andThen r f)
-unfolding check andThen
+pub check-then : {A B : Type 0} (b : Bool) (n : ℕ) (r : Res A) (f : A → Res B) → if-ok (check b n r) f ≡ check b n (if-ok r f)
+unfolding check if-ok
 check-then true n r f = refl
 check-then false n r f = refl
 
-pub then-map : {A B C : Type 0} (r : Res A) (f : A → B) (g : B → Res C) → andThen (andThen r (λ a. ok (f a))) g ≡ andThen r (λ a. g (f a))
-unfolding andThen
+pub then-map : {A B C : Type 0} (r : Res A) (f : A → B) (g : B → Res C) → if-ok (if-ok r (λ a. ok (f a))) g ≡ if-ok r (λ a. g (f a))
+unfolding if-ok
 then-map (fail n) f g = refl
 then-map (ok a) f g = refl
 
@@ -82,19 +82,19 @@ unfolding target-field
 target-below n [] e = fail-ok e
 target-below n (b ∷ bs) e = below-or-lt n (nonnegative (natural-of bs)) (check-passed (eqb b 36) _ _ e .1)
 
-of-target : (n : ℕ) (r : Res ℕ) → ((j : ℕ) → r ≡ ok j → j < n) → {k : ℕ} → andThen r (λ j. ok (var j)) ≡ ok (var k) → k < n
-unfolding andThen
+of-target : (n : ℕ) (r : Res ℕ) → ((j : ℕ) → r ≡ ok j → j < n) → {k : ℕ} → if-ok r (λ j. ok (var j)) ≡ ok (var k) → k < n
+unfolding if-ok
 of-target n (fail m) b q = fail-ok q
 of-target n (ok j) b {k} q = let e : j ≡ k = cc in omega (arith, b j refl)
 
-of-number : (n : ℕ) (r : Res ℤ) {k : ℕ} → andThen r (λ z. ok (num z)) ≡ ok (var k) → k < n
-unfolding andThen
+of-number : (n : ℕ) (r : Res ℤ) {k : ℕ} → if-ok r (λ z. ok (num z)) ≡ ok (var k) → k < n
+unfolding if-ok
 of-number n (fail m) q = fail-ok q
 of-number n (ok z) q = let e : _≡_ {A = ℕ} 0 1 = cc in absurd (omega arith)
 
 pub operand-below : (n : ℕ) (f : List ℕ) {k : ℕ} → operand-field n f ≡ ok (var k) → k < n
 unfolding operand-field
 operand-below n f {k} e = by-case (eqb (getD f 0 0) 36) e where
-  by-case : (t : Bool) → pick t (andThen (target-field n f) (λ j. ok (var j))) (andThen (number-field f) (λ z. ok (num z))) ≡ ok (var k) → k < n
+  by-case : (t : Bool) → pick t (if-ok (target-field n f) (λ j. ok (var j))) (if-ok (number-field f) (λ z. ok (num z))) ≡ ok (var k) → k < n
   by-case true q = of-target n (target-field n f) (λ j h. target-below n f h) q
   by-case false q = of-number n (number-field f) q

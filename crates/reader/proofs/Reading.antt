@@ -13,8 +13,8 @@ use Rattle.semantics.specs.Lists.{is-empty}
 use Rattle.semantics.specs.Text.{name-ok}
 use Rattle.semantics.specs.Chart.{Value, Var, Operand, Rel, Op, assign, add, sub, input, assume, Edge, Chart, in-range}
 use Rattle.semantics.specs.Encoding.{tag, held, op-words, edge-words}
-use Rattle.semantics.specs.Reading.{Res, fail, ok, check, andThen, nth, none-empty, number-field, location-field, target-field, operand-field, init-field, kind-field, rel-field, op-word-field, OpWord, do-set, do-add, do-sub, do-in, do-if, do-skip, field-count, op-fields-read, So-far, with-edge, var-line, loc-line, edge-line}
-use Rattle.reader.specs.Lines.{in-table, filled, argument-read, one-read, second-read, two-read, bounds-read, high-read, condition-read, after-target, op-read, edge-read, var-low, var-fields, var-named, loc-fields, loc-named, edge-fields, edge-worded}
+use Rattle.semantics.specs.Reading.{Res, fail, ok, check, if-ok, nth, none-empty, number-field, location-field, target-field, operand-field, init-field, kind-field, rel-field, op-word-field, OpWord, do-set, do-add, do-sub, do-in, do-if, do-skip, field-count, op-fields-read, So-far, with-edge, var-line, loc-line, edge-line, filled}
+use Rattle.reader.specs.Lines.{in-table, operand-read, one-read, second-read, two-read, input-read, input-high-read, assume-read, after-target, op-read, edge-read, var-low, var-fields, var-named, loc-fields, loc-named, edge-fields, edge-worded}
 use Rattle.reader.specs.Held.{Rows}
 use Rattle.reader.specs.declared.tally.Tally.{Tally}
 use Rattle.reader.proofs.Growing.{range-held}
@@ -22,85 +22,85 @@ use Rattle.reader.proofs.Judging.{check-no, check-yes, then-fail, then-
 
 -- ---- operands
 
-one-via : (code : ℤ) (v : ℕ) (r : Res Operand) → one-read code v r ≡ andThen (argument-read r) (λ ws. ok (code ∷ pos v ∷ (ws ++ (pos 0 ∷ pos 0 ∷ []))))
-unfolding andThen argument-read
+one-via : (code : ℤ) (v : ℕ) (r : Res Operand) → one-read code v r ≡ if-ok (operand-read r) (λ ws. ok (code ∷ pos v ∷ (ws ++ (pos 0 ∷ pos 0 ∷ []))))
+unfolding if-ok operand-read
 one-via code v (fail n) = refl
 one-via code v (ok a) = refl
 
-second-via : (code : ℤ) (v : ℕ) (t x : ℤ) (r : Res Operand) → second-read code v t x r ≡ andThen (argument-read r) (λ ws. ok (code ∷ pos v ∷ t ∷ x ∷ ws))
-unfolding andThen argument-read
+second-via : (code : ℤ) (v : ℕ) (t x : ℤ) (r : Res Operand) → second-read code v t x r ≡ if-ok (operand-read r) (λ ws. ok (code ∷ pos v ∷ t ∷ x ∷ ws))
+unfolding if-ok operand-read
 second-via code v t x (fail n) = refl
 second-via code v t x (ok a) = refl
 
-two-via : (code : ℤ) (v : ℕ) (r q : Res Operand) → two-read code v r q ≡ andThen (argument-read r) (λ ws. second-read code v (getD ws 0 (pos 0)) (getD ws 1 (pos 0)) q)
-unfolding andThen argument-read
+two-via : (code : ℤ) (v : ℕ) (r q : Res Operand) → two-read code v r q ≡ if-ok (operand-read r) (λ ws. second-read code v (getD ws 0 (pos 0)) (getD ws 1 (pos 0)) q)
+unfolding if-ok operand-read
 two-via code v (fail n) q = refl
 two-via code v (ok a) q = refl
 
 module _ (code : ℤ) (v : ℕ) (r : Res Operand) where
-  pub one-fail : {k : ℕ} → argument-read r ≡ fail k → one-read code v r ≡ fail k
+  pub one-fail : {k : ℕ} → operand-read r ≡ fail k → one-read code v r ≡ fail k
   one-fail e = one-via code v r ∙ then-fail _ e
 
-  pub one-ok : {t x : ℤ} → argument-read r ≡ ok (t ∷ x ∷ []) → one-read code v r ≡ ok (code ∷ pos v ∷ t ∷ x ∷ pos 0 ∷ pos 0 ∷ [])
+  pub one-ok : {t x : ℤ} → operand-read r ≡ ok (t ∷ x ∷ []) → one-read code v r ≡ ok (code ∷ pos v ∷ t ∷ x ∷ pos 0 ∷ pos 0 ∷ [])
   one-ok e = one-via code v r ∙ then-ok _ e
 
-  pub second-fail : (t x : ℤ) {k : ℕ} → argument-read r ≡ fail k → second-read code v t x r ≡ fail k
+  pub second-fail : (t x : ℤ) {k : ℕ} → operand-read r ≡ fail k → second-read code v t x r ≡ fail k
   second-fail t x e = second-via code v t x r ∙ then-fail _ e
 
-  pub second-ok : (t x : ℤ) {u y : ℤ} → argument-read r ≡ ok (u ∷ y ∷ []) → second-read code v t x r ≡ ok (code ∷ pos v ∷ t ∷ x ∷ u ∷ y ∷ [])
+  pub second-ok : (t x : ℤ) {u y : ℤ} → operand-read r ≡ ok (u ∷ y ∷ []) → second-read code v t x r ≡ ok (code ∷ pos v ∷ t ∷ x ∷ u ∷ y ∷ [])
   second-ok t x e = second-via code v t x r ∙ then-ok _ e
 
-  pub two-fail : (q : Res Operand) {k : ℕ} → argument-read r ≡ fail k → two-read code v r q ≡ fail k
+  pub two-fail : (q : Res Operand) {k : ℕ} → operand-read r ≡ fail k → two-read code v r q ≡ fail k
   two-fail q e = two-via code v r q ∙ then-fail _ e
 
-  pub two-ok : (q : Res Operand) {t x : ℤ} → argument-read r ≡ ok (t ∷ x ∷ []) → two-read code v r q ≡ second-read code v t x q
+  pub two-ok : (q : Res Operand) {t x : ℤ} → operand-read r ≡ ok (t ∷ x ∷ []) → two-read code v r q ≡ second-read code v t x q
   two-ok q e = two-via code v r q ∙ then-ok _ e
 
 -- ---- operations
 
 one-held : (code : ℤ) (f : ℕ → Operand → Op) → ((v : ℕ) (a : Operand) → op-words (f v a) ≡ code ∷ pos v ∷ tag a ∷ held a ∷ pos 0 ∷ pos 0 ∷ []) → (t : Res ℕ) (r : Res Operand)
-    → andThen t (λ v. one-read code v r) ≡ andThen (andThen t (λ v. andThen r (λ a. ok (f v a)))) (λ o. ok (op-words o))
-unfolding andThen
+    → if-ok t (λ v. one-read code v r) ≡ if-ok (if-ok t (λ v. if-ok r (λ a. ok (f v a)))) (λ o. ok (op-words o))
+unfolding if-ok
 one-held code f e (fail n) r = refl
 one-held code f e (ok v) (fail n) = refl
 one-held code f e (ok v) (ok a) = ap ok (sym (e v a))
 
 two-held : (code : ℤ) (f : ℕ → Operand → Operand → Op) → ((v : ℕ) (a b : Operand) → op-words (f v a b) ≡ code ∷ pos v ∷ tag a ∷ held a ∷ tag b ∷ held b ∷ []) → (t : Res ℕ) (r q : Res Operand)
-    → andThen t (λ v. two-read code v r q) ≡ andThen (andThen t (λ v. andThen r (λ a. andThen q (λ b. ok (f v a b))))) (λ o. ok (op-words o))
-unfolding andThen
+    → if-ok t (λ v. two-read code v r q) ≡ if-ok (if-ok t (λ v. if-ok r (λ a. if-ok q (λ b. ok (f v a b))))) (λ o. ok (op-words o))
+unfolding if-ok
 two-held code f e (fail n) r q = refl
 two-held code f e (ok v) (fail n) q = refl
 two-held code f e (ok v) (ok a) (fail n) = refl
 two-held code f e (ok v) (ok a) (ok b) = ap ok (sym (e v a b))
 
-condition-held : (t : Res ℕ) (r : Res Rel) (q : Res Operand)
-    → andThen t (λ v. condition-read v r q) ≡ andThen (andThen t (λ v. andThen r (λ x. andThen q (λ a. ok (assume v x a))))) (λ o. ok (op-words o))
-unfolding andThen
-condition-held (fail n) r q = refl
-condition-held (ok v) (fail n) q = refl
-condition-held (ok v) (ok x) (fail n) = refl
-condition-held (ok v) (ok x) (ok a) = refl
+assume-held : (t : Res ℕ) (r : Res Rel) (q : Res Operand)
+    → if-ok t (λ v. assume-read v r q) ≡ if-ok (if-ok t (λ v. if-ok r (λ x. if-ok q (λ a. ok (assume v x a))))) (λ o. ok (op-words o))
+unfolding if-ok
+assume-held (fail n) r q = refl
+assume-held (ok v) (fail n) q = refl
+assume-held (ok v) (ok x) (fail n) = refl
+assume-held (ok v) (ok x) (ok a) = refl
 
 module _ (table : List ℤ) (vars : List Var) (ranges : (k : ℕ) (z : ℤ) → k < length vars → in-table table k z ≡ in-range vars k z) where
-  high-held : (v : ℕ) → v < length vars → (p : ℤ) (r : Res ℤ)
-      → high-read table v p r ≡ andThen (andThen r (λ q. check (in-range vars v q && leZ p q) 7 (ok (input v p q)))) (λ o. ok (op-words o))
-  unfolding andThen
-  high-held v l p (fail n) = refl
-  high-held v l p (ok q) = rw (ranges v q l) (sym (check-then (in-range vars v q && leZ p q) 7 (ok (input v p q)) (λ o. ok (op-words o))))
+  input-high-held : (v : ℕ) → v < length vars → (p : ℤ) (r : Res ℤ)
+      → input-high-read table v p r ≡ if-ok (if-ok r (λ q. check (in-range vars v q && leZ p q) 7 (ok (input v p q)))) (λ o. ok (op-words o))
+  unfolding if-ok
+  input-high-held v l p (fail n) = refl
+  input-high-held v l p (ok q) = rw (ranges v q l) (sym (check-then (in-range vars v q && leZ p q) 7 (ok (input v p q)) (λ o. ok (op-words o))))
 
-  bounds-held : (t : Res ℕ) → ((v : ℕ) → t ≡ ok v → v < length vars) → (r q : Res ℤ)
-      → andThen t (λ v. bounds-read table v r q)
-      ≡ andThen (andThen t (λ v. andThen r (λ p. check (in-range vars v p) 7 (andThen q (λ z. check (in-range vars v z && leZ p z) 7 (ok (input v p z))))))) (λ o. ok (op-words o))
-  unfolding andThen
-  bounds-held (fail n) b r q = refl
-  bounds-held (ok v) b (fail n) q = refl
-  bounds-held (ok v) b (ok p) q =
-      rw (ranges v p (b v refl), high-held v (b v refl) p q)
-      (sym (check-then (in-range vars v p) 7 (andThen q (λ z. check (in-range vars v z && leZ p z) 7 (ok (input v p z)))) (λ o. ok (op-words o))))
+  input-held : (t : Res ℕ) → ((v : ℕ) → t ≡ ok v → v < length vars) → (r q : Res ℤ)
+      → if-ok t (λ v. input-read table v r q)
+      ≡ if-ok (if-ok t (λ v. if-ok r (λ p. check (in-range vars v p) 7 (if-ok q (λ z. check (in-range vars v z && leZ p z) 7 (ok (input v p z))))))) (λ o. ok (op-words o))
+  unfolding if-ok
+  input-held (fail n) b r q = refl
+  input-held (ok v) b (fail n) q = refl
+  input-held (ok v) b (ok p) q =
+      rw (ranges v p (b v refl), input-high-held v (b v refl) p q)
+      (sym (check-then (in-range vars v p) 7 (if-ok q (λ z. check (in-range vars v z && leZ p z) 7 (ok (input v p z)))) (λ o. ok (op-words o))))
 
 -- the operation's words
 pub op-held : (table : List ℤ) (c : Chart) → ((k : ℕ) (z : ℤ) → k < length (c .vars) → in-table table k z ≡ in-range (c .vars) k z) → (w : OpWord) (fs : List (List ℕ))
-    → op-read table (length (c .vars)) w fs ≡ andThen (op-fields-read c w fs) (λ o. ok (op-words o))
+    → op-read table (length (c .vars)) w fs ≡ if-ok (op-fields-read c w fs) (λ o. ok (op-words o))
 unfolding op-read op-fields-read after-target
 op-held table c ranges do-skip fs = sym (then-ok (λ o. ok (op-words o)) refl)
 op-held table c ranges do-set fs = one-held (pos 1) assign (λ v a. refl) (target-field (length (c .vars)) (nth fs 4)) (operand-field (length (c .vars)) (nth fs 5))
@@ -109,23 +109,23 @@ op-held table c ranges do-add fs =
 op-held table c ranges do-sub fs =
     two-held (pos 3) sub (λ v a b. refl) (target-field (length (c .vars)) (nth fs 4)) (operand-field (length (c .vars)) (nth fs 5)) (operand-field (length (c .vars)) (nth fs 6))
 op-held table c ranges do-in fs =
-    bounds-held table (c .vars) ranges (target-field (length (c .vars)) (nth fs 4)) (λ v e. target-below (length (c .vars)) (nth fs 4) e) (number-field (nth fs 5)) (number-field (nth fs 6))
+    input-held table (c .vars) ranges (target-field (length (c .vars)) (nth fs 4)) (λ v e. target-below (length (c .vars)) (nth fs 4) e) (number-field (nth fs 5)) (number-field (nth fs 6))
 op-held table c ranges do-if fs =
-    condition-held (target-field (length (c .vars)) (nth fs 4)) (rel-field (nth fs 5)) (operand-field (length (c .vars)) (nth fs 6))
+    assume-held (target-field (length (c .vars)) (nth fs 4)) (rel-field (nth fs 5)) (operand-field (length (c .vars)) (nth fs 6))
 
 -- ---- edges
 
 edge-via : (a b : Res ℕ) (o : Res Op)
-    → andThen a (λ from. andThen b (λ to. andThen (andThen o (λ x. ok (op-words x))) (λ ws. ok (pos from ∷ pos to ∷ ws))))
-    ≡ andThen (andThen a (λ from. andThen b (λ to. andThen o (λ x. ok (record { from = from; to = to; op = x }))))) (λ g. ok (edge-words g))
-unfolding andThen
+    → if-ok a (λ from. if-ok b (λ to. if-ok (if-ok o (λ x. ok (op-words x))) (λ ws. ok (pos from ∷ pos to ∷ ws))))
+    ≡ if-ok (if-ok a (λ from. if-ok b (λ to. if-ok o (λ x. ok (record { from = from; to = to; op = x }))))) (λ g. ok (edge-words g))
+unfolding if-ok
 edge-via (fail n) b o = refl
 edge-via (ok f) (fail n) o = refl
 edge-via (ok f) (ok t) (fail n) = refl
 edge-via (ok f) (ok t) (ok x) = refl
 
 pub edge-held : (table : List ℤ) (c : Chart) → ((k : ℕ) (z : ℤ) → k < length (c .vars) → in-table table k z ≡ in-range (c .vars) k z) → (w : OpWord) (fs : List (List ℕ))
-    → edge-read (length (c .locs)) (op-read table (length (c .vars)) w fs) fs ≡ andThen (edge-fields c w fs) (λ g. ok (edge-words g))
+    → edge-read (length (c .locs)) (op-read table (length (c .vars)) w fs) fs ≡ if-ok (edge-fields c w fs) (λ g. ok (edge-words g))
 unfolding edge-fields
 edge-held table c ranges w fs =
     rw (op-held table c ranges w fs) (edge-via (location-field (length (c .locs)) (nth fs 1)) (location-field (length (c .locs)) (nth fs 2)) (op-fields-read c w fs))
@@ -136,35 +136,35 @@ pub record Read (r : Res Edge) (row : List ℤ) : Type 0 where
   pub is : r ≡ ok edge
   pub words : row ≡ edge-words edge
 
-pub edge-ok : (r : Res Edge) (row : List ℤ) → andThen r (λ g. ok (edge-words g)) ≡ ok row → Read r row
-unfolding andThen
+pub edge-ok : (r : Res Edge) (row : List ℤ) → if-ok r (λ g. ok (edge-words g)) ≡ ok row → Read r row
+unfolding if-ok
 edge-ok (fail n) row e = fail-ok e
 edge-ok (ok g) row e = record { edge = g; is = refl; words = cc }
 
-pub edge-fail : (r : Res Edge) {k : ℕ} → andThen r (λ g. ok (edge-words g)) ≡ fail k → r ≡ fail k
-unfolding andThen
+pub edge-fail : (r : Res Edge) {k : ℕ} → if-ok r (λ g. ok (edge-words g)) ≡ fail k → r ≡ fail k
+unfolding if-ok
 edge-fail (fail n) e = cc
 edge-fail (ok g) {k} e = fail-ok (sym e)
 
 -- ---- lines
 
 edge-tail : (s : So-far) (a b : Res ℕ) (o : Res Op)
-    → andThen (andThen a (λ from. andThen b (λ to. andThen o (λ x. ok (record { from = from; to = to; op = x }))))) (λ g. ok (with-edge s g))
-    ≡ andThen a (λ from. andThen b (λ to. andThen o (λ x. ok (with-edge s (record { from = from; to = to; op = x })))))
-unfolding andThen
+    → if-ok (if-ok a (λ from. if-ok b (λ to. if-ok o (λ x. ok (record { from = from; to = to; op = x }))))) (λ g. ok (with-edge s g))
+    ≡ if-ok a (λ from. if-ok b (λ to. if-ok o (λ x. ok (with-edge s (record { from = from; to = to; op = x })))))
+unfolding if-ok
 edge-tail s (fail n) b o = refl
 edge-tail s (ok f) (fail n) o = refl
 edge-tail s (ok f) (ok t) (fail n) = refl
 edge-tail s (ok f) (ok t) (ok x) = refl
 
 var-tail : {A : Type 0} (a b : Res ℤ) (i : ℤ → ℤ → Res Value) (g : Var → Res A)
-    → andThen (andThen a (λ lo. andThen b (λ hi. check (leZ lo hi) 7 (andThen (i lo hi) (λ x. ok (record { lo = lo; hi = hi; init = x })))))) g
-    ≡ andThen a (λ lo. andThen b (λ hi. check (leZ lo hi) 7 (andThen (i lo hi) (λ x. g (record { lo = lo; hi = hi; init = x })))))
-unfolding andThen
+    → if-ok (if-ok a (λ lo. if-ok b (λ hi. check (leZ lo hi) 7 (if-ok (i lo hi) (λ x. ok (record { lo = lo; hi = hi; init = x })))))) g
+    ≡ if-ok a (λ lo. if-ok b (λ hi. check (leZ lo hi) 7 (if-ok (i lo hi) (λ x. g (record { lo = lo; hi = hi; init = x })))))
+unfolding if-ok
 var-tail (fail n) b i g = refl
 var-tail (ok lo) (fail n) i g = refl
 var-tail (ok lo) (ok hi) i g =
-    check-then (leZ lo hi) 7 (andThen (i lo hi) (λ x. ok (record { lo = lo; hi = hi; init = x }))) g
+    check-then (leZ lo hi) 7 (if-ok (i lo hi) (λ x. ok (record { lo = lo; hi = hi; init = x }))) g
     ∙ ap (check (leZ lo hi) 7) (then-map (i lo hi) (λ x. record { lo = lo; hi = hi; init = x }) g)
 
 module _ (s : So-far) (fs : List (List ℕ)) where
@@ -198,7 +198,7 @@ module _ (s : So-far) (fs : List (List ℕ)) where
     unfolding loc-line
     loc-full h = check-yes _ _ early ∙ check-no _ _ (le-ltb _ _ h)
 
-    pub loc-read : length (s .chart .locs) < 64 → loc-line s fs ≡ andThen (loc-fields fs) (λ k. loc-named s (nth fs 1) k)
+    pub loc-read : length (s .chart .locs) < 64 → loc-line s fs ≡ if-ok (loc-fields fs) (λ k. loc-named s (nth fs 1) k)
     unfolding loc-line loc-fields
     loc-read h =
         check-yes _ _ early ∙ check-yes _ _ (lt-ltb _ _ h)
@@ -215,7 +215,7 @@ module _ (s : So-far) (fs : List (List ℕ)) where
     unfolding var-line
     var-full h = check-yes _ _ early ∙ check-no _ _ (le-ltb _ _ h)
 
-    pub var-read : length (s .chart .vars) < 8 → var-line s fs ≡ andThen (var-fields fs) (λ v. var-named s (nth fs 1) v)
+    pub var-read : length (s .chart .vars) < 8 → var-line s fs ≡ if-ok (var-fields fs) (λ v. var-named s (nth fs 1) v)
     unfolding var-line var-fields
     var-read h =
         check-yes _ _ early ∙ check-yes _ _ (lt-ltb _ _ h)
@@ -237,5 +237,5 @@ loc-name-ok fs e = check-passed (name-ok (nth fs 1)) _ _ (check-passed (filled 3
 
 -- by the counts and the table that hold the chart
 pub edges-held : {t : Tally} {table : List ℤ} {c : Chart} → Rows t table c → (w : OpWord) (fs : List (List ℕ))
-    → edge-read (t .locs) (op-read table (t .vars) w fs) fs ≡ andThen (edge-fields c w fs) (λ g. ok (edge-words g))
+    → edge-read (t .locs) (op-read table (t .vars) w fs) fs ≡ if-ok (edge-fields c w fs) (λ g. ok (edge-words g))
 edges-held {t} {table} {c} h w fs = rw (h .vars, h .locs) (edge-held table c (λ k z l. range-held h k z (omega (arith, h .vars))) w fs)

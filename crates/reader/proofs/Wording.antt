@@ -6,7 +6,7 @@ use lib.IntN.{ℤ}
 use denote.Enum.Declared.{tagOf}
 use types.Run.{OneOf, miss}
 use Rattle.semantics.specs.Reading.{ok, do-skip}
-use Rattle.text.specs.Fields.{relRes, opWordRes}
+use Rattle.text.specs.Fields.{rel-res, op-word-res}
 use Rattle.text.specs.declared.Relation.{Relation}
 use Rattle.text.specs.declared.OpWord.{OpWord}
 use Rattle.reader.specs.Answers.{the-word, the-rel}
@@ -16,8 +16,8 @@ use Rattle.text.specs.declared.OpWord.the-variants as op-word
 use Rattle.text.proofs.Relation as relation-type
 use Rattle.text.proofs.OpWord as op-word-type
 
-pub rel-said : (x : Relation) → OneOf (1 ∷ 2 ∷ 3 ∷ 4 ∷ 5 ∷ 6 ∷ []) (tagOf relation-type.the-type x) → relRes x ≡ ok (the-rel x)
-unfolding relRes the-rel
+pub rel-said : (x : Relation) → OneOf (1 ∷ 2 ∷ 3 ∷ 4 ∷ 5 ∷ 6 ∷ []) (tagOf relation-type.the-type x) → rel-res x ≡ ok (the-rel x)
+unfolding rel-res the-rel
 rel-said (relation.Refused k) h = absurd (miss (1 ∷ 2 ∷ 3 ∷ 4 ∷ 5 ∷ 6 ∷ []) 0 tt h)
 rel-said relation.Eq h = refl
 rel-said relation.Ne h = refl
@@ -26,8 +26,8 @@ rel-said relation.Le h = refl
 rel-said relation.Gt h = refl
 rel-said relation.Ge h = refl
 
-pub word-said : (x : OpWord) → OneOf (1 ∷ 2 ∷ 3 ∷ 4 ∷ 5 ∷ 6 ∷ []) (tagOf op-word-type.the-type x) → opWordRes x ≡ ok (the-word x)
-unfolding opWordRes the-word
+pub word-said : (x : OpWord) → OneOf (1 ∷ 2 ∷ 3 ∷ 4 ∷ 5 ∷ 6 ∷ []) (tagOf op-word-type.the-type x) → op-word-res x ≡ ok (the-word x)
+unfolding op-word-res the-word
 word-said (op-word.Refused k) h = absurd (miss (1 ∷ 2 ∷ 3 ∷ 4 ∷ 5 ∷ 6 ∷ []) 0 tt h)
 word-said op-word.Set h = refl
 word-said op-word.Add h = refl

@@ -11,7 +11,7 @@ use Rattle.text.specs.declared.OpWord.{OpWord as Said}
 use Rattle.reader.specs.declared.scan.Fault.{Fault}
 use Rattle.reader.specs.declared.variable.VarRow.{VarRow}
 use Rattle.reader.specs.declared.variable.VarLine.{VarLine}
-use Rattle.reader.specs.declared.operation.Argument.{Argument}
+use Rattle.reader.specs.declared.operation.OperandField.{OperandField}
 use Rattle.reader.specs.declared.operation.OpRow.{OpRow}
 use Rattle.reader.specs.declared.operation.OpLine.{OpLine}
 use Rattle.reader.specs.declared.edge.EdgeRow.{EdgeRow}
@@ -20,7 +20,7 @@ use Rattle.reader.specs.declared.scan.Fault.the-variants as fault
 use Rattle.text.specs.declared.Relation.the-variants as relation
 use Rattle.text.specs.declared.OpWord.the-variants as said
 use Rattle.reader.specs.declared.variable.VarLine.the-variants as var-line
-use Rattle.reader.specs.declared.operation.Argument.the-variants as argument
+use Rattle.reader.specs.declared.operation.OperandField.the-variants as operand
 use Rattle.reader.specs.declared.operation.OpLine.the-variants as op-line
 use Rattle.reader.specs.declared.edge.EdgeLine.the-variants as edge-line
 
@@ -37,9 +37,9 @@ var-res (var-line.Refused k) = fail k
 var-res (var-line.Is v) = ok (var-of v)
 
 -- an operand's two words
-unfoldable pub argument-res : Argument → Res (List ℤ)
-argument-res (argument.Refused k) = fail k
-argument-res (argument.Is t x) = ok (t ∷ x ∷ [])
+unfoldable pub operand-field-res : OperandField → Res (List ℤ)
+operand-field-res (operand.Refused k) = fail k
+operand-field-res (operand.Is t x) = ok (t ∷ x ∷ [])
 
 -- an operation's six words
 abbrev pub op-row : OpRow → List ℤ

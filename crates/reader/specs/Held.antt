@@ -13,7 +13,7 @@ use Rattle.semantics.specs.Reading.{Res, fail, ok, So-far, Reading, nothing-rea
 use Rattle.lines.specs.Lines.{line-of, place-after}
 use Rattle.lines.specs.declared.Line.{Line}
 use Rattle.reader.specs.Rows.{name-row}
-use Rattle.reader.specs.declared.Progress.{Progress}
+use Rattle.reader.specs.declared.Descent.{Descent}
 use Rattle.reader.specs.declared.tally.Tally.{Tally}
 use Rattle.reader.specs.declared.tally.Step.{Step}
 use Rattle.reader.specs.declared.tally.Step.the-variants as step
@@ -23,8 +23,8 @@ abbrev pub rows-of : Chart → List ℤ
 rows-of c = each var-words (c .vars) ++ (each loc-words (c .locs) ++ each edge-words (c .edges))
 
 -- the words of so many rows
-abbrev pub used : Tally → ℕ
-used t = 3 * t .vars + 17 * t .locs + 8 * t .edges
+abbrev pub used-words : Tally → ℕ
+used-words t = 3 * t .vars + 17 * t .locs + 8 * t .edges
 
 -- no more than a chart has
 pub record Few (t : Tally) : Type 0 where
@@ -37,7 +37,7 @@ pub record Rows (t : Tally) (table : List ℤ) (c : Chart) : Type 0 where
   pub vars : t .vars ≡ length (c .vars)
   pub locs : t .locs ≡ length (c .locs)
   pub edges : t .edges ≡ length (c .edges)
-  pub rows : take (used t) table ≡ rows-of c
+  pub rows : take (used-words t) table ≡ rows-of c
   pub named : all (λ l. name-ok (l .name)) (c .locs) ≡ true
 
 abbrev pub in-order : List (List ℕ) → List (List ℕ)
@@ -74,7 +74,7 @@ goes-on (step.Refused k) = false
 goes-on (step.Go t) = true
 
 -- before the first line
-abbrev pub nothing-judged : Progress
+abbrev pub nothing-judged : Descent
 nothing-judged = record { going = true; line = 0; step = step.Go (record { vars = 0; locs = 0; edges = 0 }) }
 
 -- so many lines are judged, and the reader is at the place `at`: what was read so far, and what is left
@@ -108,7 +108,7 @@ Stands-by true text at line s table names = Goes text at line s table names
 Stands-by false text at line s table names = Came text line s table
 
 -- where reading stands, with the reader at the place `at`
-abbrev pub Stands : List ℕ → ℕ → Progress → List ℤ → List ℤ → Type 0
+abbrev pub Stands : List ℕ → ℕ → Descent → List ℤ → List ℤ → Type 0
 Stands text at p table names = Stands-by (p .going) text at (p .line) (p .step) table names
 
 abbrev pub Few-of : Step → Type 0
@@ -116,12 +116,12 @@ Few-of (step.Refused k) = Unit {0}
 Few-of (step.Go t) = Few t
 
 -- what it takes to judge l: it is a line of the text, and the counts are those of lines before it
-pub record Ready (text : List ℕ) (p : Progress) (l : Line) : Type 0 where
+pub record Ready (text : List ℕ) (p : Descent) (l : Line) : Type 0 where
   pub at : ℕ
   pub is : l ≡ line-of text at
   pub few : Few-of (p .step)
   pub counted : p .line ≤ at
 
 -- by the line l reading goes from p to r, and comes to no other line where there is none
-abbrev pub Advanced : List ℕ → Line → Progress → List ℤ → List ℤ → Progress → List ℤ → List ℤ → Type 0
+abbrev pub Advanced : List ℕ → Line → Descent → List ℤ → List ℤ → Descent → List ℤ → List ℤ → Type 0
 Advanced text l p table names r table′ names′ = (at : ℕ) → l ≡ line-of text at → p .going ≡ true → Stands text at p table names → Stands text (place-after l at) r table′ names′ × (r .going ≡ true → at < length text)

@@ -10,22 +10,18 @@ use Rattle.semantics.specs.Lists.{all}
 use Rattle.semantics.specs.Text.{same-bytes, name-ok}
 use Rattle.semantics.specs.Chart.{Var, Operand, Rel, skip, Edge, Chart, within}
 use Rattle.semantics.specs.Encoding.{tag, held, rel-code, op-words}
-use Rattle.semantics.specs.Reading.{Res, ok, check, andThen, nth, none-empty, number-field, location-field, target-field, operand-field, init-field, kind-field, rel-field, OpWord, do-set, do-add, do-sub, do-in, do-if, do-skip, field-count, op-fields-read, So-far, with-var, with-loc, with-edge}
-
--- so many fields, none of them empty
-abbrev pub filled : ℕ → List (List ℕ) → Bool
-filled n fs = eqb (length fs) n && none-empty fs
+use Rattle.semantics.specs.Reading.{Res, ok, check, if-ok, nth, filled, number-field, location-field, target-field, operand-field, init-field, kind-field, rel-field, OpWord, do-set, do-add, do-sub, do-in, do-if, do-skip, field-count, op-fields-read, So-far, with-var, with-loc, with-edge}
 
 -- ---- `V name lo hi init`
 
 abbrev pub var-init : ℤ → ℤ → List ℕ → Res Var
-var-init lo hi f = andThen (init-field lo hi f) λ x. ok (record { lo = lo; hi = hi; init = x })
+var-init lo hi f = if-ok (init-field lo hi f) λ x. ok (record { lo = lo; hi = hi; init = x })
 
 abbrev pub var-high : ℤ → List (List ℕ) → Res Var
-var-high lo fs = andThen (number-field (nth fs 3)) λ hi. check (leZ lo hi) 7 (var-init lo hi (nth fs 4))
+var-high lo fs = if-ok (number-field (nth fs 3)) λ hi. check (leZ lo hi) 7 (var-init lo hi (nth fs 4))
 
 abbrev pub var-low : List (List ℕ) → Res Var
-var-low fs = andThen (number-field (nth fs 2)) λ lo. var-high lo fs
+var-low fs = if-ok (number-field (nth fs 2)) λ lo. var-high lo fs
 
 unfoldable pub var-fields : List (List ℕ) → Res Var
 var-fields fs = check (filled 5 fs) 5 (check (name-ok (nth fs 1)) 6 (var-low fs))
@@ -51,28 +47,28 @@ in-table table v z = within (getD table (3 * v) (pos 0)) (getD table (3 * v + 1)
 abbrev pub operand-words : Operand → List ℤ
 operand-words a = tag a ∷ held a ∷ []
 
-unfoldable pub argument-read : Res Operand → Res (List ℤ)
-argument-read r = andThen r λ a. ok (operand-words a)
+unfoldable pub operand-read : Res Operand → Res (List ℤ)
+operand-read r = if-ok r λ a. ok (operand-words a)
 
 -- an operation by its code and target, with one operand
 abbrev pub one-read : ℤ → ℕ → Res Operand → Res (List ℤ)
-one-read code v r = andThen r λ a. ok (code ∷ pos v ∷ tag a ∷ held a ∷ pos 0 ∷ pos 0 ∷ [])
+one-read code v r = if-ok r λ a. ok (code ∷ pos v ∷ tag a ∷ held a ∷ pos 0 ∷ pos 0 ∷ [])
 
 -- the second operand, after the words of the first
 abbrev pub second-read : ℤ → ℕ → ℤ → ℤ → Res Operand → Res (List ℤ)
-second-read code v t x r = andThen r λ b. ok (code ∷ pos v ∷ t ∷ x ∷ tag b ∷ held b ∷ [])
+second-read code v t x r = if-ok r λ b. ok (code ∷ pos v ∷ t ∷ x ∷ tag b ∷ held b ∷ [])
 
 abbrev pub two-read : ℤ → ℕ → Res Operand → Res Operand → Res (List ℤ)
-two-read code v r q = andThen r λ a. second-read code v (tag a) (held a) q
+two-read code v r q = if-ok r λ a. second-read code v (tag a) (held a) q
 
-abbrev pub high-read : List ℤ → ℕ → ℤ → Res ℤ → Res (List ℤ)
-high-read table v p r = andThen r λ q. check (in-table table v q && leZ p q) 7 (ok (pos 4 ∷ pos v ∷ pos 0 ∷ p ∷ pos 0 ∷ q ∷ []))
+abbrev pub input-high-read : List ℤ → ℕ → ℤ → Res ℤ → Res (List ℤ)
+input-high-read table v p r = if-ok r λ q. check (in-table table v q && leZ p q) 7 (ok (pos 4 ∷ pos v ∷ pos 0 ∷ p ∷ pos 0 ∷ q ∷ []))
 
-abbrev pub bounds-read : List ℤ → ℕ → Res ℤ → Res ℤ → Res (List ℤ)
-bounds-read table v r q = andThen r λ p. check (in-table table v p) 7 (high-read table v p q)
+abbrev pub input-read : List ℤ → ℕ → Res ℤ → Res ℤ → Res (List ℤ)
+input-read table v r q = if-ok r λ p. check (in-table table v p) 7 (input-high-read table v p q)
 
-abbrev pub condition-read : ℕ → Res Rel → Res Operand → Res (List ℤ)
-condition-read v r q = andThen r λ x. one-read (pos (rel-code x)) v q
+abbrev pub assume-read : ℕ → Res Rel → Res Operand → Res (List ℤ)
+assume-read v r q = if-ok r λ x. one-read (pos (rel-code x)) v q
 
 -- the fields after the target v, with n variables
 unfoldable pub after-target : List ℤ → ℕ → OpWord → ℕ → List (List ℕ) → Res (List ℤ)
@@ -80,11 +76,11 @@ after-target table n do-skip v fs = ok (op-words skip)
 after-target table n do-set v fs = one-read (pos 1) v (operand-field n (nth fs 5))
 after-target table n do-add v fs = two-read (pos 2) v (operand-field n (nth fs 5)) (operand-field n (nth fs 6))
 after-target table n do-sub v fs = two-read (pos 3) v (operand-field n (nth fs 5)) (operand-field n (nth fs 6))
-after-target table n do-in v fs = bounds-read table v (number-field (nth fs 5)) (number-field (nth fs 6))
-after-target table n do-if v fs = condition-read v (rel-field (nth fs 5)) (operand-field n (nth fs 6))
+after-target table n do-in v fs = input-read table v (number-field (nth fs 5)) (number-field (nth fs 6))
+after-target table n do-if v fs = assume-read v (rel-field (nth fs 5)) (operand-field n (nth fs 6))
 
 abbrev pub targeted : List ℤ → ℕ → OpWord → List (List ℕ) → Res (List ℤ)
-targeted table n w fs = andThen (target-field n (nth fs 4)) λ v. after-target table n w v fs
+targeted table n w fs = if-ok (target-field n (nth fs 4)) λ v. after-target table n w v fs
 
 -- the operation's words
 unfoldable pub op-read : List ℤ → ℕ → OpWord → List (List ℕ) → Res (List ℤ)
@@ -97,21 +93,21 @@ op-read table n do-if fs = targeted table n do-if fs
 
 -- the edge's words, from the operation's
 abbrev pub with-op : ℕ → ℕ → Res (List ℤ) → Res (List ℤ)
-with-op from to r = andThen r λ ws. ok (pos from ∷ pos to ∷ ws)
+with-op from to r = if-ok r λ ws. ok (pos from ∷ pos to ∷ ws)
 
 abbrev pub with-from : ℕ → ℕ → Res (List ℤ) → List (List ℕ) → Res (List ℤ)
-with-from from m r fs = andThen (location-field m (nth fs 2)) λ to. with-op from to r
+with-from from m r fs = if-ok (location-field m (nth fs 2)) λ to. with-op from to r
 
 -- with m locations
 abbrev pub edge-read : ℕ → Res (List ℤ) → List (List ℕ) → Res (List ℤ)
-edge-read m r fs = andThen (location-field m (nth fs 1)) λ from. with-from from m r fs
+edge-read m r fs = if-ok (location-field m (nth fs 1)) λ from. with-from from m r fs
 
 -- the same as a chart's edge, and what a line of n fields with this operation comes to
 unfoldable pub edge-fields : Chart → OpWord → List (List ℕ) → Res Edge
 edge-fields c w fs =
-    andThen (location-field (length (c .locs)) (nth fs 1)) λ from.
-    andThen (location-field (length (c .locs)) (nth fs 2)) λ to.
-    andThen (op-fields-read c w fs) λ o. ok (record { from = from; to = to; op = o })
+    if-ok (location-field (length (c .locs)) (nth fs 1)) λ from.
+    if-ok (location-field (length (c .locs)) (nth fs 2)) λ to.
+    if-ok (op-fields-read c w fs) λ o. ok (record { from = from; to = to; op = o })
 
 abbrev pub edge-worded : So-far → OpWord → List (List ℕ) → Res So-far
-edge-worded s w fs = check (eqb (length fs) (field-count w)) 5 (andThen (edge-fields (s .chart) w fs) λ g. ok (with-edge s g))
+edge-worded s w fs = check (eqb (length fs) (field-count w)) 5 (if-ok (edge-fields (s .chart) w fs) λ g. ok (with-edge s g))

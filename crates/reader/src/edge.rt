@@ -14,14 +14,14 @@ ghost use Rattle.reader.specs.Answers.{the-word, op-res, edge-row, edge-
 ghost use Rattle.reader.specs.Lines.{op-read, edge-read, edge-worded};
 ghost use Rattle.reader.specs.Lines.{with-op as op-after, with-from as from-after};
 ghost use Rattle.reader.specs.Held.{Few, Rows, Names, Stepped};
-ghost use Rattle.reader.specs.Held.{used as used-words};
+ghost use Rattle.reader.specs.Held.{used-words};
 use super::operation;
 use super::operation::OpLine;
 use super::operation::OpRow;
-use super::rows;
+use super::store;
 use super::tally::Step;
 use super::tally::Tally;
-use super::tally::used;
+use super::tally::used_words;
 
 struct EdgeRow {
     from: i32,
@@ -112,8 +112,8 @@ fn push(t: Tally, table: &mut [i32], g: EdgeRow)
         o.tag2,
         o.value2,
     ];
-    let at = used(t);
-    rows::push_row(table, at, &row);
+    let at = used_words(t);
+    store::push_row(table, at, &row);
 }
 
 // A line whose operation is known: 5 by its count, then its fields.

@@ -13,14 +13,14 @@ ghost use Rattle.reader.specs.Held.{Few, Rows, Names, Stepped, lines-jud
 mod edge;
 mod location;
 mod operation;
-mod rows;
 mod scan;
+mod store;
 mod tally;
 mod variable;
 
 use tally::Step;
 use tally::Tally;
-use tally::used;
+use tally::used_words;
 
 // A refusal; with 0, what a call that goes through answers.
 fn refused(number: u32, line: usize) -> semantics::Answer
@@ -39,13 +39,13 @@ fn hold(t: Tally, table: &[i32], words: &mut [i32]) -> semantics::Answer
     ensures { λ r. ⌜ ((c : Chart) → Rows t (now (table .entry)) c → r ≡ held-unless (ltb (length (now (words .entry))) (length (encode c))) c (now (words .entry)) .answer) ⌝ }
     ensures { λ _. ⌜ ((c : Chart) → Rows t (now (table .entry)) c → now (words .exit) ≡ held-unless (ltb (length (now (words .entry))) (length (encode c))) c (now (words .entry)) .words) ⌝ }
 {
-    let size = used(t);
+    let size = used_words(t);
     if words.len() < size + 3 {
         return refused(14, 0);
     }
     let counts = [t.vars as i32, t.locs as i32, t.edges as i32];
-    rows::push_row(words, 0, &counts);
-    rows::push_row(words, 3, &table[..size]);
+    store::push_row(words, 0, &counts);
+    store::push_row(words, 3, &table[..size]);
     refused(0, 0)
 }
 
@@ -80,7 +80,7 @@ fn step(t: Tally, table: &mut [i32], names: &mut [i32], line: &[u8]) -> Step
 }
 
 // Where reading stands: whether it goes on, the lines judged so far, and what the last of them came to.
-struct Progress {
+struct Descent {
     going: bool,
     line: usize,
     step: Step,
@@ -96,13 +96,7 @@ fn goes(s: Step) -> bool
 }
 
 // One line more; or the text is at its end.
-fn advance(
-    p: Progress,
-    table: &mut [i32],
-    names: &mut [i32],
-    text: &[u8],
-    l: lines::Line,
-) -> Progress
+fn advance(p: Descent, table: &mut [i32], names: &mut [i32], text: &[u8], l: lines::Line) -> Descent
     requires { ⌜ Ready (now text) p l × (length (now table) ≡ 3160) × (length (now names) ≡ 128) ⌝ }
     ensures { λ r. ⌜ Advanced (now (text .entry)) l p (now (table .entry)) (now (names .entry)) r (now (table .exit)) (now (names .exit)) ⌝ }
 {
@@ -111,14 +105,14 @@ fn advance(
         return p;
     };
     let lines::Line::Text { start, end, .. } = l else {
-        return Progress {
+        return Descent {
             going: false,
             line: p.line,
             step: s,
         };
     };
     let after = step(t, table, names, &text[start..end]);
-    Progress {
+    Descent {
         going: goes(after),
         line: p.line + 1,
         step: after,
@@ -126,10 +120,10 @@ fn advance(
 }
 
 // Before the first line.
-fn begun() -> Progress
+fn begun() -> Descent
     ensures { λ r. ⌜ r ≡ nothing-judged ⌝ }
 {
-    Progress {
+    Descent {
         going: true,
         line: 0,
         step: Step::Go(Tally {
@@ -141,7 +135,7 @@ fn begun() -> Progress
 }
 
 // The reader goes down the text line by line, and each line is judged. Proved by hand: the reader lies in a local.
-fn go_down(text: &[u8], table: &mut [i32], names: &mut [i32]) -> Progress
+fn go_down(text: &[u8], table: &mut [i32], names: &mut [i32]) -> Descent
     requires { ⌜ (length (now table) ≡ 3160) × (length (now names) ≡ 128) ⌝ }
     ensures { λ r. ⌜ Came (now (text .entry)) (r .line) (r .step) (now (table .exit)) ⌝ }
 {

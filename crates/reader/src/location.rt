@@ -7,19 +7,18 @@ ghost use lib.IntN.{ℤ};
 ghost use lib.ListN.{length};
 ghost use Rattle.semantics.specs.Text.{fields, name-ok};
 ghost use Rattle.semantics.specs.Reading.{So-far, loc-line};
-ghost use Rattle.text.specs.Fields.{flagRes};
+ghost use Rattle.text.specs.Fields.{flag-res};
 ghost use Rattle.reader.specs.Lines.{loc-fields, loc-named};
 ghost use Rattle.reader.specs.Held.{Few, Rows, Names, Stepped};
-use super::rows;
+use super::store;
 use super::tally::Step;
 use super::tally::Tally;
-use super::tally::filled;
-use super::tally::used;
+use super::tally::used_words;
 
 fn judged(line: &[u8]) -> text::Flag
-    ensures { λ r. ⌜ flagRes r ≡ loc-fields (fields (now (line .entry))) ⌝ }
+    ensures { λ r. ⌜ flag-res r ≡ loc-fields (fields (now (line .entry))) ⌝ }
 {
-    if !filled(line, 3) {
+    if !text::filled(line, 3) {
         return text::Flag::Refused(5);
     }
     if !text::name_ok(text::field(line, 1)) {
@@ -33,11 +32,11 @@ fn named(t: Tally, table: &mut [i32], error: bool, name: &[u8]) -> Step
     requires { ⌜ Few t × (t .locs < 64) × (t .edges ≡ 0) × (length (now table) ≡ 3160) ⌝ }
     ensures { λ r. ⌜ ((s : So-far) (names : List ℤ) → Rows t (now (table .entry)) (s .chart) → Names (t .vars) names (s .names) → name-ok (now (name .entry)) ≡ true → Stepped r (loc-named s (now (name .entry)) error) (now (table .exit)) names) ⌝ }
 {
-    if rows::name_seen(table, 3 * t.vars + 1, 17, t.locs, name) {
+    if store::name_seen(table, 3 * t.vars + 1, 17, t.locs, name) {
         return Step::Refused(9);
     }
-    let at = used(t);
-    rows::push_location(table, at, error, name);
+    let at = used_words(t);
+    store::push_location(table, at, error, name);
     Step::Go(Tally {
         vars: t.vars,
         locs: t.locs + 1,

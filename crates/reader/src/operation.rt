@@ -8,12 +8,12 @@ ghost use Rattle.semantics.specs.Text.{fields};
 ghost use Rattle.semantics.specs.Chart.{within, skip};
 ghost use Rattle.semantics.specs.Encoding.{rel-code, op-words};
 ghost use Rattle.semantics.specs.Reading.{nth, ok, number-field, operand-field, rel-field};
-ghost use Rattle.reader.specs.Answers.{argument-res, op-res, the-word, the-rel};
-ghost use Rattle.reader.specs.Lines.{in-table, argument-read, one-read, second-read, two-read, high-read, bounds-read, condition-read, op-read};
+ghost use Rattle.reader.specs.Answers.{operand-field-res, op-res, the-word, the-rel};
+ghost use Rattle.reader.specs.Lines.{in-table, operand-read, one-read, second-read, two-read, input-high-read, input-read, assume-read, op-read};
 ghost use Rattle.reader.specs.Lines.{targeted as targeted-read, after-target as after-target-read};
 
 // An operand's tag and value.
-enum Argument {
+enum OperandField {
     Refused(u32),
     Is(i32, i32),
 }
@@ -40,24 +40,24 @@ pub fn index_word(k: usize) -> i32
     k as i32
 }
 
-fn argument_of(vars: usize, f: &[u8]) -> Argument
+fn operand_of(vars: usize, f: &[u8]) -> OperandField
     requires { ⌜ vars ≤ 8 ⌝ }
-    ensures { λ r. ⌜ argument-res r ≡ argument-read (operand-field vars (now (f .entry))) ⌝ }
+    ensures { λ r. ⌜ operand-field-res r ≡ operand-read (operand-field vars (now (f .entry))) ⌝ }
 {
     match text::operand_field(vars, f) {
-        text::Operand::Refused(k) => Argument::Refused(k),
-        text::Operand::Number(z) => Argument::Is(0, z),
-        text::Operand::Var(v) => Argument::Is(1, index_word(v)),
+        text::Operand::Refused(k) => OperandField::Refused(k),
+        text::Operand::Number(z) => OperandField::Is(0, z),
+        text::Operand::Var(v) => OperandField::Is(1, index_word(v)),
     }
 }
 
-fn one_argument(code: i32, v: usize, vars: usize, f: &[u8]) -> OpLine
+fn one_operand(code: i32, v: usize, vars: usize, f: &[u8]) -> OpLine
     requires { ⌜ (vars ≤ 8) × (v < 1000) ⌝ }
     ensures { λ r. ⌜ op-res r ≡ one-read code v (operand-field vars (now (f .entry))) ⌝ }
 {
-    match argument_of(vars, f) {
-        Argument::Refused(k) => OpLine::Refused(k),
-        Argument::Is(t, x) => OpLine::Is(OpRow {
+    match operand_of(vars, f) {
+        OperandField::Refused(k) => OpLine::Refused(k),
+        OperandField::Is(t, x) => OpLine::Is(OpRow {
             code: code,
             target: index_word(v),
             tag1: t,
@@ -69,13 +69,13 @@ fn one_argument(code: i32, v: usize, vars: usize, f: &[u8]) -> OpLine
 }
 
 // The second operand, after the words of the first.
-fn second_argument(code: i32, v: usize, t: i32, x: i32, vars: usize, f: &[u8]) -> OpLine
+fn second_operand(code: i32, v: usize, t: i32, x: i32, vars: usize, f: &[u8]) -> OpLine
     requires { ⌜ (vars ≤ 8) × (v < 1000) ⌝ }
     ensures { λ r. ⌜ op-res r ≡ second-read code v t x (operand-field vars (now (f .entry))) ⌝ }
 {
-    match argument_of(vars, f) {
-        Argument::Refused(k) => OpLine::Refused(k),
-        Argument::Is(u, y) => OpLine::Is(OpRow {
+    match operand_of(vars, f) {
+        OperandField::Refused(k) => OpLine::Refused(k),
+        OperandField::Is(u, y) => OpLine::Is(OpRow {
             code: code,
             target: index_word(v),
             tag1: t,
@@ -86,13 +86,13 @@ fn second_argument(code: i32, v: usize, t: i32, x: i32, vars: usize, f: &[u8]) -
     }
 }
 
-fn two_arguments(code: i32, v: usize, vars: usize, line: &[u8]) -> OpLine
+fn two_operands(code: i32, v: usize, vars: usize, line: &[u8]) -> OpLine
     requires { ⌜ (vars ≤ 8) × (v < 1000) ⌝ }
     ensures { λ r. ⌜ op-res r ≡ two-read code v (operand-field vars (nth (fields (now (line .entry))) 5)) (operand-field vars (nth (fields (now (line .entry))) 6)) ⌝ }
 {
-    match argument_of(vars, text::field(line, 5)) {
-        Argument::Refused(k) => OpLine::Refused(k),
-        Argument::Is(t, x) => second_argument(code, v, t, x, vars, text::field(line, 6)),
+    match operand_of(vars, text::field(line, 5)) {
+        OperandField::Refused(k) => OpLine::Refused(k),
+        OperandField::Is(t, x) => second_operand(code, v, t, x, vars, text::field(line, 6)),
     }
 }
 
@@ -120,9 +120,9 @@ fn up_to(table: &[i32], v: usize, p: i32, q: i32) -> bool
 }
 
 // q, after p.
-fn high(table: &[i32], v: usize, p: i32, f: &[u8]) -> OpLine
+fn input_high(table: &[i32], v: usize, p: i32, f: &[u8]) -> OpLine
     requires { ⌜ v < 1000 ⌝ }
-    ensures { λ r. ⌜ op-res r ≡ high-read (now (table .entry)) v p (number-field (now (f .entry))) ⌝ }
+    ensures { λ r. ⌜ op-res r ≡ input-high-read (now (table .entry)) v p (number-field (now (f .entry))) ⌝ }
 {
     match text::number_field(f) {
         text::Word::Refused(k) => OpLine::Refused(k),
@@ -143,22 +143,22 @@ fn high(table: &[i32], v: usize, p: i32, f: &[u8]) -> OpLine
 }
 
 // p and q of `in`.
-fn bounds(table: &[i32], v: usize, line: &[u8]) -> OpLine
+fn input(table: &[i32], v: usize, line: &[u8]) -> OpLine
     requires { ⌜ v < 1000 ⌝ }
-    ensures { λ r. ⌜ op-res r ≡ bounds-read (now (table .entry)) v (number-field (nth (fields (now (line .entry))) 5)) (number-field (nth (fields (now (line .entry))) 6)) ⌝ }
+    ensures { λ r. ⌜ op-res r ≡ input-read (now (table .entry)) v (number-field (nth (fields (now (line .entry))) 5)) (number-field (nth (fields (now (line .entry))) 6)) ⌝ }
 {
     match text::number_field(text::field(line, 5)) {
         text::Word::Refused(k) => OpLine::Refused(k),
         text::Word::Is(p) => {
             if in_range(table, v, p) {
-                return high(table, v, p, text::field(line, 6));
+                return input_high(table, v, p, text::field(line, 6));
             }
             OpLine::Refused(7)
         }
     }
 }
 
-// The code of a condition with this relation.
+// The code of `if` with this relation.
 fn code_of(r: text::Relation) -> i32
     ensures { λ x. ⌜ x ≡ pos (rel-code (the-rel r)) ⌝ }
 {
@@ -173,14 +173,14 @@ fn code_of(r: text::Relation) -> i32
     }
 }
 
-fn condition(v: usize, vars: usize, line: &[u8]) -> OpLine
+fn assume(v: usize, vars: usize, line: &[u8]) -> OpLine
     requires { ⌜ (vars ≤ 8) × (v < 1000) ⌝ }
-    ensures { λ r. ⌜ op-res r ≡ condition-read v (rel-field (nth (fields (now (line .entry))) 5)) (operand-field vars (nth (fields (now (line .entry))) 6)) ⌝ }
+    ensures { λ r. ⌜ op-res r ≡ assume-read v (rel-field (nth (fields (now (line .entry))) 5)) (operand-field vars (nth (fields (now (line .entry))) 6)) ⌝ }
 {
     let r = text::rel_field(text::field(line, 5));
     match r {
         text::Relation::Refused(k) => OpLine::Refused(k),
-        _ => one_argument(code_of(r), v, vars, text::field(line, 6)),
+        _ => one_operand(code_of(r), v, vars, text::field(line, 6)),
     }
 }
 
@@ -203,11 +203,11 @@ fn after_target(w: text::OpWord, v: usize, vars: usize, table: &[i32], line: &[u
     ensures { λ r. ⌜ op-res r ≡ after-target-read (now (table .entry)) vars (the-word w) v (fields (now (line .entry))) ⌝ }
 {
     match w {
-        text::OpWord::Set => one_argument(1, v, vars, text::field(line, 5)),
-        text::OpWord::Add => two_arguments(2, v, vars, line),
-        text::OpWord::Sub => two_arguments(3, v, vars, line),
-        text::OpWord::In => bounds(table, v, line),
-        text::OpWord::If => condition(v, vars, line),
+        text::OpWord::Set => one_operand(1, v, vars, text::field(line, 5)),
+        text::OpWord::Add => two_operands(2, v, vars, line),
+        text::OpWord::Sub => two_operands(3, v, vars, line),
+        text::OpWord::In => input(table, v, line),
+        text::OpWord::If => assume(v, vars, line),
         _ => unchanged(),
     }
 }

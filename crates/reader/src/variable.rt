@@ -9,10 +9,9 @@ ghost use Rattle.semantics.specs.Reading.{So-far, var-line};
 ghost use Rattle.reader.specs.Answers.{var-of, var-res};
 ghost use Rattle.reader.specs.Lines.{var-init, var-high, var-low, var-fields, var-named};
 ghost use Rattle.reader.specs.Held.{Few, Rows, Names, Stepped};
-use super::rows;
+use super::store;
 use super::tally::Step;
 use super::tally::Tally;
-use super::tally::filled;
 
 struct VarRow {
     lo: i32,
@@ -70,7 +69,7 @@ fn low(line: &[u8]) -> VarLine
 fn judged(line: &[u8]) -> VarLine
     ensures { λ r. ⌜ var-res r ≡ var-fields (fields (now (line .entry))) ⌝ }
 {
-    if !filled(line, 5) {
+    if !text::filled(line, 5) {
         return VarLine::Refused(5);
     }
     if !text::name_ok(text::field(line, 1)) {
@@ -84,12 +83,12 @@ fn named(t: Tally, table: &mut [i32], names: &mut [i32], v: VarRow, name: &[u8])
     requires { ⌜ (t .vars < 8) × (t .locs ≡ 0) × (t .edges ≡ 0) × (length (now table) ≡ 3160) × (length (now names) ≡ 128) ⌝ }
     ensures { λ r. ⌜ ((s : So-far) → Rows t (now (table .entry)) (s .chart) → Names (t .vars) (now (names .entry)) (s .names) → name-ok (now (name .entry)) ≡ true → Stepped r (var-named s (now (name .entry)) (var-of v)) (now (table .exit)) (now (names .exit))) ⌝ }
 {
-    if rows::name_seen(names, 0, 16, t.vars, name) {
+    if store::name_seen(names, 0, 16, t.vars, name) {
         return Step::Refused(9);
     }
     let row = [v.lo, v.hi, v.init];
-    rows::push_row(table, 3 * t.vars, &row);
-    rows::push_name(names, 16 * t.vars, name);
+    store::push_row(table, 3 * t.vars, &row);
+    store::push_name(names, 16 * t.vars, name);
     Step::Go(Tally {
         vars: t.vars + 1,
         locs: 0,

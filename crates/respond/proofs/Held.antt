@@ -22,12 +22,12 @@ use Rattle.semantics.proofs.Input.{go-fine}
 use Rattle.semantics.proofs.Calls.{start-goes, held-table, held-list, run-goes, listing-goes}
 use Rattle.form.specs.Form.{lent}
 use Rattle.walker.specs.declared.Called.{Called}
-use Rattle.walker.specs.Calls.{Ends}
+use Rattle.walker.specs.Calls.{Ends-called}
 use Rattle.go_line.specs.declared.Go.{Go}
 use Rattle.respond.specs.Responded.{asking, Asked, Holds, Printed}
 
 -- what a call leaves, by the outcome that it has
-ends-at : {o : Outcome} {r : Called} {t l : List ℤ} → Ends o r t l → (m : Memory) → o .memory ≡ m → lent t l (r .analysis) ≡ m
+ends-at : {o : Outcome} {r : Called} {t l : List ℤ} → Ends-called o r t l → (m : Memory) → o .memory ≡ m → lent t l (r .analysis) ≡ m
 ends-at e m p = (λ i. record { table = e .table i; waitlist = e .waitlist i; analysis = e .analysis i }) ∙ p
 
 module _ (words : List ℤ) (formed : T (well-formed words)) (go : Go) (asked : Asked go) where
@@ -47,7 +47,7 @@ module _ (words : List ℤ) (formed : T (well-formed words)) (go : Go) (asked : 
   first-good = started-good chart inside (go .settings) (go .capacity) (fine .capacity) (fine .modes)
 
   pub begun : (m : Memory) → length (m .table) ≡ 2304 → length (m .waitlist) ≡ 256 → {r : Called} {t l : List ℤ}
-      → Ends (start-outcome words (go .settings) (go .capacity) m) r t l → Holds chart first (lent t l (r .analysis))
+      → Ends-called (start-outcome words (go .settings) (go .capacity) m) r t l → Holds chart first (lent t l (r .analysis))
   begun m a b e = record { over = m; table = a; list = b; same = ends-at e (put-in chart first m) (ap (λ (o : Outcome). o .memory) (start-goes words formed (asking go) fine m a b)) }
 
   verdict : (m : Memory) → Holds chart first m → has-verdict (m .analysis .verdict) ≡ has-verdict (first .verdict)
@@ -58,7 +58,7 @@ module _ (words : List ℤ) (formed : T (well-formed words)) (go : Go) (asked : 
   stays m h v = rw (sym (verdict m h) ∙ v) h
 
   pub ran : (m : Memory) → Holds chart first m → has-verdict (m .analysis .verdict) ≡ false → {r : Called} {t l : List ℤ}
-      → Ends (run-outcome words (go .budget) m) r t l → Holds chart (explored chart (asking go)) (lent t l (r .analysis))
+      → Ends-called (run-outcome words (go .budget) m) r t l → Holds chart (explored chart (asking go)) (lent t l (r .analysis))
   ran m h p e =
       let v = sym (verdict m h) ∙ p in
       let o = run-goes words formed first first-good (h .over) (h .table) (h .list) (go .budget) (fine .budget) v (start-iterations chart inside (go .settings) (natAbs (go .capacity)) (initial chart)) in

@@ -1,8 +1,17 @@
 // One abstract state as a row of words, its location and then one word a variable: order, join and merge.
+use semantics::LocationId;
 ghost use mathlib.Core.Path.{_≡_};
 ghost use Prim.Native.Nat.{_<_};
 ghost use lib.ListN.{length, drop};
+ghost use Rattle.semantics.specs.Encoding.{count};
 ghost use Rattle.rows.specs.Rows.{word-leq, word-join, words-leq, same-words, row-leq, row-join, row-merge};
+
+// The location of a row.
+pub fn location_of(row: &[i32]) -> LocationId
+    ensures { λ r. ⌜ (r .0 ≡ count (now (row .entry)) 0) × (r .0 < 2147483649) ⌝ }
+{
+    LocationId(words::number_at(row, 0))
+}
 
 fn leq_word(x: i32, y: i32) -> bool
     ensures { λ r. ⌜ r ≡ word-leq x y ⌝ }
@@ -21,7 +30,7 @@ pub fn join_word(x: i32, y: i32) -> i32
 }
 
 // Whether the values of e lie under those of s. No branch: rows are short.
-fn leq_values(s: &[i32], e: &[i32]) -> bool
+fn leq_values(e: &[i32], s: &[i32]) -> bool
     requires { ⌜ (length (now s) ≡ length (now e)) × (0 < length (now e)) ⌝ }
     ensures { λ r. ⌜ r ≡ words-leq (drop 1 (now (e .entry))) (drop 1 (now (s .entry))) ⌝ }
 {
@@ -37,14 +46,14 @@ fn leq_values(s: &[i32], e: &[i32]) -> bool
 }
 
 // Whether the row e lies under the row s.
-pub fn leq_row(s: &[i32], e: &[i32]) -> bool
+pub fn leq_row(e: &[i32], s: &[i32]) -> bool
     requires { ⌜ (length (now s) ≡ length (now e)) × (0 < length (now e)) ⌝ }
     ensures { λ r. ⌜ r ≡ row-leq (now (e .entry)) (now (s .entry)) ⌝ }
 {
     let l = e[0];
     let m = s[0];
     if l == m {
-        return leq_values(s, e);
+        return leq_values(e, s);
     }
     false
 }

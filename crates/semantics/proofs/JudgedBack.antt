@@ -11,9 +11,10 @@ use lib.Signed.{leZ}
 use Rattle.semantics.specs.Lists.{all, is-empty}
 use Rattle.semantics.specs.Text.{decimal, decimalZ, between, name-byte, name-ok, same-bytes}
 use Rattle.semantics.specs.Chart.{Value, known, top, Var, Loc, Operand, num, var, Rel, eq, ne, lt, le, gt, ge, Op, assign, add, sub, input, assume, skip, Edge, Chart, within, in-range, small}
-use Rattle.semantics.specs.Reading.{ok, check, andThen, location-field, target-field, operand-field, init-field, kind-field, rel-text, rel-field, OpWord, do-set, do-add, do-sub, do-in, do-if, do-skip, op-word-field, field-count, So-far, nth, none-empty, var-line, loc-line, op-fields-read, edge-line, judge, ended, judged, number-field}
+use Rattle.semantics.specs.Reading.{ok, check, if-ok, location-field, target-field, operand-field, init-field, kind-field, rel-text, rel-field, OpWord, do-set, do-add, do-sub, do-in, do-if, do-skip, op-word-field, field-count, So-far, nth, none-empty, var-line, loc-line, op-fields-read, edge-line, judge, ended, judged, number-field}
 use Rattle.semantics.specs.Encoding.{init-ok, var-ok, distinct-names, operand-ok, op-ok, edge-ok}
-use Rattle.semantics.specs.Rendering.{operand-text, init-text, kind-text, var-fields, loc-fields, op-fields, edge-fields, vars-fields}
+use Rattle.semantics.specs.Rendering.{operand-text, kind-text, var-fields, loc-fields, op-fields, edge-fields, vars-fields}
+use Rattle.semantics.specs.Listing.{val-text}
 use Rattle.semantics.proofs.Values.{and-left, and-right}
 use Rattle.semantics.proofs.Stored.{to-true, both-true}
 use Rattle.semantics.proofs.Numbers.{in-between, not-eq, leads, natural-back, number-back}
@@ -44,24 +45,24 @@ not-dollar : (l : List ℕ) → Head l → eqb (getD l 0 0) 36 ≡ false
 not-dollar l h = rw (h .same) (not-eq (h .byte) 36 (λ e. omega (arith, h .low)))
 
 number-at : (z : ℤ) → T (small z) → number-field (decimalZ z) ≡ ok z
-unfolding number-field check andThen
+unfolding number-field check if-ok
 number-at z t = rw (number-back z, to-true (small z) t)
 
 location-at : (n k : ℕ) → T (ltb k n) → location-field n (decimal k) ≡ ok k
-unfolding location-field check andThen
+unfolding location-field check if-ok
 location-at n k t = rw (number-back (pos k), to-true (ltb k n) t)
 
 target-at : (n k : ℕ) → T (ltb k n) → target-field n (36 ∷ decimal k) ≡ ok k
-unfolding target-field check andThen
+unfolding target-field check if-ok
 target-at n k t = rw (natural-back k, to-true (ltb k n) t)
 
 operand-back : (c : Chart) (a : Operand) → T (operand-ok (c .vars) a) → operand-field (length (c .vars)) (operand-text a) ≡ ok a
-unfolding operand-field check andThen
+unfolding operand-field check if-ok
 operand-back c (num z) t = rw (not-dollar (decimalZ z) (headZ z), number-at z t)
 operand-back c (var k) t = rw (target-at (length (c .vars)) k t)
 
-init-back : (lo hi : ℤ) (x : Value) → T (init-ok lo hi x) → init-field lo hi (init-text x) ≡ ok x
-unfolding init-field check andThen
+init-back : (lo hi : ℤ) (x : Value) → T (init-ok lo hi x) → init-field lo hi (val-text x) ≡ ok x
+unfolding init-field check if-ok
 init-back lo hi (known z) t = rw (not-star (decimalZ z) (headZ z), number-at z (and-left (small z) (within lo hi z) t), to-true (within lo hi z) (and-right (small z) (within lo hi z) t))
 init-back lo hi top t = refl
 
@@ -137,7 +138,7 @@ module _ (x y z : List ℕ) where
   op-count skip = refl
 
   op-back : (c : Chart) (o : Op) → T (op-ok (c .vars) o) → op-fields-read c (word-of o) (x ∷ y ∷ z ∷ op-fields o) ≡ ok o
-  unfolding op-fields-read word-of check andThen
+  unfolding op-fields-read word-of check if-ok
   op-back c (assign v a) t = let l : T (ltb v (length (c .vars))) = search (and-left, and-right) in rw (target-at (length (c .vars)) v l, operand-back c a (search (and-left, and-right)))
   op-back c (add v a b) t =
       let l : T (ltb v (length (c .vars))) = search (and-left, and-right) in
@@ -197,7 +198,7 @@ abbrev pub vars-so-far : ℕ → List Var → So-far
 vars-so-far i vs = record { names = made i; chart = record { vars = vs; locs = []; edges = [] } }
 
 var-back : (i : ℕ) (pre : List Var) (v : Var) → i < 8 → length pre < 8 → T (var-ok v) → T (all (λ m. not (same-bytes m ((97 + i) ∷ []))) (made i)) → judge (vars-so-far i pre) (var-fields i v) ≡ ok (vars-so-far (suc i) (pre ++ (v ∷ [])))
-unfolding judge var-line made check andThen
+unfolding judge var-line made check if-ok
 var-back i pre v il l t New =
     let sl : T (small (v .lo)) = search (and-left, and-right) in
     let sh : T (small (v .hi)) = search (and-left, and-right) in
@@ -216,7 +217,7 @@ var-back i pre v il l t New =
       to-true (all (λ m. not (same-bytes m ((97 + i) ∷ []))) (made i)) New,
     )
   where
-    init-filled : (x : Value) → is-empty (init-text x) ≡ false
+    init-filled : (x : Value) → is-empty (val-text x) ≡ false
     init-filled (known z) = filled (decimalZ z) (headZ z)
     init-filled top = refl
 
@@ -259,7 +260,7 @@ locs-so-far ns vs ls = record { names = ns; chart = record { vars = vs; locs = l
 
 module _ (ns : List (List ℕ)) (vs : List Var) where
   loc-back : (pre : List Loc) (l : Loc) → length pre < 64 → T (name-ok (l .name)) → T (all (λ m. not (same-bytes (m .name) (l .name))) pre) → judge (locs-so-far ns vs pre) (loc-fields l) ≡ ok (locs-so-far ns vs (pre ++ (l ∷ [])))
-  unfolding judge loc-line check andThen
+  unfolding judge loc-line check if-ok
   loc-back pre l h t New =
       rw (
         to-true (ltb (length pre) 64) (lt→ltb (length pre) 64 h),
@@ -287,7 +288,7 @@ module _ (ns : List (List ℕ)) (c : Chart) where
   edges-so-far gs = record { names = ns; chart = record { vars = c .vars; locs = c .locs; edges = gs } }
 
   edge-back : (pre : List Edge) (g : Edge) → length pre < 256 → T (edge-ok c g) → judge (edges-so-far pre) (edge-fields g) ≡ ok (edges-so-far (pre ++ (g ∷ [])))
-  unfolding judge edge-line check andThen
+  unfolding judge edge-line check if-ok
   edge-back pre g h t =
       let f : T (ltb (g .from) (length (c .locs))) = search (and-left, and-right) in
       let u : T (ltb (g .to) (length (c .locs))) = search (and-left, and-right) in

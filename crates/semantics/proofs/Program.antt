@@ -10,9 +10,8 @@ use lib.ListN.{length}
 use lib.IntN.{natAbs}
 use Rattle.semantics.specs.Lists.{pick}
 use Rattle.semantics.specs.Chart.{Chart}
-use Rattle.semantics.specs.Algorithm.{Exploration}
+use Rattle.semantics.specs.Algorithm.{Exploration, allowed}
 use Rattle.semantics.specs.Constants.{AbstractState, initial}
-use Rattle.semantics.specs.Coverage.{allowed}
 use Rattle.semantics.specs.Encoding.{chart-ok}
 use Rattle.semantics.specs.Memory.{width, capacity-ok, Memory}
 use Rattle.semantics.specs.Listing.{listing-text}

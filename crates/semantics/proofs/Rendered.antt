@@ -13,7 +13,8 @@ use Rattle.semantics.specs.Text.{decimal, decimalZ, between, name-byte, 
 use Rattle.semantics.specs.Chart.{Value, known, top, Var, Loc, Operand, num, var, Rel, eq, ne, lt, le, gt, ge, Op, assign, add, sub, input, assume, skip, Edge, Chart, within, small}
 use Rattle.semantics.specs.Reading.{accepted, rel-text, ended, nothing-read, read}
 use Rattle.semantics.specs.Encoding.{init-ok, var-ok, operand-ok, op-ok, edge-ok, chart-ok}
-use Rattle.semantics.specs.Rendering.{operand-text, init-text, kind-text, var-fields, loc-fields, op-fields, edge-fields, vars-fields, chart-fields, tabbed, text-of, render}
+use Rattle.semantics.specs.Rendering.{operand-text, kind-text, var-fields, loc-fields, op-fields, edge-fields, vars-fields, chart-fields, fields-text, lines-text, render}
+use Rattle.semantics.specs.Listing.{val-text}
 use Rattle.semantics.specs.Coverage.{Every}
 use Rattle.semantics.proofs.ListFacts.{from-true}
 use Rattle.semantics.proofs.Values.{and-left, and-right}
@@ -29,19 +30,19 @@ abbrev pub size : List (List ℕ) → ℕ
 size [] = 0
 size (f ∷ fs) = length f + suc (size fs)
 
-tab-size : (f : List ℕ) (gs : List (List ℕ)) → suc (length (tabbed f gs)) ≡ size (f ∷ gs)
+tab-size : (f : List ℕ) (gs : List (List ℕ)) → suc (length (fields-text f gs)) ≡ size (f ∷ gs)
 tab-size f [] = omega arith
-tab-size f (g ∷ gs) = omega (arith, length-append f (9 ∷ tabbed g gs), tab-size g gs)
+tab-size f (g ∷ gs) = omega (arith, length-append f (9 ∷ fields-text g gs), tab-size g gs)
 
 -- a line that is plain and not long
 record Fine (l : List (List ℕ)) : Type 0 where
   plain : LineOk l
   short : size l ≤ 48
 
-text-short : (ls : List (List (List ℕ))) → Every Fine ls → length (text-of ls) ≤ length ls * 48
+text-short : (ls : List (List (List ℕ))) → Every Fine ls → length (lines-text ls) ≤ length ls * 48
 text-short [] h = omega arith
 text-short ([] ∷ ls) h = absurd (h .0 .plain)
-text-short ((f ∷ gs) ∷ ls) h = omega (arith, length-append (tabbed f gs) (10 ∷ text-of ls), tab-size f gs, h .0 .short, text-short ls (h .1))
+text-short ((f ∷ gs) ∷ ls) h = omega (arith, length-append (fields-text f gs) (10 ∷ lines-text ls), tab-size f gs, h .0 .short, text-short ls (h .1))
 
 every-plain : (ls : List (List (List ℕ))) → Every Fine ls → Every LineOk ls
 every-plain [] h = tt
@@ -114,7 +115,7 @@ rel-plain ge = (tt, omega arith)
 
 -- ---- lines
 
-init-fine : (lo hi : ℤ) (x : Value) → T (init-ok lo hi x) → Plain (init-text x) × (length (init-text x) ≤ 6)
+init-fine : (lo hi : ℤ) (x : Value) → T (init-ok lo hi x) → Plain (val-text x) × (length (val-text x) ≤ 6)
 unfolding plain
 init-fine lo hi (known z) t = (decZ-plain z, decZ-short z (and-left (small z) (within lo hi z) t))
 init-fine lo hi top t = (tt, omega arith)

@@ -7,8 +7,8 @@ use mathlib.Core.Option.{Option, none, some}
 use Prim.Native.Nat.{ℕ, zero, suc}
 use lib.Dec.{ltb}
 use lib.ListN.{length}
-use Rattle.semantics.specs.Lists.{some-of, get, pick}
-use Rattle.semantics.specs.Algorithm.{Domain, Step, halt, fault, to, Mode, Sep, Join, Verdict, Open, Safe, Alarm, Full, Settings, Exploration, Out, on, alarmed, full, then, verdict-of, Taken, take-by, put-back, joined, note-unless, changed, wait-all, merged, rewait, keep-if, of-place, leq-joined, stopped, store-if, stop-if, arrive, error-if, visit, leave, finish, with-copy, with-taken, iteration, iterate-if, run, start-with, first-verdict, start}
+use Rattle.semantics.specs.Lists.{some-of, get, pick, cons-unless}
+use Rattle.semantics.specs.Algorithm.{Domain, Step, halt, fault, to, Mode, Sep, Join, Verdict, Open, Safe, Alarm, Full, Settings, Exploration, Out, on, alarmed, full, then, verdict-of, Taken, take-by, put-back, joined, changed, wait-all, merged, rewait, keep-if, of-place, leq-joined, stopped, store-if, stop-if, arrive, error-if, visit, leave, finish, with-copy, with-taken, iteration, iterate-if, run, start-with, first-verdict, start}
 
 abbrev pub AllPairs : {A B : Type 0} (R : A → B → Type 0) → List A → List B → Type 0
 AllPairs R [] [] = Unit
@@ -77,8 +77,8 @@ module _ {E F G H : Type 0} (D : Domain E G) (K : Domain F H) (R : E → F → T
   changed-R e f i [] (y ∷ ys) r a = absurd a
   changed-R e f i (x ∷ xs) [] r a = absurd a
   changed-R e f i (x ∷ xs) (y ∷ ys) r a =
-      ap (λ (b : Bool). note-unless b i (changed D e (suc i) xs)) (ag .equal (joined D e x) x (joined K f y) y (joined-R e x f y r (a .0)) (a .0))
-      ∙ ap (λ (l : List ℕ). note-unless (K .equal (joined K f y) y) i l) (changed-R e f (suc i) xs ys r (a .1))
+      ap (λ (b : Bool). cons-unless b i (changed D e (suc i) xs)) (ag .equal (joined D e x) x (joined K f y) y (joined-R e x f y r (a .0)) (a .0))
+      ∙ ap (λ (l : List ℕ). cons-unless (K .equal (joined K f y) y) i l) (changed-R e f (suc i) xs ys r (a .1))
 
   merged-R : (m : Mode) (e : E) (f : F) (xs : List E) (ys : List F) → R e f → AllPairs R xs ys → AllPairs R (merged D m e xs) (merged K m f ys)
   merged-R Sep e f xs ys r a = a

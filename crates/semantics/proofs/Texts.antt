@@ -11,7 +11,7 @@ use lib.ListN.{length}
 use Rattle.semantics.specs.Lists.{all, pick}
 use Rattle.semantics.specs.Text.{between, lines, fields}
 use Rattle.semantics.specs.Reading.{judged, nothing-read, byte-ok, bad-byte-line, open-line, read}
-use Rattle.semantics.specs.Rendering.{tabbed, text-of}
+use Rattle.semantics.specs.Rendering.{fields-text, lines-text}
 use Rattle.semantics.specs.Coverage.{Every}
 use Rattle.semantics.proofs.ListFacts.{from-true}
 use Rattle.semantics.proofs.Values.{and-left, and-right}
@@ -54,9 +54,9 @@ field-next (b ∷ bs) more t =
     let r = plain-range b (and-left (plain b) (all plain bs) t) in
     rw (not-eq b 9 (λ e. omega arith), field-next bs more (and-right (plain b) (all plain bs) t))
 
-fields-back : (f : List ℕ) (gs : List (List ℕ)) → Plain f → Every Plain gs → fields (tabbed f gs) ≡ f ∷ gs
+fields-back : (f : List ℕ) (gs : List (List ℕ)) → Plain f → Every Plain gs → fields (fields-text f gs) ≡ f ∷ gs
 fields-back f [] t h = field-last f t
-fields-back f (g ∷ gs) t h = field-next f (tabbed g gs) t ∙ ap (λ (l : List (List ℕ)). f ∷ l) (fields-back g gs (h .0) (h .1))
+fields-back f (g ∷ gs) t h = field-next f (fields-text g gs) t ∙ ap (λ (l : List (List ℕ)). f ∷ l) (fields-back g gs (h .0) (h .1))
 
 -- ---- lines
 
@@ -80,22 +80,22 @@ inner-plain b t = go (eqb b 9)
     go true = tt
     go false = t
 
-tabbed-inner : (f : List ℕ) (gs : List (List ℕ)) → Plain f → Every Plain gs → T (all inner (tabbed f gs))
+tabbed-inner : (f : List ℕ) (gs : List (List ℕ)) → Plain f → Every Plain gs → T (all inner (fields-text f gs))
 unfolding inner
 tabbed-inner f [] t h = all-weaker plain inner inner-plain f t
-tabbed-inner f (g ∷ gs) t h = all-append inner f (9 ∷ tabbed g gs) (all-weaker plain inner inner-plain f t) (tabbed-inner g gs (h .0) (h .1))
+tabbed-inner f (g ∷ gs) t h = all-append inner f (9 ∷ fields-text g gs) (all-weaker plain inner inner-plain f t) (tabbed-inner g gs (h .0) (h .1))
 
 line-next : (l more : List ℕ) → T (all inner l) → lines (l ++ (10 ∷ more)) ≡ l ∷ lines more
 unfolding lines
 line-next [] more t = refl
 line-next (b ∷ bs) more t = rw (inner-not-10 b (and-left (inner b) (all inner bs) t), line-next bs more (and-right (inner b) (all inner bs) t))
 
-pub lines-back : (ls : List (List (List ℕ))) → Every LineOk ls → map fields (lines (text-of ls)) ≡ ls
+pub lines-back : (ls : List (List (List ℕ))) → Every LineOk ls → map fields (lines (lines-text ls)) ≡ ls
 unfolding lines
 lines-back [] h = refl
 lines-back ([] ∷ ls) h = absurd (h .0)
 lines-back ((f ∷ gs) ∷ ls) h =
-    ap (map fields) (line-next (tabbed f gs) (text-of ls) (tabbed-inner f gs (h .0 .0) (h .0 .1)))
+    ap (map fields) (line-next (fields-text f gs) (lines-text ls) (tabbed-inner f gs (h .0 .0) (h .0 .1)))
     ∙ (λ i. fields-back f gs (h .0 .0) (h .0 .1) i ∷ lines-back ls (h .1) i)
 
 -- ---- bytes
@@ -109,10 +109,10 @@ inner-ok b t = go (eqb b 9) (eqb b 10) t
     go false true u = tt
     go false false u = u
 
-bytes-ok : (ls : List (List (List ℕ))) → Every LineOk ls → T (all byte-ok (text-of ls))
+bytes-ok : (ls : List (List (List ℕ))) → Every LineOk ls → T (all byte-ok (lines-text ls))
 bytes-ok [] h = tt
 bytes-ok ([] ∷ ls) h = absurd (h .0)
-bytes-ok ((f ∷ gs) ∷ ls) h = all-append byte-ok (tabbed f gs) (10 ∷ text-of ls) (all-weaker inner byte-ok inner-ok (tabbed f gs) (tabbed-inner f gs (h .0 .0) (h .0 .1))) (bytes-ok ls (h .1))
+bytes-ok ((f ∷ gs) ∷ ls) h = all-append byte-ok (fields-text f gs) (10 ∷ lines-text ls) (all-weaker inner byte-ok inner-ok (fields-text f gs) (tabbed-inner f gs (h .0 .0) (h .0 .1))) (bytes-ok ls (h .1))
 
 no-bad-byte : (n : ℕ) (l : List ℕ) → T (all byte-ok l) → bad-byte-line n l ≡ none
 unfolding bad-byte-line
@@ -124,15 +124,15 @@ unfolding open-line
 ended-line [] more h n last = h (pick (eqb last 10) (suc n) n)
 ended-line (b ∷ bs) more h n last = ended-line bs more h (pick (eqb last 10) (suc n) n) b
 
-no-open-line : (ls : List (List (List ℕ))) → Every LineOk ls → (n : ℕ) → open-line n 10 (text-of ls) ≡ none
+no-open-line : (ls : List (List (List ℕ))) → Every LineOk ls → (n : ℕ) → open-line n 10 (lines-text ls) ≡ none
 unfolding open-line
 no-open-line [] h n = refl
 no-open-line ([] ∷ ls) h n = absurd (h .0)
-no-open-line ((f ∷ gs) ∷ ls) h n = ended-line (tabbed f gs) (text-of ls) (no-open-line ls (h .1)) n 10
+no-open-line ((f ∷ gs) ∷ ls) h n = ended-line (fields-text f gs) (lines-text ls) (no-open-line ls (h .1)) n 10
 
 -- the text is judged by its lines' fields
-pub read-text : (ls : List (List (List ℕ))) → Every LineOk ls → length (text-of ls) ≤ 32768 → read (text-of ls) ≡ judged 1 nothing-read ls
+pub read-text : (ls : List (List (List ℕ))) → Every LineOk ls → length (lines-text ls) ≤ 32768 → read (lines-text ls) ≡ judged 1 nothing-read ls
 unfolding read
 read-text ls h l =
-    let s : ltb 32768 (length (text-of ls)) ≡ false = to-false (ltb 32768 (length (text-of ls))) (λ t. let q = lib.Dec.ltb→lt 32768 (length (text-of ls)) t in omega arith) in
-    rw (s, no-bad-byte 1 (text-of ls) (bytes-ok ls h), no-open-line ls h 0, lines-back ls h)
+    let s : ltb 32768 (length (lines-text ls)) ≡ false = to-false (ltb 32768 (length (lines-text ls))) (λ t. let q = lib.Dec.ltb→lt 32768 (length (lines-text ls)) t in omega arith) in
+    rw (s, no-bad-byte 1 (lines-text ls) (bytes-ok ls h), no-open-line ls h 0, lines-back ls h)

@@ -9,8 +9,8 @@ use Prim.Native.Nat.{ℕ, zero, suc, _+_, _≤_, _<_, zero-le}
 use native.Mathlib.Omega.{arith}
 use lib.Dec.{T, ltb, eqb, eqb→eq, eqb-refl, ltb→lt}
 use lib.ListN.{length, length-append, length-map}
-use Rattle.semantics.specs.Lists.{In, some-of, get, pick}
-use Rattle.semantics.specs.Algorithm.{verdict-of, Domain, Step, halt, fault, to, Mode, Sep, Order, Old, New, Verdict, Open, Safe, Alarm, Full, Settings, Exploration, Out, on, alarmed, full, then, wait, join-unless, drop-if, without, Taken, later, take-last, take-by, put-back, joined, note-unless, changed, wait-all, merged, rewait, stopped, store-if, stop-if, arrive, error-if, visit, leave, finish, with-copy, with-taken, iteration, run, start, Join, iterate-if, start-with, first-verdict}
+use Rattle.semantics.specs.Lists.{In, some-of, get, pick, cons-unless}
+use Rattle.semantics.specs.Algorithm.{verdict-of, Domain, Step, halt, fault, to, Mode, Sep, Order, Old, New, Verdict, Open, Safe, Alarm, Full, Settings, Exploration, Out, on, alarmed, full, then, wait, join-unless, without, Taken, later, take-last, take-by, put-back, joined, changed, wait-all, merged, rewait, stopped, store-if, stop-if, arrive, error-if, visit, leave, finish, with-copy, with-taken, iteration, run, start, Join, iterate-if, start-with, first-verdict}
 use Rattle.semantics.proofs.ListFacts.{from-true, from-false, none-some, in-last}
 use Rattle.semantics.specs.Coverage.{Distinct, Queue, Every, Tidy}
 
@@ -49,7 +49,7 @@ pub without-in : (k j : ℕ) (w : List ℕ) → In j (without k w) → In j w
 without-in k j [] h = h
 without-in k j (x ∷ xs) h = go (eqb k x) h (without-in k j xs)
   where
-    go : (b : Bool) → In j (drop-if b x (without k xs)) → (In j (without k xs) → In j xs) → In j (x ∷ xs)
+    go : (b : Bool) → In j (cons-unless b x (without k xs)) → (In j (without k xs) → In j xs) → In j (x ∷ xs)
     go true i ih = inr (ih i)
     go false (inl p) ih = inl p
     go false (inr i) ih = inr (ih i)
@@ -58,7 +58,7 @@ pub without-not : (k : ℕ) (w : List ℕ) → In k (without k w) → ⊥
 without-not k [] h = h
 without-not k (x ∷ xs) h = go (eqb k x) refl h (without-not k xs)
   where
-    go : (b : Bool) → eqb k x ≡ b → In k (drop-if b x (without k xs)) → (In k (without k xs) → ⊥) → ⊥
+    go : (b : Bool) → eqb k x ≡ b → In k (cons-unless b x (without k xs)) → (In k (without k xs) → ⊥) → ⊥
     go true e i ih = ih i
     go false e (inl p) ih = from-false e (subst (λ (n : ℕ). T (eqb k n)) p (eqb-refl k))
     go false e (inr i) ih = ih i
@@ -67,7 +67,7 @@ pub without-distinct : (k : ℕ) (w : List ℕ) → Distinct w → Distinct (wit
 without-distinct k [] d = tt
 without-distinct k (x ∷ xs) d = go (eqb k x) (without-distinct k xs (d .1))
   where
-    go : (b : Bool) → Distinct (without k xs) → Distinct (drop-if b x (without k xs))
+    go : (b : Bool) → Distinct (without k xs) → Distinct (cons-unless b x (without k xs))
     go true ih = ih
     go false ih = ((λ i. d .0 (without-in k x xs i)), ih)
 
@@ -76,7 +76,7 @@ without-none : (k : ℕ) (w : List ℕ) → (In k w → ⊥) → length (without
 without-none k [] h = refl
 without-none k (x ∷ xs) h = go (eqb k x) refl (without-none k xs (λ i. h (inr i)))
   where
-    go : (b : Bool) → eqb k x ≡ b → length (without k xs) ≡ length xs → length (drop-if b x (without k xs)) ≡ suc (length xs)
+    go : (b : Bool) → eqb k x ≡ b → length (without k xs) ≡ length xs → length (cons-unless b x (without k xs)) ≡ suc (length xs)
     go true e ih = absurd (h (inl (eqb→eq k x (from-true e))))
     go false e ih = ap suc ih
 
@@ -84,7 +84,7 @@ without-length : (k : ℕ) (w : List ℕ) → Distinct w → length w ≤ suc (l
 without-length k [] d = zero-le
 without-length k (x ∷ xs) d = go (eqb k x) refl (without-length k xs (d .1))
   where
-    go : (b : Bool) → eqb k x ≡ b → length xs ≤ suc (length (without k xs)) → suc (length xs) ≤ suc (length (drop-if b x (without k xs)))
+    go : (b : Bool) → eqb k x ≡ b → length xs ≤ suc (length (without k xs)) → suc (length xs) ≤ suc (length (cons-unless b x (without k xs)))
     go true e ih = omega (arith, without-none k xs (λ i. d .0 (subst (λ (n : ℕ). In n xs) (eqb→eq k x (from-true e)) i)))
     go false e ih = omega arith
 
@@ -155,7 +155,7 @@ module _ {E G : Type 0} (D : Domain E G) where
   changed-used f i [] k h = absurd h
   changed-used f i (x ∷ xs) k h = go (D .equal (joined D f x) x) h (changed-used f (suc i) xs k)
     where
-      go : (b : Bool) → In k (note-unless b i (changed D f (suc i) xs)) → (In k (changed D f (suc i) xs) → k < suc i + length xs) → k < i + suc (length xs)
+      go : (b : Bool) → In k (cons-unless b i (changed D f (suc i) xs)) → (In k (changed D f (suc i) xs) → k < suc i + length xs) → k < i + suc (length xs)
       go true h ih = omega (arith, ih h)
       go false (inl p) ih = omega arith
       go false (inr q) ih = omega (arith, ih q)

@@ -10,9 +10,9 @@ use mathlib.Core.List.{append-nil, append-assoc}
 use lib.Seq.{take-all, take-append-seam}
 use lib.IntN.{ℤ, pos, negsuc, natAbs}
 use Rattle.semantics.specs.Chart.{Chart, numbered}
-use Rattle.semantics.specs.Algorithm.{Settings, Exploration, start, start-with, first-verdict}
+use Rattle.semantics.specs.Algorithm.{Settings, Exploration, start, start-with, first-verdict, allowed}
 use Rattle.semantics.specs.Constants.{AbstractState, Covers, constants, initial}
-use Rattle.semantics.specs.Coverage.{allowed, Allowed, Covering, system, Fit}
+use Rattle.semantics.specs.Coverage.{Allowed, Covering, system, Fit}
 use Rattle.semantics.specs.Encoding.{encode, well-formed, chart-ok}
 use Rattle.semantics.specs.Memory.{Memory, width, table-of, waitlist-of, analysis-of, store, load, capacity-ok, analysis-ok}
 use Rattle.semantics.specs.Listing.{listing-text}

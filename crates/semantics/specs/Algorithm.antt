@@ -8,7 +8,7 @@ use mathlib.Core.Option.{Option, none, some}
 use Prim.Native.Nat.{ℕ, zero, suc}
 use lib.Dec.{ltb, eqb}
 use lib.ListN.{length}
-use Rattle.semantics.specs.Lists.{pick, some-of, get}
+use Rattle.semantics.specs.Lists.{pick, cons-unless, some-of, get}
 pub use Rattle.semantics.specs.declared.Mode.{Mode}
 pub use Rattle.semantics.specs.declared.Mode.the-variants.{Sep, Join}
 pub use Rattle.semantics.specs.declared.Order.{Order}
@@ -16,6 +16,15 @@ pub use Rattle.semantics.specs.declared.Order.the-variants.{Old, New}
 pub use Rattle.semantics.specs.declared.Verdict.{Verdict}
 pub use Rattle.semantics.specs.declared.Verdict.the-variants.{Open, Safe, Alarm, Full}
 pub use Rattle.semantics.specs.declared.Settings.{Settings}
+
+-- ---- the settings
+
+-- "merge sep with stop join" is 12: a joined stop drops values that no separate slot covers
+abbrev pub allowed : Mode → Mode → Bool
+allowed Sep Sep = true
+allowed Sep Join = false
+allowed Join Sep = true
+allowed Join Join = true
 
 -- ---- what a domain gives: E its abstract states, G the edges
 
@@ -87,13 +96,9 @@ abbrev pub take-by : Order → List ℕ → Option Taken
 take-by Old w = take-first w
 take-by New w = take-last w
 
-abbrev pub drop-if : Bool → ℕ → List ℕ → List ℕ
-drop-if true x r = r
-drop-if false x r = x ∷ r
-
 abbrev pub without : ℕ → List ℕ → List ℕ
 without k [] = []
-without k (x ∷ xs) = drop-if (eqb k x) x (without k xs)
+without k (x ∷ xs) = cons-unless (eqb k x) x (without k xs)
 
 -- "the taken slot goes back (or is moved) to the place taken next"
 abbrev pub put-back : Order → ℕ → List ℕ → List ℕ
@@ -123,10 +128,6 @@ abbrev pub first-verdict : Bool → Verdict
 first-verdict true = Alarm
 first-verdict false = Open
 
-abbrev pub note-unless : Bool → ℕ → List ℕ → List ℕ
-note-unless true i r = r
-note-unless false i r = i ∷ r
-
 module _ {E G : Type 0} (D : Domain E G) where
   -- step 2. `join` "changes only a slot of the same location, to the join"
   abbrev pub joined : E → E → E
@@ -135,7 +136,7 @@ module _ {E G : Type 0} (D : Domain E G) where
   -- the slots, counted from i, that it changes
   abbrev pub changed : E → ℕ → List E → List ℕ
   changed e i [] = []
-  changed e i (x ∷ xs) = note-unless (D .equal (joined e x) x) i (changed e (suc i) xs)
+  changed e i (x ∷ xs) = cons-unless (D .equal (joined e x) x) i (changed e (suc i) xs)
 
   -- "`sep` never changes a slot"
   abbrev pub merged : Mode → E → List E → List E

@@ -2,7 +2,7 @@
 -- "Runs"; what covered means is the trainer's third demand (docs/DECISIONS.md). Assumes nothing.
 use mathlib.Core.Path.{_≡_}
 use mathlib.Core.Logic.{_⊎_}
-use mathlib.Core.Bool.{Bool, true, false}
+use mathlib.Core.Bool.{false}
 use mathlib.Core.List.{List, [], _∷_, _++_}
 use Prim.Native.Nat.{ℕ, _≤_, _<_}
 use lib.Dec.{T}
@@ -10,7 +10,7 @@ use lib.ListN.{length}
 use Rattle.semantics.specs.Lists.{At, In}
 use Rattle.semantics.specs.Chart.{Chart, Numbered, numbered, State, Initial, Moves, Error}
 use Rattle.semantics.specs.Constants.{AbstractState, Covers, constants, initial}
-use Rattle.semantics.specs.Algorithm.{Domain, Mode, Sep, Join, Settings, Exploration, Safe, Alarm, Out, on, alarmed, full, fault, to, start, run}
+use Rattle.semantics.specs.Algorithm.{Domain, Settings, allowed, Exploration, Safe, Alarm, Out, on, alarmed, full, fault, to, start, run}
 
 -- ---- executions
 
@@ -126,13 +126,6 @@ pub record Laws {E G S : Type 0} (M : System G S) (D : Domain E G) (Fit : E → 
   pub error-covers : (e : E) (s : S) → Covers e s → M .Error s → T (D .error e)
 
 -- ---- the claim over any list of start and run calls
-
--- "merge sep with stop join" is 12: a joined stop drops values that no separate slot covers
-abbrev pub allowed : Mode → Mode → Bool
-allowed Sep Sep = true
-allowed Sep Join = false
-allowed Join Sep = true
-allowed Join Join = true
 
 abbrev pub Allowed : Settings → Type 0
 Allowed s = T (allowed (s .merge) (s .stop))

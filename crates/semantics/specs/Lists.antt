@@ -11,6 +11,11 @@ abbrev pub pick : {A : Type 0} → Bool → A → A → A
 pick true a b = a
 pick false a b = b
 
+-- x in front, unless the test passes
+abbrev pub cons-unless : {A : Type 0} → Bool → A → List A → List A
+cons-unless true x r = r
+cons-unless false x r = x ∷ r
+
 abbrev pub some-if : {A : Type 0} → Bool → A → Option A
 some-if true a = some a
 some-if false a = none

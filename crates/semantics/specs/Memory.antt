@@ -10,8 +10,7 @@ use lib.Signed.{nonNeg}
 use Rattle.semantics.specs.Lists.{some-of, all, all-pairs, all-of, each}
 use Rattle.semantics.specs.Chart.{Var, Chart, eqZ, within}
 use Rattle.semantics.specs.Constants.{AbstractState}
-use Rattle.semantics.specs.Algorithm.{Verdict, Open, Safe, Alarm, Full, Exploration}
-use Rattle.semantics.specs.Coverage.{allowed}
+use Rattle.semantics.specs.Algorithm.{Verdict, Open, Safe, Alarm, Full, Exploration, allowed}
 use Rattle.semantics.specs.Encoding.{word, val, padded}
 pub use Rattle.semantics.specs.declared.Analysis.{Analysis}
 

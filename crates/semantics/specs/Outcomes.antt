@@ -9,8 +9,7 @@ use lib.IntN.{ℤ, pos, natAbs}
 use Rattle.semantics.specs.Chart.{Chart, numbered, within}
 use Rattle.semantics.specs.Reading.{Reading, refused, accepted, read}
 use Rattle.semantics.specs.Constants.{AbstractState, constants, initial}
-use Rattle.semantics.specs.Algorithm.{Settings, Verdict, Open, Safe, Alarm, Full, Exploration, start, run}
-use Rattle.semantics.specs.Coverage.{allowed}
+use Rattle.semantics.specs.Algorithm.{Settings, Verdict, Open, Safe, Alarm, Full, Exploration, start, run, allowed}
 use Rattle.semantics.specs.Encoding.{encode, decode, well-formed}
 use Rattle.semantics.specs.Memory.{Memory, width, table-of, waitlist-of, analysis-of, load, capacity-ok, analysis-ok}
 use Rattle.semantics.specs.Listing.{listing-text}

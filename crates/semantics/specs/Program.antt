@@ -9,10 +9,9 @@ use lib.IntN.{ℤ}
 use Rattle.semantics.specs.Lists.{pick, all}
 use Rattle.semantics.specs.Text.{bytes, between, same-bytes, fields, number-of}
 use Rattle.semantics.specs.Chart.{Chart}
-use Rattle.semantics.specs.Reading.{Res, fail, ok, check, andThen, nth, none-empty, Reading, refused, accepted, read}
+use Rattle.semantics.specs.Reading.{Res, fail, ok, check, if-ok, nth, filled, Reading, refused, accepted, read}
 use Rattle.semantics.specs.Constants.{AbstractState}
-use Rattle.semantics.specs.Algorithm.{Mode, Sep, Join, Order, Old, New, Settings, Exploration}
-use Rattle.semantics.specs.Coverage.{allowed}
+use Rattle.semantics.specs.Algorithm.{Mode, Sep, Join, Order, Old, New, Settings, Exploration, allowed}
 use Rattle.semantics.specs.Memory.{capacity-ok}
 use Rattle.semantics.specs.Listing.{mode-text, order-text, listing-text, refused-text}
 use Rattle.semantics.specs.Outcomes.{budget-ok, has-verdict, started, resumed}
@@ -49,21 +48,25 @@ abbrev pub any-number : Option ℤ → Res ℤ
 any-number none = fail 6
 any-number (some z) = ok z
 
+-- 2, "a byte other than tab, LF, 0x21..0x7E": a byte that may stand before the LF
+abbrev pub line-byte : ℕ → Bool
+line-byte b = eqb b 9 || between 33 126 b
+
 -- "judged first, as line 0, by 1 (input above 64 bytes with no LF in its first 64), 2, 3 (empty input too), 5, 6, 11, 12, 13"
 unfoldable pub go-line : List ℕ → Res Go
 go-line input =
     let l = first-line input in
     let fs = fields l in
     check (not (ltb 64 (length input) && not (has-lf (take 64 input)))) 1
-    (check (all (λ b. eqb b 9 || between 33 126 b) l) 2
+    (check (all line-byte l) 2
     (check (has-lf input) 3
-    (check (eqb (length fs) 6 && none-empty fs) 5
+    (check (filled 6 fs) 5
     (check (same-bytes (nth fs 0) (bytes "go")) 6
-    (andThen (mode-field (nth fs 1)) λ m.
-    andThen (mode-field (nth fs 2)) λ s.
-    andThen (order-field (nth fs 3)) λ o.
-    andThen (any-number (number-of (nth fs 4))) λ r.
-    andThen (any-number (number-of (nth fs 5))) λ a.
+    (if-ok (mode-field (nth fs 1)) λ m.
+    if-ok (mode-field (nth fs 2)) λ s.
+    if-ok (order-field (nth fs 3)) λ o.
+    if-ok (any-number (number-of (nth fs 4))) λ r.
+    if-ok (any-number (number-of (nth fs 5))) λ a.
     check (capacity-ok r) 11
     (check (allowed m s) 12
     (check (budget-ok a) 13

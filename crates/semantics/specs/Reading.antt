@@ -23,9 +23,9 @@ unfoldable pub check : {A : Type 0} → Bool → ℕ → Res A → Res A
 check true n r = r
 check false n r = fail n
 
-unfoldable pub andThen : {A B : Type 0} → Res A → (A → Res B) → Res B
-andThen (fail n) f = fail n
-andThen (ok a) f = f a
+unfoldable pub if-ok : {A B : Type 0} → Res A → (A → Res B) → Res B
+if-ok (fail n) f = fail n
+if-ok (ok a) f = f a
 
 -- ---- one field: by 6, then 7, then 10
 
@@ -54,11 +54,11 @@ target-field n (b ∷ bs) = check (eqb b 36) 6 (below-or n (nonnegative (natural
 
 -- "An operand is a number or `$k`"
 unfoldable pub operand-field : ℕ → List ℕ → Res Operand
-operand-field n f = pick (eqb (getD f 0 0) 36) (andThen (target-field n f) (λ k. ok (var k))) (andThen (number-field f) (λ z. ok (num z)))
+operand-field n f = pick (eqb (getD f 0 0) 36) (if-ok (target-field n f) (λ k. ok (var k))) (if-ok (number-field f) (λ z. ok (num z)))
 
 -- "a number in lo..hi, or `*`"
 unfoldable pub init-field : ℤ → ℤ → List ℕ → Res Value
-init-field lo hi f = pick (same-bytes f (bytes "*")) (ok top) (andThen (number-field f) (λ z. check (within lo hi z) 7 (ok (known z))))
+init-field lo hi f = pick (same-bytes f (bytes "*")) (ok top) (if-ok (number-field f) (λ z. check (within lo hi z) 7 (ok (known z))))
 
 -- "kind `o` ordinary, `e` bad"
 unfoldable pub kind-field : List ℕ → Res Bool
@@ -117,6 +117,10 @@ nth fs k = getD fs k []
 abbrev pub none-empty : List (List ℕ) → Bool
 none-empty fs = all (λ f. not (is-empty f)) fs
 
+-- so many fields, none of them empty: else "wrong count of fields, or an empty one"
+abbrev pub filled : ℕ → List (List ℕ) → Bool
+filled n fs = eqb (length fs) n && none-empty fs
+
 abbrev pub with-var : So-far → List ℕ → Var → So-far
 with-var s n v = record { names = n ∷ s .names; chart = record { vars = s .chart .vars ++ (v ∷ []); locs = s .chart .locs; edges = s .chart .edges } }
 
@@ -131,12 +135,12 @@ unfoldable pub var-line : So-far → List (List ℕ) → Res So-far
 var-line s fs =
     check (is-empty (s .chart .locs) && is-empty (s .chart .edges)) 4
     (check (ltb (length (s .chart .vars)) 8) 8
-    (check (eqb (length fs) 5 && none-empty fs) 5
+    (check (filled 5 fs) 5
     (check (name-ok (nth fs 1)) 6
-    (andThen (number-field (nth fs 2)) λ lo.
-    andThen (number-field (nth fs 3)) λ hi.
+    (if-ok (number-field (nth fs 2)) λ lo.
+    if-ok (number-field (nth fs 3)) λ hi.
     check (leZ lo hi) 7
-    (andThen (init-field lo hi (nth fs 4)) λ x.
+    (if-ok (init-field lo hi (nth fs 4)) λ x.
     check (all (λ m. not (same-bytes m (nth fs 1))) (s .names)) 9
     (ok (with-var s (nth fs 1) (record { lo = lo; hi = hi; init = x }))))))))
 
@@ -145,9 +149,9 @@ unfoldable pub loc-line : So-far → List (List ℕ) → Res So-far
 loc-line s fs =
     check (is-empty (s .chart .edges)) 4
     (check (ltb (length (s .chart .locs)) 64) 8
-    (check (eqb (length fs) 3 && none-empty fs) 5
+    (check (filled 3 fs) 5
     (check (name-ok (nth fs 1)) 6
-    (andThen (kind-field (nth fs 2)) λ k.
+    (if-ok (kind-field (nth fs 2)) λ k.
     check (all (λ m. not (same-bytes (m .name) (nth fs 1))) (s .chart .locs)) 9
     (ok (with-loc s (record { name = nth fs 1; error = k })))))))
 
@@ -155,24 +159,24 @@ loc-line s fs =
 unfoldable pub op-fields-read : Chart → OpWord → List (List ℕ) → Res Op
 op-fields-read c do-skip fs = ok skip
 op-fields-read c do-set fs =
-    andThen (target-field (length (c .vars)) (nth fs 4)) λ v.
-    andThen (operand-field (length (c .vars)) (nth fs 5)) λ a. ok (assign v a)
+    if-ok (target-field (length (c .vars)) (nth fs 4)) λ v.
+    if-ok (operand-field (length (c .vars)) (nth fs 5)) λ a. ok (assign v a)
 op-fields-read c do-add fs =
-    andThen (target-field (length (c .vars)) (nth fs 4)) λ v.
-    andThen (operand-field (length (c .vars)) (nth fs 5)) λ a.
-    andThen (operand-field (length (c .vars)) (nth fs 6)) λ b. ok (add v a b)
+    if-ok (target-field (length (c .vars)) (nth fs 4)) λ v.
+    if-ok (operand-field (length (c .vars)) (nth fs 5)) λ a.
+    if-ok (operand-field (length (c .vars)) (nth fs 6)) λ b. ok (add v a b)
 op-fields-read c do-sub fs =
-    andThen (target-field (length (c .vars)) (nth fs 4)) λ v.
-    andThen (operand-field (length (c .vars)) (nth fs 5)) λ a.
-    andThen (operand-field (length (c .vars)) (nth fs 6)) λ b. ok (sub v a b)
+    if-ok (target-field (length (c .vars)) (nth fs 4)) λ v.
+    if-ok (operand-field (length (c .vars)) (nth fs 5)) λ a.
+    if-ok (operand-field (length (c .vars)) (nth fs 6)) λ b. ok (sub v a b)
 op-fields-read c do-in fs =
-    andThen (target-field (length (c .vars)) (nth fs 4)) λ v.
-    andThen (number-field (nth fs 5)) λ p. check (in-range (c .vars) v p) 7
-    (andThen (number-field (nth fs 6)) λ q. check (in-range (c .vars) v q && leZ p q) 7 (ok (input v p q)))
+    if-ok (target-field (length (c .vars)) (nth fs 4)) λ v.
+    if-ok (number-field (nth fs 5)) λ p. check (in-range (c .vars) v p) 7
+    (if-ok (number-field (nth fs 6)) λ q. check (in-range (c .vars) v q && leZ p q) 7 (ok (input v p q)))
 op-fields-read c do-if fs =
-    andThen (target-field (length (c .vars)) (nth fs 4)) λ v.
-    andThen (rel-field (nth fs 5)) λ r.
-    andThen (operand-field (length (c .vars)) (nth fs 6)) λ a. ok (assume v r a)
+    if-ok (target-field (length (c .vars)) (nth fs 4)) λ v.
+    if-ok (rel-field (nth fs 5)) λ r.
+    if-ok (operand-field (length (c .vars)) (nth fs 6)) λ a. ok (assume v r a)
 
 -- `E from to operation ...`, of which there are at most 256. "An E line with fewer than four fields or an empty one is 5, then an
 -- unknown operation 6, then its field count 5"
@@ -180,11 +184,11 @@ unfoldable pub edge-line : So-far → List (List ℕ) → Res So-far
 edge-line s fs =
     check (ltb (length (s .chart .edges)) 256) 8
     (check (leb 4 (length fs) && none-empty fs) 5
-    (andThen (op-word-field (nth fs 3)) λ w.
+    (if-ok (op-word-field (nth fs 3)) λ w.
     check (eqb (length fs) (field-count w)) 5
-    (andThen (location-field (length (s .chart .locs)) (nth fs 1)) λ from.
-    andThen (location-field (length (s .chart .locs)) (nth fs 2)) λ to.
-    andThen (op-fields-read (s .chart) w fs) λ o.
+    (if-ok (location-field (length (s .chart .locs)) (nth fs 1)) λ from.
+    if-ok (location-field (length (s .chart .locs)) (nth fs 2)) λ to.
+    if-ok (op-fields-read (s .chart) w fs) λ o.
     ok (with-edge s (record { from = from; to = to; op = o })))))
 
 -- by the line's kind, V, L or E; any other is 4

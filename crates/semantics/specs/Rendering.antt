@@ -4,23 +4,20 @@ use mathlib.Core.Bool.{Bool, true, false}
 use mathlib.Core.List.{List, [], _∷_, _++_, map}
 use Prim.Native.Nat.{ℕ, suc, _+_}
 use Rattle.semantics.specs.Text.{bytes, decimal, decimalZ}
-use Rattle.semantics.specs.Chart.{Value, known, top, Var, Loc, Operand, num, var, Op, assign, add, sub, input, assume, skip, Edge, Chart}
+use Rattle.semantics.specs.Chart.{Var, Loc, Operand, num, var, Op, assign, add, sub, input, assume, skip, Edge, Chart}
+use Rattle.semantics.specs.Listing.{val-text}
 use Rattle.semantics.specs.Reading.{rel-text, do-set, do-add, do-sub, do-in, do-if, do-skip, word-text}
 
 abbrev pub operand-text : Operand → List ℕ
 operand-text (num z) = decimalZ z
 operand-text (var k) = 36 ∷ decimal k
 
-abbrev pub init-text : Value → List ℕ
-init-text (known z) = decimalZ z
-init-text top = bytes "*"
-
 abbrev pub kind-text : Bool → List ℕ
 kind-text true = bytes "e"
 kind-text false = bytes "o"
 
 abbrev pub var-fields : ℕ → Var → List (List ℕ)
-var-fields i v = bytes "V" ∷ ((97 + i) ∷ []) ∷ decimalZ (v .lo) ∷ decimalZ (v .hi) ∷ init-text (v .init) ∷ []
+var-fields i v = bytes "V" ∷ ((97 + i) ∷ []) ∷ decimalZ (v .lo) ∷ decimalZ (v .hi) ∷ val-text (v .init) ∷ []
 
 abbrev pub loc-fields : Loc → List (List ℕ)
 loc-fields l = bytes "L" ∷ l .name ∷ kind-text (l .error) ∷ []
@@ -44,14 +41,14 @@ abbrev pub chart-fields : Chart → List (List (List ℕ))
 chart-fields c = vars-fields 0 (c .vars) ++ (map loc-fields (c .locs) ++ map edge-fields (c .edges))
 
 -- fields parted by tabs
-abbrev pub tabbed : List ℕ → List (List ℕ) → List ℕ
-tabbed f [] = f
-tabbed f (g ∷ gs) = f ++ (9 ∷ tabbed g gs)
+abbrev pub fields-text : List ℕ → List (List ℕ) → List ℕ
+fields-text f [] = f
+fields-text f (g ∷ gs) = f ++ (9 ∷ fields-text g gs)
 
-abbrev pub text-of : List (List (List ℕ)) → List ℕ
-text-of [] = []
-text-of ([] ∷ ls) = 10 ∷ text-of ls
-text-of ((f ∷ gs) ∷ ls) = tabbed f gs ++ (10 ∷ text-of ls)
+abbrev pub lines-text : List (List (List ℕ)) → List ℕ
+lines-text [] = []
+lines-text ([] ∷ ls) = 10 ∷ lines-text ls
+lines-text ((f ∷ gs) ∷ ls) = fields-text f gs ++ (10 ∷ lines-text ls)
 
 unfoldable pub render : Chart → List ℕ
-render c = text-of (chart-fields c)
+render c = lines-text (chart-fields c)

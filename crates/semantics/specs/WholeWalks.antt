@@ -10,8 +10,8 @@ use lib.IntN.{ℤ, natAbs}
 use Rattle.semantics.specs.Chart.{Chart}
 use Rattle.semantics.specs.Reading.{Reading, refused, accepted, read}
 use Rattle.semantics.specs.Constants.{AbstractState, Covers}
-use Rattle.semantics.specs.Algorithm.{Sep, Old, Settings, Open, Exploration}
-use Rattle.semantics.specs.Coverage.{allowed, system, Covering}
+use Rattle.semantics.specs.Algorithm.{Sep, Old, Settings, Open, Exploration, allowed}
+use Rattle.semantics.specs.Coverage.{system, Covering}
 use Rattle.semantics.specs.Encoding.{encode}
 use Rattle.semantics.specs.Memory.{Memory, width, store, load, capacity-ok}
 use Rattle.semantics.specs.Listing.{listing-text}

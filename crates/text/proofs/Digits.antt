@@ -20,7 +20,7 @@ use Rattle.semantics.specs.Lists.{pick}
 use Rattle.semantics.specs.Text.{between, digits, natural-of, nonnegative, negative, number-of}
 use Rattle.semantics.specs.Chart.{small}
 use Rattle.semantics.specs.Reading.{ok, check, small-or, below-or}
-use Rattle.text.specs.Fields.{clamp, naturalRead, numberRead, naturalSaid, numberSaid}
+use Rattle.text.specs.Fields.{clamp, natural-read, number-read, natural-said, number-said}
 use Rattle.text.specs.declared.Natural.the-variants as natural
 use Rattle.text.specs.declared.NumberRead.the-variants as number
 use Rattle.text.proofs.Bytes.{and-no}
@@ -51,13 +51,13 @@ module _ (l : List ℕ) (n i : ℕ) where
   digits-high h hi = rw (drop-cons l i 0) (simp (lt-leb _ _ hi, and-no))
 
 -- numbers that are the same once cut lead to the same answer
-pub cut-same : (l : List ℕ) (n m : ℕ) → min n 100000 ≡ min m 100000 → naturalRead (digits n l) ≡ naturalRead (digits m l)
-unfolding digits naturalRead
+pub cut-same : (l : List ℕ) (n m : ℕ) → min n 100000 ≡ min m 100000 → natural-read (digits n l) ≡ natural-read (digits m l)
+unfolding digits natural-read
 cut-same [] n m h = ap natural.Is h
 cut-same (b ∷ bs) n m h = go (between 48 57 b) (cut-same bs (n * 10 + (b - 48)) (m * 10 + (b - 48)) (omega arith))
   where
-    go : (t : Bool) → naturalRead (digits (n * 10 + (b - 48)) bs) ≡ naturalRead (digits (m * 10 + (b - 48)) bs)
-        → naturalRead (pick t (digits (n * 10 + (b - 48)) bs) none) ≡ naturalRead (pick t (digits (m * 10 + (b - 48)) bs) none)
+    go : (t : Bool) → natural-read (digits (n * 10 + (b - 48)) bs) ≡ natural-read (digits (m * 10 + (b - 48)) bs)
+        → natural-read (pick t (digits (n * 10 + (b - 48)) bs) none) ≡ natural-read (pick t (digits (m * 10 + (b - 48)) bs) none)
     go true ih = ih
     go false ih = refl
 
@@ -106,16 +106,16 @@ number-plus (b ∷ bs) n e = simp (ne-eqb _ _ e)
 
 -- ---- a cut natural number says all that a cut number asks
 
-pub plus-cut : (o : Option ℕ) → numberRead (nonnegative (naturalSaid (naturalRead o))) ≡ numberRead (nonnegative o)
-unfolding numberRead naturalSaid naturalRead
+pub plus-cut : (o : Option ℕ) → number-read (nonnegative (natural-said (natural-read o))) ≡ number-read (nonnegative o)
+unfolding number-read natural-said natural-read
 plus-cut none = refl
 plus-cut (some n) = ap (λ (k : ℕ). number.Is (pos k)) (omega arith)
 
 min-suc : (n : ℕ) → min (suc n) 100000 ≡ suc (min n 99999)
 min-suc n = omega arith
 
-pub minus-cut : (o : Option ℕ) → numberRead (negative (naturalSaid (naturalRead o))) ≡ numberRead (negative o)
-unfolding numberRead naturalSaid naturalRead
+pub minus-cut : (o : Option ℕ) → number-read (negative (natural-said (natural-read o))) ≡ number-read (negative o)
+unfolding number-read natural-said natural-read
 minus-cut none = refl
 minus-cut (some zero) = refl
 minus-cut (some (suc n)) = rw (min-suc n) (ap (λ (k : ℕ). number.Is (negsuc k)) (omega arith))
@@ -134,8 +134,8 @@ sub-fits v h = rw (sub-neg v h) (neg-fits v h)
 pub sub-back : (v : ℕ) → v ≤ 100000 → toZ w32 (ofZ w32 (pos 0 -ℤ toZ w32 v)) ≡ negℤ (pos v)
 sub-back v h = toZ-ofZ w32 _ (sub-fits v h) ∙ sub-neg v h
 
-pub minus-is : (v : ℕ) → (v ≡ 0 → ⊥) → number.Is (negℤ (pos (min v 100000))) ≡ numberRead (negative (some v))
-unfolding numberRead
+pub minus-is : (v : ℕ) → (v ≡ 0 → ⊥) → number.Is (negℤ (pos (min v 100000))) ≡ number-read (negative (some v))
+unfolding number-read
 minus-is zero h = absurd (h refl)
 minus-is (suc n) h = rw (min-suc n)
 
@@ -154,13 +154,13 @@ small-cut (negsuc n) =
     (λ h. simp (lt-leb n 32767 (omega arith), lt-leb (min n 99999) 32767 (omega arith)))
     (lt-or-ge n 32768)
 
-pub small-or-cut : (o : Option ℤ) → small-or (numberSaid (numberRead o)) ≡ small-or o
-unfolding numberSaid numberRead
+pub small-or-cut : (o : Option ℤ) → small-or (number-said (number-read o)) ≡ small-or o
+unfolding number-said number-read
 small-or-cut none = refl
 small-or-cut (some z) = small-cut z
 
-pub below-or-cut : (count : ℕ) (o : Option ℤ) → count ≤ 256 → below-or count (numberSaid (numberRead o)) ≡ below-or count o
-unfolding numberSaid numberRead check
+pub below-or-cut : (count : ℕ) (o : Option ℤ) → count ≤ 256 → below-or count (number-said (number-read o)) ≡ below-or count o
+unfolding number-said number-read check
 below-or-cut count none h = refl
 below-or-cut count (some (negsuc n)) h = refl
 below-or-cut count (some (pos n)) h =

@@ -14,7 +14,7 @@ use borrow.Author.Tests.{eq-eqb, ne-eqb, lt-ltb, le-ltb, ltb-true}
 use Rattle.semantics.specs.Text.{bytes, same-bytes, natural-of, nonnegative, number-of}
 use Rattle.semantics.specs.Chart.{known, top, num, var, small, within}
 use Rattle.semantics.specs.Encoding.{val}
-use Rattle.semantics.specs.Reading.{fail, ok, check, andThen, small-or, below-or, number-field, target-field, operand-field, init-field}
+use Rattle.semantics.specs.Reading.{fail, ok, check, if-ok, small-or, below-or, number-field, target-field, operand-field, init-field}
 use Rattle.words.proofs.Words.{ne-eqZ}
 
 module _ (n : ℕ) where
@@ -50,11 +50,11 @@ module _ (n : ℕ) where
       let k : length (b ∷ bs) - 1 ≡ length bs = omega arith in
       rw (k, take-length bs) (simp (eq-eqb _ _ e))
 
-  pub operand-var : (l : List ℕ) → getD l 0 0 ≡ 36 → operand-field n l ≡ andThen (target-field n l) (λ k. ok (var k))
+  pub operand-var : (l : List ℕ) → getD l 0 0 ≡ 36 → operand-field n l ≡ if-ok (target-field n l) (λ k. ok (var k))
   unfolding operand-field
   operand-var l e = simp (eq-eqb _ _ e)
 
-  pub operand-num : (l : List ℕ) → (getD l 0 0 ≡ 36 → ⊥) → operand-field n l ≡ andThen (number-field l) (λ z. ok (num z))
+  pub operand-num : (l : List ℕ) → (getD l 0 0 ≡ 36 → ⊥) → operand-field n l ≡ if-ok (number-field l) (λ z. ok (num z))
   unfolding operand-field
   operand-num l e = simp (ne-eqb _ _ e)
 
@@ -86,15 +86,15 @@ module _ (lo hi : ℤ) (l : List ℕ) where
   unfolding init-field
   init-star e = simp e
 
-  pub init-other : same-bytes l (bytes "*") ≡ false → init-field lo hi l ≡ andThen (number-field l) (λ z. check (within lo hi z) 7 (ok (known z)))
+  pub init-other : same-bytes l (bytes "*") ≡ false → init-field lo hi l ≡ if-ok (number-field l) (λ z. check (within lo hi z) 7 (ok (known z)))
   unfolding init-field
   init-other e = simp e
 
   module _ (z : ℤ) (is : number-field l ≡ ok z) where
-    pub init-in : within lo hi z ≡ true → ok (val z) ≡ andThen (number-field l) (λ x. check (within lo hi x) 7 (ok (known x)))
-    unfolding andThen check
+    pub init-in : within lo hi z ≡ true → ok (val z) ≡ if-ok (number-field l) (λ x. check (within lo hi x) 7 (ok (known x)))
+    unfolding if-ok check
     init-in h = rw is (rw h (ap ok (number-known l z is)))
 
-    pub init-out : within lo hi z ≡ false → fail 7 ≡ andThen (number-field l) (λ x. check (within lo hi x) 7 (ok (known x)))
-    unfolding andThen check
+    pub init-out : within lo hi z ≡ false → fail 7 ≡ if-ok (number-field l) (λ x. check (within lo hi x) 7 (ok (known x)))
+    unfolding if-ok check
     init-out h = rw is (rw h)

@@ -50,61 +50,61 @@ abbrev pub clamp : ℤ → ℤ
 clamp (pos n) = pos (min n 100000)
 clamp (negsuc n) = negsuc (min n 99999)
 
-unfoldable pub naturalRead : Option ℕ → Natural
-naturalRead none = natural.Malformed
-naturalRead (some n) = natural.Is (min n 100000)
+unfoldable pub natural-read : Option ℕ → Natural
+natural-read none = natural.Malformed
+natural-read (some n) = natural.Is (min n 100000)
 
-unfoldable pub numberRead : Option ℤ → NumberRead
-numberRead none = number.Malformed
-numberRead (some z) = number.Is (clamp z)
+unfoldable pub number-read : Option ℤ → NumberRead
+number-read none = number.Malformed
+number-read (some z) = number.Is (clamp z)
 
 -- what such an answer says, taken at its word
-unfoldable pub naturalSaid : Natural → Option ℕ
-naturalSaid natural.Malformed = none
-naturalSaid (natural.Is n) = some n
+unfoldable pub natural-said : Natural → Option ℕ
+natural-said natural.Malformed = none
+natural-said (natural.Is n) = some n
 
-unfoldable pub numberSaid : NumberRead → Option ℤ
-numberSaid number.Malformed = none
-numberSaid (number.Is z) = some z
+unfoldable pub number-said : NumberRead → Option ℤ
+number-said number.Malformed = none
+number-said (number.Is z) = some z
 
 -- ---- fields: the refusal's number, or what the field says
 
-unfoldable pub indexRes : Index → Res ℕ
-indexRes (index.Refused k) = fail k
-indexRes (index.Is n) = ok n
+unfoldable pub index-res : Index → Res ℕ
+index-res (index.Refused k) = fail k
+index-res (index.Is n) = ok n
 
-unfoldable pub wordRes : Word → Res ℤ
-wordRes (signed.Refused k) = fail k
-wordRes (signed.Is z) = ok z
+unfoldable pub word-res : Word → Res ℤ
+word-res (signed.Refused k) = fail k
+word-res (signed.Is z) = ok z
 
 -- the word of an initial value, with top written 32,768
-unfoldable pub initRes : Word → Res Value
-initRes (signed.Refused k) = fail k
-initRes (signed.Is z) = ok (val z)
+unfoldable pub init-res : Word → Res Value
+init-res (signed.Refused k) = fail k
+init-res (signed.Is z) = ok (val z)
 
-unfoldable pub operandRes : Operand → Res ChartOperand
-operandRes (operand.Refused k) = fail k
-operandRes (operand.Number z) = ok (num z)
-operandRes (operand.Var k) = ok (var k)
+unfoldable pub operand-res : Operand → Res ChartOperand
+operand-res (operand.Refused k) = fail k
+operand-res (operand.Number z) = ok (num z)
+operand-res (operand.Var k) = ok (var k)
 
-unfoldable pub flagRes : Flag → Res Bool
-flagRes (flag.Refused k) = fail k
-flagRes (flag.Is b) = ok b
+unfoldable pub flag-res : Flag → Res Bool
+flag-res (flag.Refused k) = fail k
+flag-res (flag.Is b) = ok b
 
-unfoldable pub relRes : Relation → Res Rel
-relRes (relation.Refused k) = fail k
-relRes relation.Eq = ok eq
-relRes relation.Ne = ok ne
-relRes relation.Lt = ok lt
-relRes relation.Le = ok le
-relRes relation.Gt = ok gt
-relRes relation.Ge = ok ge
+unfoldable pub rel-res : Relation → Res Rel
+rel-res (relation.Refused k) = fail k
+rel-res relation.Eq = ok eq
+rel-res relation.Ne = ok ne
+rel-res relation.Lt = ok lt
+rel-res relation.Le = ok le
+rel-res relation.Gt = ok gt
+rel-res relation.Ge = ok ge
 
-unfoldable pub opWordRes : OpWord → Res ReadingOpWord
-opWordRes (op-word.Refused k) = fail k
-opWordRes op-word.Set = ok do-set
-opWordRes op-word.Add = ok do-add
-opWordRes op-word.Sub = ok do-sub
-opWordRes op-word.In = ok do-in
-opWordRes op-word.If = ok do-if
-opWordRes op-word.Skip = ok do-skip
+unfoldable pub op-word-res : OpWord → Res ReadingOpWord
+op-word-res (op-word.Refused k) = fail k
+op-word-res op-word.Set = ok do-set
+op-word-res op-word.Add = ok do-add
+op-word-res op-word.Sub = ok do-sub
+op-word-res op-word.In = ok do-in
+op-word-res op-word.If = ok do-if
+op-word-res op-word.Skip = ok do-skip

@@ -6,8 +6,9 @@ ghost use lib.ListN.{length, getD};
 ghost use Rattle.semantics.specs.Lists.{pick};
 ghost use Rattle.semantics.specs.Text.{same-bytes, fields, name-byte, name-ok, digits, natural-of, nonnegative, negative, number-of};
 ghost use Rattle.semantics.specs.Chart.{within, known, num, var};
-ghost use Rattle.semantics.specs.Reading.{ok, check, andThen, nth, none-empty, small-or, number-field, below-or, location-field, target-field, operand-field, init-field, kind-field, rel-field, op-word-field};
-ghost use Rattle.text.specs.Fields.{Found, naturalRead, numberRead, naturalSaid, numberSaid, indexRes, wordRes, initRes, operandRes, flagRes, relRes, opWordRes};
+ghost use Rattle.semantics.specs.Reading.{ok, check, if-ok, nth, none-empty, small-or, number-field, below-or, location-field, target-field, operand-field, init-field, kind-field, rel-field, op-word-field};
+ghost use Rattle.semantics.specs.Reading.{filled as filled-with};
+ghost use Rattle.text.specs.Fields.{Found, natural-read, number-read, natural-said, number-said, index-res, word-res, init-res, operand-res, flag-res, rel-res, op-word-res};
 
 pub fn same_bytes(a: &[u8], b: &[u8]) -> bool
     ensures { λ r. ⌜ r ≡ same-bytes (now (a .entry)) (now (b .entry)) ⌝ }
@@ -103,6 +104,13 @@ pub fn none_empty(line: &[u8]) -> bool
     }
 }
 
+// So many fields, none of them empty.
+pub fn filled(line: &[u8], count: usize) -> bool
+    ensures { λ r. ⌜ r ≡ filled-with count (fields (now (line .entry))) ⌝ }
+{
+    (field_count(line) == count) & none_empty(line)
+}
+
 fn name_byte(b: u8) -> bool
     ensures { λ r. ⌜ r ≡ name-byte b ⌝ }
 {
@@ -153,7 +161,7 @@ fn wide(b: u8) -> u32
 }
 
 fn digits_in(f: &[u8]) -> Natural
-    ensures { λ r. ⌜ r ≡ naturalRead (digits 0 (now (f .entry))) ⌝ }
+    ensures { λ r. ⌜ r ≡ natural-read (digits 0 (now (f .entry))) ⌝ }
 {
     let mut n: u32 = 0;
     let mut i = 0;
@@ -172,7 +180,7 @@ fn digits_in(f: &[u8]) -> Natural
 }
 
 fn natural_in(f: &[u8]) -> Natural
-    ensures { λ r. ⌜ r ≡ naturalRead (natural-of (now (f .entry))) ⌝ }
+    ensures { λ r. ⌜ r ≡ natural-read (natural-of (now (f .entry))) ⌝ }
 {
     if f.len() == 0 {
         return Natural::Malformed;
@@ -187,7 +195,7 @@ fn natural_in(f: &[u8]) -> Natural
 }
 
 fn plus(n: Natural) -> NumberRead
-    ensures { λ r. ⌜ r ≡ numberRead (nonnegative (naturalSaid n)) ⌝ }
+    ensures { λ r. ⌜ r ≡ number-read (nonnegative (natural-said n)) ⌝ }
 {
     match n {
         Natural::Malformed => NumberRead::Malformed,
@@ -196,7 +204,7 @@ fn plus(n: Natural) -> NumberRead
 }
 
 fn minus(n: Natural) -> NumberRead
-    ensures { λ r. ⌜ r ≡ numberRead (negative (naturalSaid n)) ⌝ }
+    ensures { λ r. ⌜ r ≡ number-read (negative (natural-said n)) ⌝ }
 {
     match n {
         Natural::Malformed => NumberRead::Malformed,
@@ -211,14 +219,14 @@ fn minus(n: Natural) -> NumberRead
 
 // A number without sign.
 fn unsigned(f: &[u8]) -> NumberRead
-    ensures { λ r. ⌜ r ≡ numberRead (nonnegative (natural-of (now (f .entry)))) ⌝ }
+    ensures { λ r. ⌜ r ≡ number-read (nonnegative (natural-of (now (f .entry)))) ⌝ }
 {
     plus(natural_in(f))
 }
 
 // A number of any length.
 pub fn number(f: &[u8]) -> NumberRead
-    ensures { λ r. ⌜ r ≡ numberRead (number-of (now (f .entry))) ⌝ }
+    ensures { λ r. ⌜ r ≡ number-read (number-of (now (f .entry))) ⌝ }
 {
     if f.len() == 0 {
         return NumberRead::Malformed;
@@ -283,7 +291,7 @@ fn inside(lo: i32, hi: i32, z: i32) -> bool
 }
 
 fn small_word(n: NumberRead) -> Word
-    ensures { λ r. ⌜ wordRes r ≡ small-or (numberSaid n) ⌝ }
+    ensures { λ r. ⌜ word-res r ≡ small-or (number-said n) ⌝ }
 {
     match n {
         NumberRead::Malformed => Word::Refused(6),
@@ -297,14 +305,14 @@ fn small_word(n: NumberRead) -> Word
 }
 
 pub fn number_field(f: &[u8]) -> Word
-    ensures { λ r. ⌜ wordRes r ≡ number-field (now (f .entry)) ⌝ }
+    ensures { λ r. ⌜ word-res r ≡ number-field (now (f .entry)) ⌝ }
 {
     small_word(number(f))
 }
 
 // One of the first `count` numbers.
 fn below(count: usize, n: NumberRead) -> Index
-    ensures { λ r. ⌜ indexRes r ≡ below-or count (numberSaid n) ⌝ }
+    ensures { λ r. ⌜ index-res r ≡ below-or count (number-said n) ⌝ }
 {
     match n {
         NumberRead::Malformed => Index::Refused(6),
@@ -323,14 +331,14 @@ fn below(count: usize, n: NumberRead) -> Index
 
 pub fn location_field(count: usize, f: &[u8]) -> Index
     requires { ⌜ count ≤ 256 ⌝ }
-    ensures { λ r. ⌜ indexRes r ≡ location-field count (now (f .entry)) ⌝ }
+    ensures { λ r. ⌜ index-res r ≡ location-field count (now (f .entry)) ⌝ }
 {
     below(count, number(f))
 }
 
 pub fn target_field(count: usize, f: &[u8]) -> Index
     requires { ⌜ count ≤ 256 ⌝ }
-    ensures { λ r. ⌜ indexRes r ≡ target-field count (now (f .entry)) ⌝ }
+    ensures { λ r. ⌜ index-res r ≡ target-field count (now (f .entry)) ⌝ }
 {
     if f.len() == 0 {
         return Index::Refused(6);
@@ -352,7 +360,7 @@ fn first(f: &[u8]) -> u8
 }
 
 fn as_variable(k: Index) -> Operand
-    ensures { λ r. ⌜ operandRes r ≡ andThen (indexRes k) (λ n. ok (var n)) ⌝ }
+    ensures { λ r. ⌜ operand-res r ≡ if-ok (index-res k) (λ n. ok (var n)) ⌝ }
 {
     match k {
         Index::Refused(n) => Operand::Refused(n),
@@ -361,7 +369,7 @@ fn as_variable(k: Index) -> Operand
 }
 
 fn as_number(w: Word) -> Operand
-    ensures { λ r. ⌜ operandRes r ≡ andThen (wordRes w) (λ z. ok (num z)) ⌝ }
+    ensures { λ r. ⌜ operand-res r ≡ if-ok (word-res w) (λ z. ok (num z)) ⌝ }
 {
     match w {
         Word::Refused(n) => Operand::Refused(n),
@@ -371,7 +379,7 @@ fn as_number(w: Word) -> Operand
 
 pub fn operand_field(count: usize, f: &[u8]) -> Operand
     requires { ⌜ count ≤ 256 ⌝ }
-    ensures { λ r. ⌜ operandRes r ≡ operand-field count (now (f .entry)) ⌝ }
+    ensures { λ r. ⌜ operand-res r ≡ operand-field count (now (f .entry)) ⌝ }
 {
     if first(f) == 36 {
         return as_variable(target_field(count, f));
@@ -381,7 +389,7 @@ pub fn operand_field(count: usize, f: &[u8]) -> Operand
 
 // An initial value that is a number.
 fn init_number(lo: i32, hi: i32, f: &[u8]) -> Word
-    ensures { λ r. ⌜ initRes r ≡ andThen (number-field (now (f .entry))) (λ z. check (within lo hi z) 7 (ok (known z))) ⌝ }
+    ensures { λ r. ⌜ init-res r ≡ if-ok (number-field (now (f .entry))) (λ z. check (within lo hi z) 7 (ok (known z))) ⌝ }
 {
     match number_field(f) {
         Word::Refused(n) => Word::Refused(n),
@@ -396,7 +404,7 @@ fn init_number(lo: i32, hi: i32, f: &[u8]) -> Word
 
 // The word of an initial value: for `*`, the word of top.
 pub fn init_field(lo: i32, hi: i32, f: &[u8]) -> Word
-    ensures { λ r. ⌜ initRes r ≡ init-field lo hi (now (f .entry)) ⌝ }
+    ensures { λ r. ⌜ init-res r ≡ init-field lo hi (now (f .entry)) ⌝ }
 {
     if same_bytes(f, b"*") {
         return Word::Is(words::TOP);
@@ -406,7 +414,7 @@ pub fn init_field(lo: i32, hi: i32, f: &[u8]) -> Word
 
 // Whether the location is an error location.
 pub fn kind_field(f: &[u8]) -> Flag
-    ensures { λ r. ⌜ flagRes r ≡ kind-field (now (f .entry)) ⌝ }
+    ensures { λ r. ⌜ flag-res r ≡ kind-field (now (f .entry)) ⌝ }
 {
     if same_bytes(f, b"o") {
         return Flag::Is(false);
@@ -418,7 +426,7 @@ pub fn kind_field(f: &[u8]) -> Flag
 }
 
 pub fn rel_field(f: &[u8]) -> Relation
-    ensures { λ r. ⌜ relRes r ≡ rel-field (now (f .entry)) ⌝ }
+    ensures { λ r. ⌜ rel-res r ≡ rel-field (now (f .entry)) ⌝ }
 {
     if same_bytes(f, b"eq") {
         return Relation::Eq;
@@ -442,7 +450,7 @@ pub fn rel_field(f: &[u8]) -> Relation
 }
 
 pub fn op_word_field(f: &[u8]) -> OpWord
-    ensures { λ r. ⌜ opWordRes r ≡ op-word-field (now (f .entry)) ⌝ }
+    ensures { λ r. ⌜ op-word-res r ≡ op-word-field (now (f .entry)) ⌝ }
 {
     if same_bytes(f, b"set") {
         return OpWord::Set;

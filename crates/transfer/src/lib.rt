@@ -3,7 +3,6 @@ use encoded::Edge;
 use semantics::LocationId;
 ghost use mathlib.Core.Path.{_≡_};
 ghost use Prim.Native.Nat.{_+_, _<_};
-ghost use lib.Dec.{eqb};
 ghost use lib.IntN.{_+ℤ_, _-ℤ_};
 ghost use lib.ListN.{length, set};
 ghost use Rattle.semantics.specs.Chart.{within};
@@ -33,13 +32,6 @@ fn lies_within(lo: i32, hi: i32, z: i64) -> bool
 
 // ---- locations
 
-// The location of a row.
-pub fn location_of(row: &[i32]) -> LocationId
-    ensures { λ r. ⌜ (r .0 ≡ count (now (row .entry)) 0) × (r .0 < 2147483649) ⌝ }
-{
-    LocationId(words::number_at(row, 0))
-}
-
 // The word that a row holds for a location.
 fn location_word(l: LocationId) -> i32
     ensures { λ r. ⌜ r ≡ location-word (l .0) ⌝ }
@@ -49,12 +41,6 @@ fn location_word(l: LocationId) -> i32
         return n as i32;
     }
     0
-}
-
-pub fn same_location(a: LocationId, b: LocationId) -> bool
-    ensures { λ r. ⌜ r ≡ eqb (a .0) (b .0) ⌝ }
-{
-    a.0 == b.0
 }
 
 // ---- operands
@@ -71,21 +57,21 @@ fn operand(tag: i32, w: i32, row: &[i32]) -> i32
 }
 
 // The words of the two operands of an edge.
-fn first_operand(chart: &[i32], e: Edge, row: &[i32]) -> i32
-    requires { ⌜ e .at < 4294967296 ⌝ }
-    ensures { λ r. ⌜ r ≡ operand-at (now (chart .entry)) (e .at + 4) (now (row .entry)) ⌝ }
+fn first_operand(chart: &[i32], edge: Edge, row: &[i32]) -> i32
+    requires { ⌜ edge .at < 4294967296 ⌝ }
+    ensures { λ r. ⌜ r ≡ operand-at (now (chart .entry)) (edge .at + 4) (now (row .entry)) ⌝ }
 {
-    let tag = encoded::first_tag(chart, e);
-    let w = encoded::first_value(chart, e);
+    let tag = encoded::first_tag(chart, edge);
+    let w = encoded::first_value(chart, edge);
     operand(tag, w, row)
 }
 
-fn second_operand(chart: &[i32], e: Edge, row: &[i32]) -> i32
-    requires { ⌜ e .at < 4294967296 ⌝ }
-    ensures { λ r. ⌜ r ≡ operand-at (now (chart .entry)) (e .at + 6) (now (row .entry)) ⌝ }
+fn second_operand(chart: &[i32], edge: Edge, row: &[i32]) -> i32
+    requires { ⌜ edge .at < 4294967296 ⌝ }
+    ensures { λ r. ⌜ r ≡ operand-at (now (chart .entry)) (edge .at + 6) (now (row .entry)) ⌝ }
 {
-    let tag = encoded::second_tag(chart, e);
-    let w = encoded::second_value(chart, e);
+    let tag = encoded::second_tag(chart, edge);
+    let w = encoded::second_value(chart, edge);
     operand(tag, w, row)
 }
 
@@ -129,22 +115,22 @@ fn put_value(chart: &[i32], k: usize, top: bool, z: i64, row: &mut [i32]) -> boo
 
 // ---- the operations of an edge, on the row: whether there is a successor
 
-fn assign(chart: &[i32], e: Edge, row: &mut [i32]) -> bool
-    requires { ⌜ e .at < 4294967296 ⌝ }
-    ensures { λ r. ⌜ step-of r (now (row .exit)) ≡ assign-at (now (chart .entry)) (e .at) (now (row .entry)) ⌝ }
+fn assign(chart: &[i32], edge: Edge, row: &mut [i32]) -> bool
+    requires { ⌜ edge .at < 4294967296 ⌝ }
+    ensures { λ r. ⌜ step-of r (now (row .exit)) ≡ assign-at (now (chart .entry)) (edge .at) (now (row .entry)) ⌝ }
 {
-    let k = encoded::edge_target(chart, e);
-    let a = first_operand(chart, e, row);
+    let k = encoded::edge_target(chart, edge);
+    let a = first_operand(chart, edge, row);
     put_value(chart, k, a == words::TOP, words::wide(a), row)
 }
 
-fn add(chart: &[i32], e: Edge, row: &mut [i32]) -> bool
-    requires { ⌜ e .at < 4294967296 ⌝ }
-    ensures { λ r. ⌜ step-of r (now (row .exit)) ≡ add-at (now (chart .entry)) (e .at) (now (row .entry)) ⌝ }
+fn add(chart: &[i32], edge: Edge, row: &mut [i32]) -> bool
+    requires { ⌜ edge .at < 4294967296 ⌝ }
+    ensures { λ r. ⌜ step-of r (now (row .exit)) ≡ add-at (now (chart .entry)) (edge .at) (now (row .entry)) ⌝ }
 {
-    let k = encoded::edge_target(chart, e);
-    let a = first_operand(chart, e, row);
-    let b = second_operand(chart, e, row);
+    let k = encoded::edge_target(chart, edge);
+    let a = first_operand(chart, edge, row);
+    let b = second_operand(chart, edge, row);
     put_value(
         chart,
         k,
@@ -154,13 +140,13 @@ fn add(chart: &[i32], e: Edge, row: &mut [i32]) -> bool
     )
 }
 
-fn sub(chart: &[i32], e: Edge, row: &mut [i32]) -> bool
-    requires { ⌜ e .at < 4294967296 ⌝ }
-    ensures { λ r. ⌜ step-of r (now (row .exit)) ≡ sub-at (now (chart .entry)) (e .at) (now (row .entry)) ⌝ }
+fn sub(chart: &[i32], edge: Edge, row: &mut [i32]) -> bool
+    requires { ⌜ edge .at < 4294967296 ⌝ }
+    ensures { λ r. ⌜ step-of r (now (row .exit)) ≡ sub-at (now (chart .entry)) (edge .at) (now (row .entry)) ⌝ }
 {
-    let k = encoded::edge_target(chart, e);
-    let a = first_operand(chart, e, row);
-    let b = second_operand(chart, e, row);
+    let k = encoded::edge_target(chart, edge);
+    let a = first_operand(chart, edge, row);
+    let b = second_operand(chart, edge, row);
     put_value(
         chart,
         k,
@@ -170,13 +156,13 @@ fn sub(chart: &[i32], e: Edge, row: &mut [i32]) -> bool
     )
 }
 
-fn input(chart: &[i32], e: Edge, row: &mut [i32]) -> bool
-    requires { ⌜ e .at < 4294967296 ⌝ }
-    ensures { λ r. ⌜ step-of r (now (row .exit)) ≡ input-at (now (chart .entry)) (e .at) (now (row .entry)) ⌝ }
+fn input(chart: &[i32], edge: Edge, row: &mut [i32]) -> bool
+    requires { ⌜ edge .at < 4294967296 ⌝ }
+    ensures { λ r. ⌜ step-of r (now (row .exit)) ≡ input-at (now (chart .entry)) (edge .at) (now (row .entry)) ⌝ }
 {
-    let k = encoded::edge_target(chart, e);
-    let p = encoded::first_value(chart, e);
-    let q = encoded::second_value(chart, e);
+    let k = encoded::edge_target(chart, edge);
+    let p = encoded::first_value(chart, edge);
+    let q = encoded::second_value(chart, edge);
     let x = rows::join_word(p, q);
     put(row, k, x);
     true
@@ -210,51 +196,51 @@ fn refine(chart: &[i32], n: usize, k: usize, x: i32, row: &mut [i32]) -> bool
     true
 }
 
-fn assume(chart: &[i32], n: usize, e: Edge, row: &mut [i32]) -> bool
-    requires { ⌜ e .at < 4294967296 ⌝ }
-    ensures { λ r. ⌜ step-of r (now (row .exit)) ≡ assume-at (now (chart .entry)) n (e .at) (now (row .entry)) ⌝ }
+fn assume(chart: &[i32], n: usize, edge: Edge, row: &mut [i32]) -> bool
+    requires { ⌜ edge .at < 4294967296 ⌝ }
+    ensures { λ r. ⌜ step-of r (now (row .exit)) ≡ assume-at (now (chart .entry)) n (edge .at) (now (row .entry)) ⌝ }
 {
-    let k = encoded::edge_target(chart, e);
+    let k = encoded::edge_target(chart, edge);
     let x = words::word_at(row, k + 1);
-    let y = first_operand(chart, e, row);
+    let y = first_operand(chart, edge, row);
     if x == words::TOP {
         return refine(chart, n, k, y, row);
     }
     if y == words::TOP {
-        let j = encoded::first_variable(chart, e);
+        let j = encoded::first_variable(chart, edge);
         return refine(chart, n, j, x, row);
     }
     holds(n, x, y)
 }
 
-fn apply(chart: &[i32], e: Edge, row: &mut [i32]) -> bool
-    requires { ⌜ e .at < 4294967296 ⌝ }
-    ensures { λ r. ⌜ step-of r (now (row .exit)) ≡ op-by (count (now (chart .entry)) (e .at + 2)) (now (chart .entry)) (e .at) (now (row .entry)) ⌝ }
+fn apply(chart: &[i32], edge: Edge, row: &mut [i32]) -> bool
+    requires { ⌜ edge .at < 4294967296 ⌝ }
+    ensures { λ r. ⌜ step-of r (now (row .exit)) ≡ op-by (count (now (chart .entry)) (edge .at + 2)) (now (chart .entry)) (edge .at) (now (row .entry)) ⌝ }
 {
-    let n = encoded::edge_operation(chart, e);
+    let n = encoded::edge_operation(chart, edge);
     match n {
         0 => true,
-        1 => assign(chart, e, row),
-        2 => add(chart, e, row),
-        3 => sub(chart, e, row),
-        4 => input(chart, e, row),
-        _ => assume(chart, n, e, row),
+        1 => assign(chart, edge, row),
+        2 => add(chart, edge, row),
+        3 => sub(chart, edge, row),
+        4 => input(chart, edge, row),
+        _ => assume(chart, n, edge, row),
     }
 }
 
 // ---- the transfer
 
 // The successor of the row by the edge, into `out`; whether there is one.
-pub fn successor(chart: &[i32], e: Edge, row: &[i32], out: &mut [i32]) -> bool
-    requires { ⌜ (0 < length (now row)) × (length (now out) ≡ length (now row)) × (e .at < 4294967296) ⌝ }
-    ensures { λ r. ⌜ step-of r (now (out .exit)) ≡ post-at (now (chart .entry)) (e .at) (now (row .entry)) ⌝ }
+pub fn successor(chart: &[i32], edge: Edge, row: &[i32], out: &mut [i32]) -> bool
+    requires { ⌜ (0 < length (now row)) × (length (now out) ≡ length (now row)) × (edge .at < 4294967296) ⌝ }
+    ensures { λ r. ⌜ step-of r (now (out .exit)) ≡ post-at (now (chart .entry)) (edge .at) (now (row .entry)) ⌝ }
 {
-    let from = encoded::edge_from(chart, e);
-    if same_location(from, location_of(row)) {
+    let from = encoded::edge_from(chart, edge);
+    if semantics::same_location(from, rows::location_of(row)) {
         words::copy_words(out, row);
-        let to = encoded::edge_to(chart, e);
+        let to = encoded::edge_to(chart, edge);
         out[0] = location_word(to);
-        return apply(chart, e, out);
+        return apply(chart, edge, out);
     }
     false
 }
@@ -263,7 +249,7 @@ pub fn successor(chart: &[i32], e: Edge, row: &[i32], out: &mut [i32]) -> bool
 pub fn is_error(chart: &[i32], row: &[i32]) -> bool
     ensures { λ r. ⌜ r ≡ error-row (now (chart .entry)) (now (row .entry)) ⌝ }
 {
-    encoded::is_error_location(chart, location_of(row))
+    encoded::is_error_location(chart, rows::location_of(row))
 }
 
 // The row of the initial abstract state.

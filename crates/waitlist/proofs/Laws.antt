@@ -16,13 +16,13 @@ use Rattle.semantics.specs.Algorithm.{without}
 use Rattle.semantics.specs.Coverage.{Queue}
 use Rattle.semantics.proofs.Tidy.{without-in, without-not, without-distinct, some-not, queue-few}
 use Rattle.semantics.proofs.Stored.{map-back}
-use Rattle.waitlist.specs.Waits.{waits, Put, any-word}
+use Rattle.waitlist.specs.Waits.{waits, Stored}
 
 pub map-append : (a b : List ℕ) → map pos (a ++ b) ≡ map pos a ++ map pos b
 map-append [] b = refl
 map-append (x ∷ a) b = rw (map-append a b)
 
-module _ {l : List ℤ} {n : ℕ} {wa : List ℕ} (p : Put l n wa) where
+module _ {l : List ℤ} {n : ℕ} {wa : List ℕ} (p : Stored l n wa) where
   count-words : length (map pos wa) ≡ n
   count-words = length-map wa pos ∙ sym (p .count)
 
@@ -36,11 +36,11 @@ module _ {l : List ℤ} {n : ℕ} {wa : List ℕ} (p : Put l n wa) where
   pub held : waits n l ≡ wa
   held = ap (map natAbs) front ∙ map-back wa
 
-  pub kept : Put l n (waits n l)
-  kept = subst (λ (x : List ℕ). Put l n x) (sym held) p
+  pub kept : Stored l n (waits n l)
+  kept = subst (λ (x : List ℕ). Stored l n x) (sym held) p
 
   -- the next word is written
-  pub put-last : (k : ℕ) → n < length l → Put (set l n (pos k)) (n + 1) (wa ++ (k ∷ []))
+  pub put-last : (k : ℕ) → n < length l → Stored (set l n (pos k)) (n + 1) (wa ++ (k ∷ []))
   put-last k h = record { count = rw (length-append, ← p .count); fits = omega (arith, len); words = words }
     where
       len : length (set l n (pos k)) ≡ length l
@@ -59,15 +59,9 @@ module _ {l : List ℤ} {n : ℕ} {wa : List ℕ} (p : Put l n wa) where
 
 -- ---- the test
 
-pub any-some : (k : ℕ) (wa : List ℕ) → any-word (pos k) (map pos wa) ≡ some-of (eqb k) wa
+pub any-some : (k : ℕ) (wa : List ℕ) → some-of (eqZ (pos k)) (map pos wa) ≡ some-of (eqb k) wa
 any-some k [] = refl
 any-some k (x ∷ wa) = ap (λ (t : Bool). elim (eqb k x) [ true ↦ true | false ↦ t ]) (any-some k wa)
-
-pub any-turn : (k : ℤ) (s : List ℤ) (i : ℕ) (b : Bool) → i < length s → eqZ k (getD s i (pos 0)) ≡ b
-    → any-word k (drop i s) ≡ elim b [ true ↦ true | false ↦ any-word k (drop (i + 1) s) ]
-any-turn k s i b h e =
-    ap (any-word k) (drop-cons s i (pos 0) h) ∙ ap (λ (t : Bool). elim t [ true ↦ true | false ↦ any-word k (drop (suc i) s) ]) e
-    ∙ ap (λ (m : ℕ). elim b [ true ↦ true | false ↦ any-word k (drop m s) ]) (sym (add-one i))
 
 -- ---- room
 

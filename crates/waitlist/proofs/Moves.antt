@@ -12,9 +12,10 @@ use lib.ListN.{length, take, drop, getD, set, replicate, length-map, length-appe
 use lib.Seq.{take-at, drop-at, drop-cons, set-at, append-snoc, take-suc, take-suc-set, drop-set-lt, getD-drop, getD-at, take-all, length-take-le}
 use Rattle.semantics.specs.Chart.{eqZ}
 use Rattle.semantics.specs.declared.Order.the-variants.{Old, New}
-use Rattle.semantics.specs.Algorithm.{without, drop-if, take-last, later}
+use Rattle.semantics.specs.Algorithm.{without, take-last, later}
+use Rattle.semantics.specs.Lists.{cons-unless}
 use Rattle.words.proofs.Words.{eqZ-sym}
-use Rattle.waitlist.specs.Waits.{Put, pushed, shifted, keep-word, others, next-place, kept-at, TakenFrom}
+use Rattle.waitlist.specs.Waits.{Stored, pushed, shifted, others, next-place, kept-at, TakenFrom}
 use Rattle.waitlist.proofs.Laws.{held, kept, map-append, front, back}
 
 -- ---- the loops' turns
@@ -62,7 +63,7 @@ push-held : (x : ℤ) (wa : List ℕ) (m : ℕ) → pushed x (map pos wa ++ repl
 push-held x [] m = ap (λ (l : List ℤ). x ∷ l) (push-zeros m)
 push-held x (k ∷ wa) m = ap (λ (l : List ℤ). x ∷ l) (push-held (pos k) wa m)
 
-pub put-first : {l : List ℤ} {n : ℕ} {wa : List ℕ} (k : ℕ) → Put l n wa → n < length l → Put (pushed (pos k) l) (n + 1) (k ∷ wa)
+pub put-first : {l : List ℤ} {n : ℕ} {wa : List ℕ} (k : ℕ) → Stored l n wa → n < length l → Stored (pushed (pos k) l) (n + 1) (k ∷ wa)
 put-first {l} {n} {wa} k p h = record { count = rw (add-one, ← p .count); fits = omega (arith, len); words = words }
   where
     len : length (pushed (pos k) l) ≡ length l
@@ -79,7 +80,7 @@ shift-held x [] = refl
 shift-held x (w ∷ ws) = ap (λ (l : List ℤ). pos w ∷ l) (shift-held (pos w) ws)
 
 -- the first slot, and what is left when the words in use go down
-pub take-first-held : {l : List ℤ} {n : ℕ} (wa : List ℕ) → Put l n wa → 0 < n
+pub take-first-held : {l : List ℤ} {n : ℕ} (wa : List ℕ) → Stored l n wa → 0 < n
     → (k : ℕ) × (getD l 0 (pos 0) ≡ pos k) × TakenFrom Old wa k (shifted (take n l) ++ drop n l) (n - 1)
 take-first-held [] p h = absurd (omega (arith, p .count))
 take-first-held {l} {n} (k ∷ ws) p h =
@@ -103,7 +104,7 @@ take-first-held {l} {n} (k ∷ ws) p h =
     fewer : suc (length l - n) ≡ length (shifted (take n l) ++ drop n l) - (n - 1)
     fewer = omega (arith, p .fits, len)
 
-    put : Put (shifted (take n l) ++ drop n l) (n - 1) ws
+    put : Stored (shifted (take n l) ++ drop n l) (n - 1) ws
     put = record { count = omega (arith, p .count); fits = omega (arith, len, p .fits); words = form ∙ ap (λ (m : ℕ). map pos ws ++ replicate m (pos 0)) fewer }
 
 -- ---- the last
@@ -112,7 +113,7 @@ last-snoc : (ws : List ℕ) (k : ℕ) → take-last (ws ++ (k ∷ [])) ≡ some 
 last-snoc [] k = refl
 last-snoc (x ∷ ws) k = ap (later x) (last-snoc ws k)
 
-pub take-last-held : {l : List ℤ} {n : ℕ} (wa : List ℕ) → Put l n wa → 0 < n
+pub take-last-held : {l : List ℤ} {n : ℕ} (wa : List ℕ) → Stored l n wa → 0 < n
     → (k : ℕ) × (getD l (n - 1) (pos 0) ≡ pos k) × TakenFrom New wa k (set l (n - 1) (pos 0)) (n - 1)
 take-last-held {l} {n} wa p h =
     (k, at-last, record { taken = ap take-last split ∙ last-snoc ws k ∙ ap (λ (x : List ℕ). some (record { slot = k; rest = x })) (sym (held put)); kept = kept put })
@@ -149,7 +150,7 @@ take-last-held {l} {n} wa p h =
     fewer : suc (length l - n) ≡ length l - (n - 1)
     fewer = omega (arith, p .fits)
 
-    put : Put (set l (n - 1) (pos 0)) (n - 1) (take (n - 1) wa)
+    put : Stored (set l (n - 1) (pos 0)) (n - 1) (take (n - 1) wa)
     put = record {
       count = sym ls;
       fits = omega (arith, len, p .fits);
@@ -165,12 +166,12 @@ others-held : (k : ℕ) (wa : List ℕ) → others (pos k) (map pos wa) ≡ map 
 others-held k [] = refl
 others-held k (x ∷ wa) = rw (eqZ-sym (pos x) (pos k), others-held k wa) (go (eqb k x))
   where
-    go : (b : Bool) → keep-word b (pos x) (map pos (without k wa)) ≡ map pos (drop-if b x (without k wa))
+    go : (b : Bool) → cons-unless b (pos x) (map pos (without k wa)) ≡ map pos (cons-unless b x (without k wa))
     go true = refl
     go false = refl
 
-pub put-others : {l : List ℤ} {n : ℕ} {wa : List ℕ} (k : ℕ) (l′ : List ℤ) (r : ℕ) → Put l n wa → length l′ ≡ length l → r ≤ n
-    → take r l′ ≡ others (pos k) (take n l) → drop r l′ ≡ replicate (n - r) (pos 0) ++ drop n l → Put l′ r (without k wa)
+pub put-others : {l : List ℤ} {n : ℕ} {wa : List ℕ} (k : ℕ) (l′ : List ℤ) (r : ℕ) → Stored l n wa → length l′ ≡ length l → r ≤ n
+    → take r l′ ≡ others (pos k) (take n l) → drop r l′ ≡ replicate (n - r) (pos 0) ++ drop n l → Stored l′ r (without k wa)
 put-others {l} {n} {wa} k l′ r p len h t d = record { count = sym count; fits = omega (arith, len, p .fits); words = words }
   where
     is-front : take r l′ ≡ map pos (without k wa)
@@ -240,14 +241,14 @@ module _ (k : ℤ) (l₀ : List ℤ) (n : ℕ) (l : List ℤ) (j i : ℕ) (s : R
   clear : set l i (pos 0) ≡ A ++ (replicate (suc (i - j)) (pos 0) ++ R)
   clear = ap (λ (z : List ℤ). set z i (pos 0)) whole ∙ cleared k A R (i - j) j i x la ld
 
-  left : others k (take n l₀) ≡ A ++ keep-word (eqZ x k) x (others k (take (n - (i + 1)) R))
+  left : others k (take n l₀) ≡ A ++ cons-unless (eqZ x k) x (others k (take (n - (i + 1)) R))
   left =
       let m : n - i ≡ suc (n - (i + 1)) = omega arith in
       s .done ∙ ap (λ (z : List ℤ). take j l ++ others k z) (ap (λ (z : List ℤ). take (n - i) z) next ∙ ap (λ (q : ℕ). take q (x ∷ R)) m)
 
   pub remove-turn : Removing k l₀ n (kept-at (eqZ x k) (set l i (pos 0)) j x) (next-place (eqZ x k) j) (i + 1)
   remove-turn = go (eqZ x k) left where
-    go : (b : Bool) → others k (take n l₀) ≡ A ++ keep-word b x (others k (take (n - (i + 1)) R)) → Removing k l₀ n (kept-at b (set l i (pos 0)) j x) (next-place b j) (i + 1)
+    go : (b : Bool) → others k (take n l₀) ≡ A ++ cons-unless b x (others k (take (n - (i + 1)) R)) → Removing k l₀ n (kept-at b (set l i (pos 0)) j x) (next-place b j) (i + 1)
     go true e =
         let t : take j (set l i (pos 0)) ≡ A = ap (take j) clear ∙ take-at A (replicate (suc (i - j)) (pos 0) ++ R) j la in
         let m : suc (i - j) ≡ i + 1 - j = omega (arith, s .below) in

@@ -7,7 +7,7 @@ use Prim.Native.Nat.{ℕ, _+_, _-_, _≤_}
 use lib.IntN.{ℤ, pos, natAbs}
 use lib.ListN.{length, take, getD, set, replicate}
 use Rattle.semantics.specs.Chart.{eqZ}
-use Rattle.semantics.specs.Lists.{some-of}
+use Rattle.semantics.specs.Lists.{cons-unless}
 use Rattle.semantics.specs.declared.Order.{Order}
 use Rattle.semantics.specs.Algorithm.{take-by, wait}
 
@@ -16,14 +16,10 @@ abbrev pub waits : ℕ → List ℤ → List ℕ
 waits n l = map natAbs (take n l)
 
 -- the words l, n of them in use, hold the slots wa
-pub record Put (l : List ℤ) (n : ℕ) (wa : List ℕ) : Type 0 where
+pub record Stored (l : List ℤ) (n : ℕ) (wa : List ℕ) : Type 0 where
   pub count : n ≡ length wa
   pub fits : n ≤ length l
   pub words : l ≡ map pos wa ++ replicate (length l - n) (pos 0)
-
--- one of the words is k
-abbrev pub any-word : ℤ → List ℤ → Bool
-any-word k l = some-of (eqZ k) l
 
 -- x is put before the words, and the last word falls out
 abbrev pub pushed : ℤ → List ℤ → List ℤ
@@ -35,14 +31,10 @@ abbrev pub shifted : List ℤ → List ℤ
 shifted [] = []
 shifted (x ∷ l) = getD l 0 (pos 0) ∷ shifted l
 
-abbrev pub keep-word : Bool → ℤ → List ℤ → List ℤ
-keep-word true x l = l
-keep-word false x l = x ∷ l
-
 -- the words other than k
 abbrev pub others : ℤ → List ℤ → List ℤ
 others k [] = []
-others k (x ∷ l) = keep-word (eqZ x k) x (others k l)
+others k (x ∷ l) = cons-unless (eqZ x k) x (others k l)
 
 -- the slot waits, unless its abstract state is the same as before
 abbrev pub wait-unless : Bool → ℕ → List ℕ → List ℕ
@@ -60,4 +52,4 @@ kept-at false l j x = set l j x
 -- the slot k was taken by the order o from the slots wa, and the words l, n of them in use, hold the rest
 pub record TakenFrom (o : Order) (wa : List ℕ) (k : ℕ) (l : List ℤ) (n : ℕ) : Type 0 where
   pub taken : take-by o wa ≡ some (record { slot = k; rest = waits n l })
-  pub kept : Put l n (waits n l)
+  pub kept : Stored l n (waits n l)

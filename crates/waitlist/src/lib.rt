@@ -13,36 +13,22 @@ ghost use Rattle.semantics.specs.Lists.{some-of};
 ghost use Rattle.semantics.specs.declared.Order.the-variants.{Old, New};
 ghost use Rattle.semantics.specs.Algorithm.{without, put-back, wait};
 ghost use Rattle.semantics.specs.Coverage.{Queue};
-ghost use Rattle.waitlist.specs.Waits.{waits, Put, any-word, pushed, shifted, wait-unless, others, next-place, kept-at, TakenFrom};
-
-fn any_word(s: &[i32], k: i32) -> bool
-    ensures { λ r. ⌜ r ≡ any-word k (now (s .entry)) ⌝ }
-{
-    let mut i = 0;
-    while i < s.len() {
-        let x = s[i];
-        if k == x {
-            return true;
-        }
-        i += 1;
-    }
-    false
-}
+ghost use Rattle.waitlist.specs.Waits.{waits, Stored, pushed, shifted, wait-unless, others, next-place, kept-at, TakenFrom};
 
 // Whether the slot is waiting.
 pub fn contains(list: &[i32], count: usize, slot: SlotId) -> bool
-    requires { ⌜ Put (now list) count (waits count (now list)) × (slot .0 < 65536) ⌝ }
+    requires { ⌜ Stored (now list) count (waits count (now list)) × (slot .0 < 65536) ⌝ }
     ensures { λ r. ⌜ r ≡ some-of (eqb (slot .0)) (waits count (now (list .entry))) ⌝ }
 {
     let n = slot.0;
     let k = n as i32;
-    any_word(&list[..count], k)
+    words::contains(&list[..count], k)
 }
 
 // The slot joins the waitlist at its end.
 pub fn append(list: &mut [i32], count: usize, slot: SlotId) -> usize
-    requires { ⌜ Put (now list) count (waits count (now list)) × (count < length (now list)) × (slot .0 < 65536) ⌝ }
-    ensures { λ r. ⌜ Put (now (list .exit)) r (waits count (now (list .entry)) ++ (slot .0 ∷ [])) ⌝ }
+    requires { ⌜ Stored (now list) count (waits count (now list)) × (count < length (now list)) × (slot .0 < 65536) ⌝ }
+    ensures { λ r. ⌜ Stored (now (list .exit)) r (waits count (now (list .entry)) ++ (slot .0 ∷ [])) ⌝ }
 {
     let n = slot.0;
     let k = n as i32;
@@ -52,8 +38,8 @@ pub fn append(list: &mut [i32], count: usize, slot: SlotId) -> usize
 
 // The slot waits: it joins the waitlist unless it is on it.
 pub fn wait(list: &mut [i32], count: usize, slot: SlotId) -> usize
-    requires { ⌜ Put (now list) count (waits count (now list)) × (slot .0 < length (now list)) × (length (now list) < 65536) × Queue (length (now list)) (waits count (now list)) ⌝ }
-    ensures { λ r. ⌜ Put (now (list .exit)) r (wait (slot .0) (waits count (now (list .entry)))) ⌝ }
+    requires { ⌜ Stored (now list) count (waits count (now list)) × (slot .0 < length (now list)) × (length (now list) < 65536) × Queue (length (now list)) (waits count (now list)) ⌝ }
+    ensures { λ r. ⌜ Stored (now (list .exit)) r (wait (slot .0) (waits count (now (list .entry)))) ⌝ }
 {
     if contains(list, count, slot) {
         return count;
@@ -63,8 +49,8 @@ pub fn wait(list: &mut [i32], count: usize, slot: SlotId) -> usize
 
 // The same, unless the flag says that its abstract state is the same as before.
 pub fn wait_unless(same: bool, list: &mut [i32], count: usize, slot: SlotId) -> usize
-    requires { ⌜ Put (now list) count (waits count (now list)) × (slot .0 < length (now list)) × (length (now list) < 65536) × Queue (length (now list)) (waits count (now list)) ⌝ }
-    ensures { λ r. ⌜ Put (now (list .exit)) r (wait-unless same (slot .0) (waits count (now (list .entry)))) ⌝ }
+    requires { ⌜ Stored (now list) count (waits count (now list)) × (slot .0 < length (now list)) × (length (now list) < 65536) × Queue (length (now list)) (waits count (now list)) ⌝ }
+    ensures { λ r. ⌜ Stored (now (list .exit)) r (wait-unless same (slot .0) (waits count (now (list .entry)))) ⌝ }
 {
     if same {
         return count;
@@ -132,7 +118,7 @@ fn remove_word(list: &mut [i32], count: usize, k: i32) -> usize
 
 // Takes the slot that joined first. Only the words in use move.
 fn take_old(list: &mut [i32], count: usize) -> SlotId
-    requires { ⌜ Put (now list) count (waits count (now list)) × (0 < count) ⌝ }
+    requires { ⌜ Stored (now list) count (waits count (now list)) × (0 < count) ⌝ }
     ensures { λ r. ⌜ TakenFrom Old (waits count (now (list .entry))) (r .0) (now (list .exit)) (count - 1) ⌝ }
 {
     let w = list[0];
@@ -142,7 +128,7 @@ fn take_old(list: &mut [i32], count: usize) -> SlotId
 
 // Takes the slot that joined last.
 fn take_new(list: &mut [i32], count: usize) -> SlotId
-    requires { ⌜ Put (now list) count (waits count (now list)) × (0 < count) ⌝ }
+    requires { ⌜ Stored (now list) count (waits count (now list)) × (0 < count) ⌝ }
     ensures { λ r. ⌜ TakenFrom New (waits count (now (list .entry))) (r .0) (now (list .exit)) (count - 1) ⌝ }
 {
     let at = count - 1;
@@ -153,7 +139,7 @@ fn take_new(list: &mut [i32], count: usize) -> SlotId
 
 // Takes the slot that is next by the order.
 pub fn take_slot(order: Order, list: &mut [i32], count: usize) -> SlotId
-    requires { ⌜ Put (now list) count (waits count (now list)) × (0 < count) ⌝ }
+    requires { ⌜ Stored (now list) count (waits count (now list)) × (0 < count) ⌝ }
     ensures { λ r. ⌜ TakenFrom order (waits count (now (list .entry))) (r .0) (now (list .exit)) (count - 1) ⌝ }
 {
     match order {
@@ -164,8 +150,8 @@ pub fn take_slot(order: Order, list: &mut [i32], count: usize) -> SlotId
 
 // Takes the slot out of the waitlist, if it is on it.
 pub fn remove(list: &mut [i32], count: usize, slot: SlotId) -> usize
-    requires { ⌜ Put (now list) count (waits count (now list)) × (slot .0 < 65536) ⌝ }
-    ensures { λ r. ⌜ Put (now (list .exit)) r (without (slot .0) (waits count (now (list .entry)))) ⌝ }
+    requires { ⌜ Stored (now list) count (waits count (now list)) × (slot .0 < 65536) ⌝ }
+    ensures { λ r. ⌜ Stored (now (list .exit)) r (without (slot .0) (waits count (now (list .entry)))) ⌝ }
 {
     let n = slot.0;
     let k = n as i32;
@@ -174,8 +160,8 @@ pub fn remove(list: &mut [i32], count: usize, slot: SlotId) -> usize
 
 // The slot joins the waitlist at its front.
 pub fn prepend(list: &mut [i32], count: usize, slot: SlotId) -> usize
-    requires { ⌜ Put (now list) count (waits count (now list)) × (count < length (now list)) × (slot .0 < 65536) ⌝ }
-    ensures { λ r. ⌜ Put (now (list .exit)) r (slot .0 ∷ waits count (now (list .entry))) ⌝ }
+    requires { ⌜ Stored (now list) count (waits count (now list)) × (count < length (now list)) × (slot .0 < 65536) ⌝ }
+    ensures { λ r. ⌜ Stored (now (list .exit)) r (slot .0 ∷ waits count (now (list .entry))) ⌝ }
 {
     let n = slot.0;
     let k = n as i32;
@@ -185,8 +171,8 @@ pub fn prepend(list: &mut [i32], count: usize, slot: SlotId) -> usize
 
 // The slot goes back, or is moved, to the place that is taken next.
 pub fn put_back(order: Order, list: &mut [i32], count: usize, slot: SlotId) -> usize
-    requires { ⌜ Put (now list) count (waits count (now list)) × (slot .0 < length (now list)) × (length (now list) < 65536) × Queue (length (now list)) (waits count (now list)) ⌝ }
-    ensures { λ r. ⌜ Put (now (list .exit)) r (put-back order (slot .0) (waits count (now (list .entry)))) ⌝ }
+    requires { ⌜ Stored (now list) count (waits count (now list)) × (slot .0 < length (now list)) × (length (now list) < 65536) × Queue (length (now list)) (waits count (now list)) ⌝ }
+    ensures { λ r. ⌜ Stored (now (list .exit)) r (put-back order (slot .0) (waits count (now (list .entry)))) ⌝ }
 {
     let left = remove(list, count, slot);
     match order {

@@ -7,13 +7,13 @@ use lib.Dec.{T}
 use lib.IntN.{ℤ, natAbs}
 use lib.ListN.{length}
 use Rattle.semantics.specs.declared.Settings.{Settings}
-use Rattle.semantics.specs.Coverage.{allowed}
+use Rattle.semantics.specs.Algorithm.{allowed}
 use Rattle.semantics.specs.Encoding.{decode, well-formed}
 use Rattle.semantics.specs.Memory.{Memory, capacity-ok, analysis-ok}
 use Rattle.semantics.specs.Outcomes.{Outcome, refusal, refused-by, settled, short, budget-ok, start-cases, run-cases}
 use Rattle.semantics.proofs.FirstCase.{refuses-none, rest, passed}
 use Rattle.walker.specs.declared.Called.{Called}
-use Rattle.walker.specs.Calls.{Ends}
+use Rattle.walker.specs.Calls.{Ends-called}
 
 pub record StartPasses (ws : List ℤ) (z : Settings) (r : ℤ) (t l : ℕ) : Type 0 where
   pub capacity : T (capacity-ok r)
@@ -46,13 +46,13 @@ run-passes ws b m e =
     record { budget = passed (budget-ok b) (p .0); chart = passed (well-formed ws) (q .0); room = r .0; form = passed (analysis-ok (decode ws) m) (s .0) }
 
 -- a refused call changes nothing
-pub ends-refused : (k n : ℕ) (m : Memory) (sp : List ℕ) (o : Outcome) (r : Called) → k ≡ n → (k ≡ 0 → ⊥) → r .answer ≡ refused-by k 0 → r .analysis ≡ m .analysis → Ends (settled n m sp o) r (m .table) (m .waitlist)
+pub ends-refused : (k n : ℕ) (m : Memory) (sp : List ℕ) (o : Outcome) (r : Called) → k ≡ n → (k ≡ 0 → ⊥) → r .answer ≡ refused-by k 0 → r .analysis ≡ m .analysis → Ends-called (settled n m sp o) r (m .table) (m .waitlist)
 ends-refused zero n m sp o r e h a b = absurd (h refl)
 ends-refused (suc k) n m sp o r e h a b =
-    subst (λ (i : ℕ). Ends (settled i m sp o) r (m .table) (m .waitlist)) e (record { answer = a; analysis = b; table = refl; waitlist = refl })
+    subst (λ (i : ℕ). Ends-called (settled i m sp o) r (m .table) (m .waitlist)) e (record { answer = a; analysis = b; table = refl; waitlist = refl })
 
 -- a call that nothing refuses has the outcome
-pub ends-through : (n : ℕ) (m m′ : Memory) (sp : List ℕ) (o : Outcome) (r : Called) → n ≡ 0 → o .memory ≡ m′ → r .answer ≡ o .answer → r .analysis ≡ m′ .analysis → Ends (settled n m sp o) r (m′ .table) (m′ .waitlist)
+pub ends-through : (n : ℕ) (m m′ : Memory) (sp : List ℕ) (o : Outcome) (r : Called) → n ≡ 0 → o .memory ≡ m′ → r .answer ≡ o .answer → r .analysis ≡ m′ .analysis → Ends-called (settled n m sp o) r (m′ .table) (m′ .waitlist)
 ends-through n m m′ sp o r e p a b =
-    subst (λ (i : ℕ). Ends (settled i m sp o) r (m′ .table) (m′ .waitlist)) (sym e)
+    subst (λ (i : ℕ). Ends-called (settled i m sp o) r (m′ .table) (m′ .waitlist)) (sym e)
     (record { answer = a; analysis = b ∙ sym (ap (λ (x : Memory). x .analysis) p); table = sym (ap (λ (x : Memory). x .table) p); waitlist = sym (ap (λ (x : Memory). x .waitlist) p) })

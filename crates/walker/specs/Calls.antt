@@ -13,15 +13,15 @@ use Rattle.semantics.specs.Outcomes.{Outcome}
 use Rattle.walker.specs.declared.Called.{Called}
 
 -- "determines, from the values at entry alone, the answer and every lent word at exit": these are the outcome's answer, record, table and waitlist
-pub record Leaves (o : Outcome) (r : Answer) (a : Analysis) (t l : List ℤ) : Type 0 where
+pub record Ends (o : Outcome) (r : Answer) (a : Analysis) (t l : List ℤ) : Type 0 where
   pub answer : r ≡ o .answer
   pub analysis : a ≡ o .memory .analysis
   pub table : t ≡ o .memory .table
   pub waitlist : l ≡ o .memory .waitlist
 
 -- the same of a call that answers the record
-abbrev pub Ends : Outcome → Called → List ℤ → List ℤ → Type 0
-Ends o r t l = Leaves o (r .answer) (r .analysis) t l
+abbrev pub Ends-called : Outcome → Called → List ℤ → List ℤ → Type 0
+Ends-called o r t l = Ends o (r .answer) (r .analysis) t l
 
 -- ---- what the parts of a start ask
 

@@ -8,14 +8,13 @@ ghost use lib.Dec.{T};
 ghost use lib.IntN.{pos};
 ghost use lib.ListN.{length};
 ghost use Rattle.semantics.specs.declared.Analysis.{Analysis};
-ghost use Rattle.semantics.specs.Algorithm.{start};
-ghost use Rattle.semantics.specs.Coverage.{allowed};
+ghost use Rattle.semantics.specs.Algorithm.{start, allowed};
 ghost use Rattle.semantics.specs.Encoding.{decode, well-formed};
 ghost use Rattle.semantics.specs.Memory.{width, load, analysis-ok};
 ghost use Rattle.form.specs.Form.{lent};
 ghost use Rattle.analysis.specs.Loaded.{domain-of, Loaded};
 ghost use Rattle.transfer.specs.Transfer.{initial-row};
-ghost use Rattle.walker.specs.Calls.{Begins, Leaves, Ends};
+ghost use Rattle.walker.specs.Calls.{Begins, Ends, Ends-called};
 ghost use Rattle.semantics.specs.Outcomes.{refusal, fine, refused-by, put-in, started, resumed, start-cases, start-outcome, run-cases, run-outcome};
 
 // What a call answers, and the record as it leaves it.
@@ -184,7 +183,7 @@ pub fn start(
     table: &mut [i32],
     list: &mut [i32],
 ) -> Called
-    ensures { λ r. ⌜ Ends (start-outcome (now (chart .entry)) settings capacity (lent (now (table .entry)) (now (list .entry)) a)) r (now (table .exit)) (now (list .exit)) ⌝ }
+    ensures { λ r. ⌜ Ends-called (start-outcome (now (chart .entry)) settings capacity (lent (now (table .entry)) (now (list .entry)) a)) r (now (table .exit)) (now (list .exit)) ⌝ }
 {
     let number = start_refusal(chart, settings, capacity, table.len(), list.len());
     if number != 0 {
@@ -202,7 +201,7 @@ pub fn start(
 
 // A run with the record by value, and answered.
 fn advance(chart: &[i32], budget: i32, a: Analysis, table: &mut [i32], list: &mut [i32]) -> Called
-    ensures { λ r. ⌜ Ends (run-outcome (now (chart .entry)) budget (lent (now (table .entry)) (now (list .entry)) a)) r (now (table .exit)) (now (list .exit)) ⌝ }
+    ensures { λ r. ⌜ Ends-called (run-outcome (now (chart .entry)) budget (lent (now (table .entry)) (now (list .entry)) a)) r (now (table .exit)) (now (list .exit)) ⌝ }
 {
     let number = run_refusal(chart, budget, a, table, list);
     if number != 0 {
@@ -227,7 +226,7 @@ pub fn run(
     table: &mut [i32],
     list: &mut [i32],
 ) -> Answer
-    ensures { λ r. ⌜ Leaves (run-outcome (now (chart .entry)) budget (lent (now (table .entry)) (now (list .entry)) (now (a .entry)))) r (now (a .exit)) (now (table .exit)) (now (list .exit)) ⌝ }
+    ensures { λ r. ⌜ Ends (run-outcome (now (chart .entry)) budget (lent (now (table .entry)) (now (list .entry)) (now (a .entry)))) r (now (a .exit)) (now (table .exit)) (now (list .exit)) ⌝ }
 {
     let r = advance(chart, budget, *a, table, list);
     *a = r.analysis;
@@ -242,7 +241,7 @@ pub fn run_by_value(
     table: &mut [i32],
     list: &mut [i32],
 ) -> Called
-    ensures { λ r. ⌜ Ends (run-outcome (now (chart .entry)) budget (lent (now (table .entry)) (now (list .entry)) a)) r (now (table .exit)) (now (list .exit)) ⌝ }
+    ensures { λ r. ⌜ Ends-called (run-outcome (now (chart .entry)) budget (lent (now (table .entry)) (now (list .entry)) a)) r (now (table .exit)) (now (list .exit)) ⌝ }
 {
     let mut analysis = a;
     let answer = run(chart, budget, &mut analysis, table, list);

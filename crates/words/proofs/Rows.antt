@@ -1,13 +1,15 @@
--- Rows of a table: parts of it, and what a row put at a place changes. Assumes nothing.
-use mathlib.Core.Path.{_≡_, refl, sym, ap, subst}
+-- Rows of a table: parts of it, what a row put at a place changes, and turns of loops over words. Assumes nothing.
+use mathlib.Core.Path.{_≡_, refl, sym, ap, subst, _∙_}
+use mathlib.Core.Bool.{Bool, true, false, _||_}
 use mathlib.Core.List.{List, [], _∷_, _++_, append-assoc}
 use Prim.Native.Nat.{ℕ, zero, suc, _+_, _-_, _*_, _≤_, _<_}
 use native.Mathlib.Nat.{suc-mul, mul-le-mul-right, sub-zero, zero-sub, suc-sub-suc}
 use native.Mathlib.Omega.{arith}
 use native.Mathlib.Numerals.{add-one}
 use lib.IntN.{ℤ, pos}
-use lib.ListN.{length, take, drop, length-take, length-drop, length-append, set, replicate}
-use lib.Seq.{take-at, drop-at, drop-nil, take-nil, length-take-le, take-suc-set}
+use lib.ListN.{length, getD, take, drop, length-take, length-drop, length-append, set, replicate}
+use lib.Seq.{take-at, drop-at, drop-nil, take-nil, take-all, drop-cons, length-take-le, take-suc-set}
+use Rattle.semantics.specs.Lists.{some-of}
 
 pub drop-take : (b a : ℕ) (l : List ℤ) → drop b (take a l) ≡ take (a - b) (drop b l)
 drop-take zero a l = rw sub-zero
@@ -45,6 +47,20 @@ module _ (t : List ℤ) (a w : ℕ) (ws : List ℤ) (fits : a + w ≤ length t) 
 
   pub length-put : length put ≡ length t
   length-put = simp (length-append, length-drop, length-take) (omega arith)
+
+-- the part of a slice from a place on: `&l[j..]`
+pub tail : (l : List ℤ) (j : ℕ) → take (length l - j) (drop j l) ≡ drop j l
+tail l j = take-all (length l - j) (drop j l) (simp length-drop (omega arith))
+
+-- a search: the test at i, which says b, and what is left after it
+pub some-turn : (l : List ℤ) (i : ℕ) → i < length l → (b : Bool) (p : ℤ → Bool) → p (getD l i (pos 0)) ≡ b → some-of p (drop i l) ≡ b || some-of p (drop (i + 1) l)
+some-turn l i h b p e = split ∙ ap (λ (x : Bool). x || some-of p (drop (i + 1) l)) e where
+  either : (x y : Bool) → elim x [ true ↦ true | false ↦ y ] ≡ x || y
+  either true y = refl
+  either false y = refl
+
+  split : some-of p (drop i l) ≡ p (getD l i (pos 0)) || some-of p (drop (i + 1) l)
+  split = rw (add-one, drop-cons l i (pos 0) h) (either (p (getD l i (pos 0))) (some-of p (drop (suc i) l)))
 
 -- one zero more
 pub zero-turn : (s : List ℤ) (i : ℕ) → i < length s → take i s ≡ replicate i (pos 0) → take (i + 1) (set s i (pos 0)) ≡ replicate (i + 1) (pos 0)

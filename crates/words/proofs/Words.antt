@@ -11,8 +11,13 @@ use mir.Syntax.{Width, w32, w64}
 use mir.Val.{SFits, ofZ, toZ}
 use mir.ValLaws.{toZ-ofZ}
 use mir.Facts.{sfits-widen, sfits-lit}
-use borrow.Author.Tests.{eqb-true, eq-eqb, ne-eqb, leb-true, ltb-true}
+use borrow.Author.Tests.{eqb-true, eq-eqb, ne-eqb, le-leb, leb-true, ltb-true}
 use Rattle.semantics.specs.Chart.{eqZ}
+
+-- the test for a sign
+pub from-zero : (z : ℤ) → leZ (pos 0) z ≡ nonNeg z
+from-zero (pos n) = le-leb 0 n (omega arith)
+from-zero (negsuc n) = refl
 
 pub eqZ-true : (a b : ℤ) → eqZ a b ≡ true → a ≡ b
 eqZ-true (pos a) (pos b) e = ap pos (eqb-true a b e)

@@ -1,10 +1,12 @@
-// Signed 32-bit words: total reads, copies and tests that every table is built on.
+// Signed 32-bit words: total reads, tests and copies that every table is built on.
 ghost use mathlib.Core.Path.{_≡_};
 ghost use Prim.Native.Nat.{_<_};
 ghost use lib.IntN.{pos, natAbs};
 ghost use lib.ListN.{length, getD, replicate};
+ghost use Rattle.semantics.specs.Lists.{some-of};
+ghost use Rattle.semantics.specs.Chart.{eqZ, within};
 ghost use Rattle.semantics.specs.Encoding.{count};
-ghost use Rattle.semantics.specs.Memory.{zeros};
+ghost use Rattle.semantics.specs.Memory.{below, zeros};
 
 // The word for top: document 01's unspecific, which no variable can hold.
 pub const TOP: i32 = 32768;
@@ -44,6 +46,24 @@ pub fn number_at(s: &[i32], i: usize) -> usize
     magnitude(word_at(s, i))
 }
 
+// ---- one word
+
+pub fn lies_within(lo: i32, hi: i32, w: i32) -> bool
+    ensures { λ r. ⌜ r ≡ within lo hi w ⌝ }
+{
+    (lo <= w) & (w <= hi)
+}
+
+// A number from 0 up to, not including, n.
+pub fn is_below(n: usize, w: i32) -> bool
+    ensures { λ r. ⌜ r ≡ below n w ⌝ }
+{
+    (0 <= w) & (magnitude(w) < n)
+}
+
+// ---- all words
+
+// The lengths are the same.
 pub fn copy_words(dst: &mut [i32], src: &[i32])
     requires { ⌜ length (now dst) ≡ length (now src) ⌝ }
     ensures { λ _. ⌜ now (dst .exit) ≡ now (src .entry) ⌝ }
@@ -64,6 +84,21 @@ pub fn fill_zero(s: &mut [i32])
         s[i] = 0;
         i += 1;
     }
+}
+
+// Whether the word is one of those given.
+pub fn contains(s: &[i32], x: i32) -> bool
+    ensures { λ r. ⌜ r ≡ some-of (eqZ x) (now (s .entry)) ⌝ }
+{
+    let mut i = 0;
+    while i < s.len() {
+        let y = s[i];
+        if x == y {
+            return true;
+        }
+        i += 1;
+    }
+    false
 }
 
 pub fn all_zero(s: &[i32]) -> bool

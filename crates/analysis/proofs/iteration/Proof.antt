@@ -15,34 +15,34 @@ row-length w h = length-take-le w (replicate 9 (pos 0)) h
 array-borrow-prefix-copy : tie.Need-array-borrow-prefix-copy
 array-borrow-prefix-copy c = c .before .before .before .before .pre .3
 
-slice-aggregate-iterate : tie.Need-slice-aggregate-iterate
-slice-aggregate-iterate c = let s = c .before .before .before .before .before in sym (row-length (s .args .width) (s .pre .3))
+slice-aggregate-iteration-with : tie.Need-slice-aggregate-iteration-with
+slice-aggregate-iteration-with c = let s = c .before .before .before .before .before in sym (row-length (s .args .width) (s .pre .3))
 
 array-borrow-prefix-next : tie.Need-array-borrow-prefix-next
 array-borrow-prefix-next c = c .before .before .before .before .before .pre .3
 
-slice-aggregate-iterate-2 : tie.Need-slice-aggregate-iterate-2
-slice-aggregate-iterate-2 c = let s = c .before .before .before .before .before .before in sym (row-length (s .args .width) (s .pre .3))
+slice-aggregate-iteration-with-2 : tie.Need-slice-aggregate-iteration-with-2
+slice-aggregate-iteration-with-2 c = let s = c .before .before .before .before .before .before in sym (row-length (s .args .width) (s .pre .3))
 
-iterate-requires : tie.Need-iterate-requires
-iterate-requires c κs =
+iteration-with-requires : tie.Need-iteration-with-requires
+iteration-with-requires c κs =
     let s = c .before .before .before .before .before .before in
     rw (row-length (s .args .width) (s .pre .3)) (s .pre .0, s .pre .1, s .pre .2, refl, s .pre .4, s .pre .5, s .pre .6)
 
 returns : tie.Need-returns
 returns c =
     let s = c .before .before .before .before .before .before .before .before .before .before .before in
-    rw (row-length (s .args .width) (s .pre .3)) at (c .before .before .before .before .iterate .ensures)
+    rw (row-length (s .args .width) (s .pre .3)) at (c .before .before .before .before .iteration-with .ensures)
 
 pub iteration-spec : {M : Type 1} → statement M
 iteration-spec =
     tie.close
     (tie.spec
     array-borrow-prefix-copy
-    slice-aggregate-iterate
+    slice-aggregate-iteration-with
     array-borrow-prefix-next
-    slice-aggregate-iterate-2
-    iterate-requires
+    slice-aggregate-iteration-with-2
+    iteration-with-requires
     (λ c. search needs)
     (λ c. search needs)
     returns)

@@ -17,8 +17,8 @@ returns c =
     rw (
       c .operation-ok .ensures,
       m .is-at-most .ensures,
-      i .is-index2 .ensures,
-      h .is-index .ensures,
+      i .is-below2 .ensures,
+      h .is-below .ensures,
       told (sfits-of {z = from .result} (from .ok)) (from .ensures),
       told (sfits-of {z = to .result} (to .ok)) (to .ensures),
       told (sfits-of {z = op .result} (op .ok)) (op .ensures),

@@ -6,7 +6,8 @@ use native.Mathlib.Omega.{arith}
 use lib.ListN.{drop, length-take, length-drop}
 use Rattle.semantics.specs.Lists.{all}
 use Rattle.encoded.specs.Encoded.{rows, edge-fine}
-use Rattle.encoded.proofs.Facts.{from-on, rows-start, rows-turn, rows-end}
+use Rattle.words.proofs.Rows.{tail}
+use Rattle.encoded.proofs.Facts.{rows-start, rows-turn, rows-end}
 use Rattle.encoded.proofs.edges_ok.Statement.{statement}
 use Rattle.encoded.proofs.edges_ok.Tie as tie
 
@@ -28,7 +29,7 @@ loop-again c =
     let a = b .before .args in
     let l = b .loop in
     let p = edge-fine (a .vars .now) (a .v) (a .l) in
-    let e = c .edge-row-ok .ensures ∙ ap p (from-on (a .edges .now) (l .at)) in
+    let e = c .edge-row-ok .ensures ∙ ap p (tail (a .edges .now) (l .at)) in
     (omega arith, omega arith, l .inv .2 ∙ rows-turn p (λ r. r) 8 (a .n) (a .edges .now) (l .ok) (l .i) (l .at) (c .edge-row-ok .result) e (c .before .before .loop-test .taken))
 
 returns : tie.Need-returns Inv-loop μ-loop

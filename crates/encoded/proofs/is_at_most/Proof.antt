@@ -2,7 +2,7 @@
 use borrow.Author.Needs.{needs}
 use mir.Syntax.{w32}
 use mir.ValLaws.{toZ-ofZ}
-use Rattle.encoded.proofs.Facts.{from-zero}
+use Rattle.words.proofs.Words.{from-zero}
 use Rattle.encoded.proofs.is_at_most.Statement.{statement}
 use Rattle.encoded.proofs.is_at_most.Tie as tie
 

@@ -9,7 +9,7 @@ use lib.IntN.{ℤ}
 use lib.ListN.{length, drop-of-length-le}
 use Rattle.semantics.specs.Encoding.{loc-in, count}
 use Rattle.encoded.specs.Encoded.{locations-at}
-use Rattle.encoded.proofs.Facts.{from-on}
+use Rattle.words.proofs.Rows.{tail}
 use Rattle.encoded.proofs.NameBytes.{name-at, no-name}
 use Rattle.encoded.proofs.location_row.Statement.{statement}
 use Rattle.encoded.proofs.location_row.Tie as tie
@@ -18,15 +18,15 @@ returns : tie.Need-returns
 returns c =
     let b = c .before .before in
     let n = b .before .before in
-    let ws = n .before .args .words .now in
+    let ws = n .before .args .chart .now in
     let k = n .before .args .l .0 in
     let h : k < count ws 1 = omega (arith, n .location-count .ensures .0) in
-    rw (from-on ws (b .locations-at .result + 17 * k), b .locations-at .ensures .0) (sym (name-at ws k h))
+    rw (tail ws (b .locations-at .result + 17 * k), b .locations-at .ensures .0) (sym (name-at ws k h))
 
 returns-2 : tie.Need-returns-2
 returns-2 c =
     let n = c .before .before in
-    let ws = n .before .args .words .now in
+    let ws = n .before .args .chart .now in
     let k = n .before .args .l .0 in
     ⊎-elim
     (λ w.

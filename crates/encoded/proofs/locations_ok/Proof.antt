@@ -6,7 +6,8 @@ use native.Mathlib.Omega.{arith}
 use lib.ListN.{drop, length-take, length-drop}
 use Rattle.semantics.specs.Lists.{all}
 use Rattle.encoded.specs.Encoded.{rows, location-fine}
-use Rattle.encoded.proofs.Facts.{from-on, rows-start, rows-turn, rows-end}
+use Rattle.words.proofs.Rows.{tail}
+use Rattle.encoded.proofs.Facts.{rows-start, rows-turn, rows-end}
 use Rattle.encoded.proofs.locations_ok.Statement.{statement}
 use Rattle.encoded.proofs.locations_ok.Tie as tie
 
@@ -27,7 +28,7 @@ loop-again c =
     let b = c .before .before .before in
     let a = b .before .args in
     let l = b .loop in
-    let e = c .location-row-ok .ensures ∙ ap location-fine (from-on (a .locations .now) (l .at)) in
+    let e = c .location-row-ok .ensures ∙ ap location-fine (tail (a .locations .now) (l .at)) in
     (omega arith, omega arith, l .inv .2 ∙ rows-turn location-fine (λ r. r) 17 (a .n) (a .locations .now) (l .ok) (l .i) (l .at) (c .location-row-ok .result) e (c .before .before .loop-test .taken))
 
 returns : tie.Need-returns Inv-loop μ-loop

@@ -10,7 +10,8 @@ use lib.ListN.{drop}
 use Rattle.semantics.specs.Lists.{all}
 use Rattle.semantics.specs.Text.{same-bytes}
 use Rattle.semantics.specs.Encoding.{loc-in, several}
-use Rattle.encoded.proofs.Facts.{from-on, rows-start, rows-turn, rows-end}
+use Rattle.words.proofs.Rows.{tail}
+use Rattle.encoded.proofs.Facts.{rows-start, rows-turn, rows-end}
 use Rattle.encoded.proofs.Names.{other-name}
 use Rattle.encoded.proofs.name_is_new.Statement.{statement}
 use Rattle.encoded.proofs.name_is_new.Tie as tie
@@ -33,7 +34,7 @@ loop-again c =
     let b = c .before .before .before in
     let a = b .before .args in
     let l = b .loop in
-    let e = ap not (c .same-name .ensures ∙ ap (λ (r : List ℤ). same-bytes (loc-in (a .row .now) .name) (loc-in r .name)) (from-on (a .locations .now) (l .at))) in
+    let e = ap not (c .same-name .ensures ∙ ap (λ (r : List ℤ). same-bytes (loc-in (a .row .now) .name) (loc-in r .name)) (tail (a .locations .now) (l .at))) in
     (omega arith, omega arith, l .inv .2 ∙ rows-turn (other-name (a .row .now)) loc-in 17 (a .n) (a .locations .now) (l .ok) (l .i) (l .at) (not (c .same-name .result)) e (c .before .before .loop-test .taken))
 
 returns : tie.Need-returns Inv-loop μ-loop

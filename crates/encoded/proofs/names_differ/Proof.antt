@@ -9,7 +9,7 @@ use lib.ListN.{length, take, drop, length-take, length-drop}
 use Rattle.semantics.specs.Lists.{all}
 use Rattle.semantics.specs.Encoding.{loc-in, several, distinct-names}
 use Rattle.semantics.proofs.Values.{and-true}
-use Rattle.encoded.proofs.Facts.{from-on}
+use Rattle.words.proofs.Rows.{tail}
 use Rattle.encoded.proofs.Names.{other-name, differ-turn}
 use Rattle.encoded.proofs.names_differ.Statement.{statement}
 use Rattle.encoded.proofs.names_differ.Tie as tie
@@ -29,7 +29,7 @@ loop-again c =
     let l = b .loop in
     let m = l .left - 1 in
     let next = l .at + 17 in
-    let e = c .name-is-new .ensures ∙ ap (λ (r : List ℤ). all (other-name r) (several loc-in 17 m (take (length ws - next) (drop next ws)))) (from-on ws (l .at)) ∙ ap (λ (r : List ℤ). all (other-name (drop (l .at) ws)) (several loc-in 17 m r)) (from-on ws next) in
+    let e = c .name-is-new .ensures ∙ ap (λ (r : List ℤ). all (other-name r) (several loc-in 17 m (take (length ws - next) (drop next ws)))) (tail ws (l .at)) ∙ ap (λ (r : List ℤ). all (other-name (drop (l .at) ws)) (several loc-in 17 m r)) (tail ws next) in
     (omega arith, l .inv .1 ∙ differ-turn ws (l .ok) (l .left) (l .at) (c .name-is-new .result) (c .before .before .before .loop-test .taken) e)
 
 returns : tie.Need-returns Inv-loop μ-loop

@@ -23,7 +23,7 @@ returns-2 c =
     rw (
       bits-ne w32 {a = t} {b = pos 0} (s .fits .tag) (sfits-lit tt) (c .before .if1 .left),
       bits-eqb w32 {a = t} {b = pos 1} (s .fits .tag) (sfits-lit tt),
-      c .is-index .ensures,
+      c .is-below .ensures,
       toZ-ofZ w32 (s .args .w) (s .fits .w),
     )
 

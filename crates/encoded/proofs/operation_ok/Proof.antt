@@ -22,7 +22,7 @@ returns-2 c =
     let t = w .word-at in
     rw (
       c .operands-ok .ensures,
-      c .before .is-index .ensures,
+      c .before .is-below .ensures,
       told (sfits-of {z = t .result} (t .ok)) (t .ensures),
       ← n .number-at .ensures .0,
       ne-eqb (n .number-at .result) 0 (w .before .if1 .left),

@@ -1,7 +1,7 @@
 -- `encoded::rows_ok` meets its contract. Assumes nothing.
 use borrow.Author.Needs.{needs}
 use Rattle.encoded.specs.Encoded.{rows-fine}
-use Rattle.encoded.proofs.Facts.{from-on}
+use Rattle.words.proofs.Rows.{tail}
 use Rattle.encoded.proofs.rows_ok.Statement.{statement}
 use Rattle.encoded.proofs.rows_ok.Tie as tie
 
@@ -14,15 +14,15 @@ returns c =
     let a = f .before in
     let e = a .before in
     let l = e .before in
-    let ws = l .before .before .args .words .now in
+    let ws = l .before .before .args .chart .now in
     rw (
       c .edges-ok .ensures,
       d .names-differ .ensures,
       d .before .locations-ok .ensures,
       v .vars-ok .ensures,
-      from-on ws 3,
-      from-on ws (a .locations-at .result),
-      from-on ws (f .edges-at .result),
+      tail ws 3,
+      tail ws (a .locations-at .result),
+      tail ws (f .edges-at .result),
       a .locations-at .ensures .0,
       f .edges-at .ensures .0,
       e .edge-count .ensures .0,

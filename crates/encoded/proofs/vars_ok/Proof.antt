@@ -9,7 +9,8 @@ use lib.IntN.{ℤ}
 use lib.ListN.{drop}
 use Rattle.semantics.specs.Lists.{all}
 use Rattle.semantics.specs.Encoding.{var-in, var-ok, several}
-use Rattle.encoded.proofs.Facts.{from-on, rows-start, rows-turn, rows-end}
+use Rattle.words.proofs.Rows.{tail}
+use Rattle.encoded.proofs.Facts.{rows-start, rows-turn, rows-end}
 use Rattle.encoded.proofs.vars_ok.Statement.{statement}
 use Rattle.encoded.proofs.vars_ok.Tie as tie
 
@@ -28,7 +29,7 @@ loop-again c =
     let b = c .before .before .before in
     let ws = b .before .args .vars .now in
     let l = b .loop in
-    let e = c .var-row-ok .ensures ∙ ap (λ (r : List ℤ). var-ok (var-in r)) (from-on ws (l .at)) in
+    let e = c .var-row-ok .ensures ∙ ap (λ (r : List ℤ). var-ok (var-in r)) (tail ws (l .at)) in
     (omega arith, omega arith, l .inv .2 ∙ rows-turn var-ok var-in 3 (b .before .args .n) ws (l .ok) (l .i) (l .at) (c .var-row-ok .result) e (c .before .before .loop-test .taken))
 
 returns : tie.Need-returns Inv-loop μ-loop

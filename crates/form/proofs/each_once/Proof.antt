@@ -12,7 +12,8 @@ use mir.ValLaws.{toZ-ofZ}
 use Rattle.semantics.specs.Lists.{some-of}
 use Rattle.semantics.specs.Chart.{eqZ}
 use Rattle.semantics.specs.Memory.{each-once}
-use Rattle.form.proofs.Facts.{once-turn, tail}
+use Rattle.words.proofs.Rows.{tail}
+use Rattle.form.proofs.Facts.{once-turn}
 use Rattle.form.proofs.each_once.Statement.{statement}
 use Rattle.form.proofs.each_once.Tie as tie
 

@@ -10,7 +10,8 @@ use mir.ValLaws.{toZ-ofZ}
 use Rattle.semantics.specs.Lists.{all-pairs}
 use Rattle.semantics.specs.Encoding.{count, several, var-in}
 use Rattle.semantics.specs.Memory.{value-ok, below}
-use Rattle.form.proofs.Facts.{row-turn, tail}
+use Rattle.words.proofs.Rows.{tail}
+use Rattle.form.proofs.Facts.{row-turn}
 use Rattle.form.proofs.row_ok.Statement.{statement}
 use Rattle.form.proofs.row_ok.Tie as tie
 

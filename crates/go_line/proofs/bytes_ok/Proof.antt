@@ -7,7 +7,7 @@ use lib.ListN.{length, drop}
 use borrow.Author.Tests.{not-true, not-false}
 use Rattle.semantics.specs.Lists.{all}
 use Rattle.text.proofs.Bytes.{all-step, all-stop, all-end}
-use Rattle.go_line.specs.Asked.{line-byte}
+use Rattle.semantics.specs.Program.{line-byte}
 use Rattle.go_line.proofs.bytes_ok.Statement.{statement}
 use Rattle.go_line.proofs.bytes_ok.Tie as tie
 

@@ -3,22 +3,22 @@ use borrow.Author.Needs.{needs}
 use mathlib.Core.Path.{_≡_, _∙_}
 use mir.Syntax.{w32}
 use mir.Val.{toZ, ofZ}
-use Rattle.semantics.specs.Reading.{andThen}
-use Rattle.text.specs.Fields.{numberSaid}
-use Rattle.go_line.specs.Asked.{askedRes, numbers}
+use Rattle.semantics.specs.Reading.{if-ok}
+use Rattle.text.specs.Fields.{number-said}
+use Rattle.go_line.specs.Asked.{asked-res, numbers}
 use Rattle.go_line.proofs.counts.Statement.{statement}
 use Rattle.go_line.proofs.counts.Tie as tie
 
 returns : tie.Need-returns
-unfolding askedRes numbers numberSaid andThen
+unfolding asked-res numbers number-said if-ok
 returns c = simp (c .enum-told .given .1)
 
 returns-2 : tie.Need-returns-2
-unfolding askedRes numbers numberSaid andThen
+unfolding asked-res numbers number-said if-ok
 returns-2 c = simp (c .before .before .before .capacity .given .1, c .enum-told2 .given .1)
 
 returns-3 : tie.Need-returns-3
-unfolding numbers numberSaid andThen
+unfolding numbers number-said if-ok
 returns-3 c =
     let a = c .before .before .before .before .before in
     let b = c .before .before in

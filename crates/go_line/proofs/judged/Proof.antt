@@ -10,7 +10,7 @@ use borrow.Author.Tests.{not-true, not-false}
 use denote.Ref.{now}
 use Rattle.semantics.specs.Text.{bytes, same-bytes, fields}
 use Rattle.semantics.specs.Reading.{check, nth, none-empty}
-use Rattle.go_line.specs.Asked.{askedRes, line-fields}
+use Rattle.go_line.specs.Asked.{asked-res, line-fields}
 use Rattle.go_line.proofs.judged.Statement.{statement}
 use Rattle.go_line.proofs.judged.Tie as tie
 
@@ -22,11 +22,11 @@ word-said : (c : tie.After-same-bytes) → same-bytes (nth (fields (now (c .befo
 word-said c = ap (λ (f : List ℕ). same-bytes f (bytes "go")) (sym (c .before .before .field .ensures)) ∙ sym (c .same-bytes .ensures)
 
 returns : tie.Need-returns
-unfolding askedRes line-fields check
+unfolding asked-res line-fields check
 returns c = rw (sym (c .before .filled .ensures) ∙ not-true (c .before .filled .result) (c .if1 .taken))
 
 returns-2 : tie.Need-returns-2
-unfolding askedRes line-fields check
+unfolding asked-res line-fields check
 returns-2 c = rw (fields-passed (c .before .before .before .before), word-said (c .before) ∙ not-true (c .before .same-bytes .result) (c .if2 .taken))
 
 returns-3 : tie.Need-returns-3

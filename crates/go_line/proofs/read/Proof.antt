@@ -13,9 +13,9 @@ use mir.Val.{toZ, ofZ}
 use Rattle.semantics.specs.Lists.{all}
 use Rattle.semantics.specs.Text.{fields}
 use Rattle.semantics.specs.Reading.{check}
-use Rattle.semantics.specs.Program.{go-line, past-line}
+use Rattle.semantics.specs.Program.{go-line, past-line, line-byte}
 use Rattle.text.specs.Fields.{up-to}
-use Rattle.go_line.specs.Asked.{askedRes, line-byte, line-fields, by-end}
+use Rattle.go_line.specs.Asked.{asked-res, line-fields, by-end}
 use Rattle.go_line.proofs.FirstLine.{past-is, by-its-end}
 use Rattle.go_line.proofs.read.Statement.{statement}
 use Rattle.go_line.proofs.read.Tie as tie
@@ -70,18 +70,18 @@ slice-aggregate-judged : tie.Need-slice-aggregate-judged
 slice-aggregate-judged c = part-long (c .before .before .before .before .before .before)
 
 returns-4 : tie.Need-returns-4
-unfolding askedRes
-returns-4 c = passed (c .before .before .before .before .before) ∙ sym (c .before .before .before .judged .ensures) ∙ ap askedRes (c .before .n .given .1)
+unfolding asked-res
+returns-4 c = passed (c .before .before .before .before .before) ∙ sym (c .before .before .before .judged .ensures) ∙ ap asked-res (c .before .n .given .1)
 
 returns-5 : tie.Need-returns-5
-unfolding askedRes
+unfolding asked-res
 returns-5 c =
     let k = c .before .before .before .before .before in
     let g = c .before .settings .given in
     let p : toZ w32 (ofZ w32 (g .0 .1 .0)) ≡ g .0 .1 .0 = search needs in
     let q : toZ w32 (ofZ w32 (g .0 .1 .1 .0)) ≡ g .0 .1 .1 .0 = search needs in
     record {
-      is = rw (p, q) (passed k ∙ sym (c .before .before .before .judged .ensures) ∙ ap askedRes (g .1));
+      is = rw (p, q) (passed k ∙ sym (c .before .before .before .judged .ensures) ∙ ap asked-res (g .1));
       within = omega (arith, ended k);
       rest = rest-is (k .before .before .before .before .before);
     }

@@ -5,10 +5,10 @@ use borrow.Author.Tests.{not-true, not-false}
 use mir.Syntax.{w32}
 use mir.ValLaws.{toZ-ofZ}
 use Rattle.semantics.specs.Reading.{check}
-use Rattle.semantics.specs.Coverage.{allowed}
+use Rattle.semantics.specs.Algorithm.{allowed}
 use Rattle.semantics.specs.Memory.{capacity-ok}
 use Rattle.semantics.specs.Outcomes.{budget-ok}
-use Rattle.go_line.specs.Asked.{askedRes, sized}
+use Rattle.go_line.specs.Asked.{asked-res, sized}
 use Rattle.go_line.proofs.sizes.Statement.{statement}
 use Rattle.go_line.proofs.sizes.Tie as tie
 
@@ -27,23 +27,23 @@ budget-said c =
     sym (c .budget-ok .ensures ∙ ap budget-ok (toZ-ofZ w32 (s .args .budget) (s .fits .budget)))
 
 returns : tie.Need-returns
-unfolding askedRes sized check
+unfolding asked-res sized check
 returns c = rw (capacity-said (c .before) ∙ not-true _ (c .if1 .taken))
 
 returns-2 : tie.Need-returns-2
-unfolding askedRes sized check
+unfolding asked-res sized check
 returns-2 c =
     let t = c .before .before in
     rw (capacity-said t ∙ not-false _ (c .before .if1 .left), settings-said t ∙ not-true _ (c .if2 .taken))
 
 returns-3 : tie.Need-returns-3
-unfolding askedRes sized check
+unfolding asked-res sized check
 returns-3 c =
     let t = c .before .before .before in
     rw (capacity-said t ∙ not-false _ (c .before .before .if1 .left), settings-said t ∙ not-false _ (c .before .if2 .left), budget-said t ∙ not-true _ (c .if3 .taken))
 
 returns-4 : tie.Need-returns-4
-unfolding askedRes sized check
+unfolding asked-res sized check
 returns-4 c =
     let t = c .before .before .before in
     let s = t .before .before .before in

@@ -12,7 +12,7 @@ use Rattle.semantics.proofs.Tidy.{more}
 use Rattle.words.proofs.Rows.{span, part-length, row-in, length-put, drop-put}
 use Rattle.rows.specs.Rows.{row-merge, same-words, rows-merge, rows-of}
 use Rattle.rows.proofs.Turns.{merge-turn}
-use Rattle.waitlist.specs.Waits.{waits, Put}
+use Rattle.waitlist.specs.Waits.{waits, Stored}
 use Rattle.waitlist.proofs.Laws.{held, kept}
 use Rattle.reached.specs.Reached.{rewaits}
 use Rattle.reached.proofs.Laws.{unless-queue}
@@ -24,7 +24,7 @@ Inv-loop table₀ used e list₀ waiting w count₀ from₀ s₀ table list coun
     (s ≤ used) × (from ≡ s * length e) × (length table ≡ length table₀)
     × (rows-merge e (length e) used table₀ ≡ take from table ++ rows-merge e (length e) (used - s) (drop from table))
     × (length list ≡ length list₀)
-    × Put list count (waits count list)
+    × Stored list count (waits count list)
     × Queue used (waits count list)
     × (rewaits e 0 (rows-of (length e) used table₀) (waits waiting list₀) ≡ rewaits e s (rows-of (length e) (used - s) (drop from table)) (waits count list))
 

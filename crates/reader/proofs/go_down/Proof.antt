@@ -51,15 +51,15 @@ use Rattle.lines.specs.Lines.{line-of, place-after}
 use Rattle.lines.specs.declared.Reader.{Reader}
 use Rattle.lines.specs.declared.Line.{Line}
 use Rattle.reader.specs.Held.{nothing-judged, Came, Stands, Ready, Advanced}
-use Rattle.reader.specs.declared.Progress.{Progress}
+use Rattle.reader.specs.declared.Descent.{Descent}
 use Rattle.reader.proofs.Again.{LentAgain, lends, back}
 use Rattle.reader.proofs.Going.{at-first, ready, turns, fewer}
 use Rattle.lines.proofs.Reader as T
 use Rattle.lines.proofs.Reader.Laws as T′
 use Rattle.lines.proofs.Line as S
 use Rattle.lines.proofs.Line.Laws as S′
-use Rattle.reader.proofs.Progress as Y
-use Rattle.reader.proofs.Progress.Laws as Y′
+use Rattle.reader.proofs.Descent as Y
+use Rattle.reader.proofs.Descent.Laws as Y′
 use Rattle.lines.proofs.open as open′
 use Rattle.lines.proofs.open.Symbol as open-def
 use Rattle.lines.proofs.open.Symbol.{name as #lines·open}
@@ -90,13 +90,13 @@ abbrev stayed : Stays (go-down.ended .signature .params) (go-down.ended .kept)
 stayed = (stay-none-slice (0 ∷ []) tt (plain (λ _. u8)) yes, (stay-slice (1 ∷ []) tt (plain (λ _. i32)), (stay-slice (2 ∷ []) tt (plain (λ _. i32)), tt)))
 
 -- the machine value of a progress
-abbrev pv : Progress → Val
+abbrev pv : Descent → Val
 pv p = LL.val Y.the-type Y′.the-laws p
 
 -- where the loop's test is reached: the reader is at m, and the lists, as long as they were, are ts and ns
 record St (text : List ℕ) (nt nn : ℕ) : Type 0 where
   m : ℕ
-  p : Progress
+  p : Descent
   ts : List ℤ
   ns : List ℤ
   m-fits : m < 2 ^ 64
@@ -212,7 +212,7 @@ module _ {M : Type 1} (𝓤 : URA M) (H : Heap 𝓤) (A : Atoms 𝓤) (W : Given
   goes-begun : ent 𝓤 (sem 𝓤 H A ftrue) (Begun 𝓤 H A at-mem run .pre to-begun)
   goes-begun = qed W (‵ ftrue ∷ []) ∵ nothing ! $ join ! $ frame ! $ done !
 
-  begun-said : (p : Progress) → ent 𝓤 (ensured 𝓤 H A begun.ended (begun.clauses 𝓤 H A at-mem run) tt tt tt p) (fact 𝓤 (p ≡ nothing-judged))
+  begun-said : (p : Descent) → ent 𝓤 (ensured 𝓤 H A begun.ended (begun.clauses 𝓤 H A at-mem run) tt tt tt p) (fact 𝓤 (p ≡ nothing-judged))
   begun-said p = exE 𝓤 _ (λ ws. snd∗ 𝓤 (sem 𝓤 H A (lasts begun.ended tt tt ws)) (fact 𝓤 (p ≡ nothing-judged)))
 
   -- the call of `current`, with the reader at m
@@ -241,34 +241,34 @@ module _ {M : Type 1} (𝓤 : URA M) (H : Heap 𝓤) (A : Atoms 𝓤) (W : Given
 
   -- the call of `advance`: the table and the names lent again, for the lifetimes ν₁ and ν₂ and under the names δ₁ and δ₂
   abbrev Args : Type 0
-  Args = Progress × (RefT (List ℤ) × (RefT (List ℤ) × (RefT (List ℕ) × (Line × Unit {0}))))
+  Args = Descent × (RefT (List ℤ) × (RefT (List ℤ) × (RefT (List ℕ) × (Line × Unit {0}))))
 
-  abbrev aA : Progress → List ℤ → List ℤ → Line → GName → GName → Args
+  abbrev aA : Descent → List ℤ → List ℤ → Line → GName → GName → Args
   aA p ts ns l δ₁ δ₂ = (p, (x₁ δ₁ ts, (x₂ δ₂ ns, (s, (l, tt)))))
 
   abbrev ValsA : Type 0
   ValsA = List Val × (List Val × (List Val × (List Val × (List Val × Unit {0}))))
 
-  abbrev vA : Progress → Val → ValsA
+  abbrev vA : Descent → Val → ValsA
   vA p u = (pv p ∷ [], (v₁ ∷ [], (v₂ ∷ [], (v₀ ∷ [], (u ∷ [], tt)))))
 
-  abbrev to-advance : Progress → List ℤ → List ℤ → Line → Val → ℕ → ℕ → GName → GName → Advance 𝓤 H A at-mem run .Ghost
+  abbrev to-advance : Descent → List ℤ → List ℤ → Line → Val → ℕ → ℕ → GName → GName → Advance 𝓤 H A at-mem run .Ghost
   to-advance p ts ns l u ν₁ ν₂ δ₁ δ₂ = (((ν₁ ∷ [], (ν₂ ∷ [], (κ₀, tt))), (fullShare, (fullShare, (q₀, tt))), tt, aA p ts ns l δ₁ δ₂, vA p u), tt)
 
   abbrev Toks : ℕ → ℕ → Item 𝓤
   Toks ν₁ ν₂ = ‵ (flft (ν₁ ∷ []) fullShare) ⊛ ‵ (flft (ν₂ ∷ []) fullShare) ⊛ Tok
 
-  abbrev Passed : Progress → List ℤ → List ℤ → Line → Val → ℕ → ℕ → GName → GName → Item 𝓤
+  abbrev Passed : Descent → List ℤ → List ℤ → Line → Val → ℕ → ℕ → GName → GName → Item 𝓤
   Passed p ts ns l u ν₁ ν₂ δ₁ δ₂ = ‵ (owns (Y.the-row ∷ MutSlice (named 0) (ν₁ ∷ []) i32 ∷ MutSlice (named 1) (ν₂ ∷ []) i32 ∷ ShrSlice (named 2) κ₀ u8 ∷ S.the-row ∷ []) (aA p ts ns l δ₁ δ₂) (vA p u))
 
-  asked : (p : Progress) (ts ns : List ℤ) (l : Line) (u : Val) (ν₁ ν₂ : ℕ) (δ₁ δ₂ : GName) → Ready (now s) p l × (length ts ≡ 3160) × (length ns ≡ 128)
+  asked : (p : Descent) (ts ns : List ℤ) (l : Line) (u : Val) (ν₁ ν₂ : ℕ) (δ₁ δ₂ : GName) → Ready (now s) p l × (length ts ≡ 3160) × (length ns ≡ 128)
       → ent 𝓤 (onEntry 𝓤 H A advance.signature (ν₁ ∷ [], (ν₂ ∷ [], (κ₀, tt))) (fullShare, (fullShare, (q₀, tt))) (aA p ts ns l δ₁ δ₂) (vA p u)) (Advance 𝓤 H A at-mem run .pre (to-advance p ts ns l u ν₁ ν₂ δ₁ δ₂))
   asked p ts ns l u ν₁ ν₂ δ₁ δ₂ h = qed W (Toks ν₁ ν₂ ∷ Passed p ts ns l u ν₁ ν₂ δ₁ δ₂ ∷ []) ∵ says ! h $ frame ! $ done !
 
   abbrev Lasts : Type 0
   Lasts = Unit {0} × (List ℤ × (List ℤ × (Unit {0} × (Unit {0} × Unit {0}))))
 
-  exits : (p : Progress) → Is Y.the-row p (pv p ∷ []) → (ts ns : List ℤ) → length ts ≡ length ys → length ns ≡ length zs → Came (now s) (p .line) (p .step) ts
+  exits : (p : Descent) → Is Y.the-row p (pv p ∷ []) → (ts ns : List ℤ) → length ts ≡ length ys → length ns ≡ length zs → Came (now s) (p .line) (p .step) ts
       → ent 𝓤 (⋆ 𝓤 H A (Tok ∷ ‵ OwnS ∷ ‵ (OwnT ts) ∷ ‵ (flft κ₁ q₁) ∷ ‵ (OwnN ns) ∷ ‵ (flft κ₂ q₂) ∷ [])) (Post (pv p))
   exits p p-is ts ns et en e =
       qed W (Tok ∷ ‵ OwnS ∷ ‵ (OwnT ts) ∷ ‵ (flft κ₁ q₁) ∷ ‵ (OwnN ns) ∷ ‵ (flft κ₂ q₂) ∷ []) ∵
@@ -293,7 +293,7 @@ module _ {M : Type 1} (𝓤 : URA M) (H : Heap 𝓤) (A : Atoms 𝓤) (W : Given
 
     -- the state after a turn
     next-state : (x : State) → x .p .going ≡ true → (l : Line) → l ≡ line-of (now s) (x .m) → (m′ : ℕ) → m′ ≡ place-after l (x .m) → m′ < 2 ^ 64
-        → (r : Progress) {u : Val} → Is Y.the-row r (u ∷ []) → (ts ns : List ℤ) → length ts ≡ length (x .ts) → length ns ≡ length (x .ns) → Advanced (now s) l (x .p) (x .ts) (x .ns) r ts ns → State
+        → (r : Descent) {u : Val} → Is Y.the-row r (u ∷ []) → (ts ns : List ℤ) → length ts ≡ length (x .ts) → length ns ≡ length (x .ns) → Advanced (now s) l (x .p) (x .ts) (x .ns) r ts ns → State
     next-state x g l el m′ em ok r {u} r-is ts ns et en e = record {
       m = m′;
       p = r;
@@ -306,7 +306,7 @@ module _ {M : Type 1} (𝓤 : URA M) (H : Heap 𝓤) (A : Atoms 𝓤) (W : Given
       stands = rw em (e (x .m) el g (x .stands) .0);
     }
 
-    next-falls : (x : State) → x .p .going ≡ true → (l : Line) → l ≡ line-of (now s) (x .m) → (m′ : ℕ) → m′ ≡ place-after l (x .m) → (r : Progress) (ts ns : List ℤ) → Advanced (now s) l (x .p) (x .ts) (x .ns) r ts ns
+    next-falls : (x : State) → x .p .going ≡ true → (l : Line) → l ≡ line-of (now s) (x .m) → (m′ : ℕ) → m′ ≡ place-after l (x .m) → (r : Descent) (ts ns : List ℤ) → Advanced (now s) l (x .p) (x .ts) (x .ns) r ts ns
         → turns (r .going) (length (now s)) m′ < rank (now s) (length ys) (length zs) x
     next-falls x g l el m′ em r ts ns e = rw (g, em, el) (fewer (now s) (x .m) (r .going) (e (x .m) el g (x .stands) .1))
 
@@ -328,7 +328,7 @@ module _ {M : Type 1} (𝓤 : URA M) (H : Heap 𝓤) (A : Atoms 𝓤) (W : Given
       E = (Y′.mir, l₀) ∷ (τ₁, l₁) ∷ (τ₂, l₂) ∷ (τ₃, l₃) ∷ (T′.mir erased, l₄) ∷ (Y′.mir, l₅) ∷ (S′.mir, l₆) ∷ (tyBool, l₇) ∷ (T′.mir erased, l₈) ∷ (tyInt w64, l₉) ∷ (τᵖ, l₁₀) ∷ (sliceTy τᵖ, l₁₁) ∷ (τᵖ, l₁₂) ∷ (sliceTy τᵖ, l₁₃) ∷ []
 
       -- the whole context where the loop's test is reached
-      abbrev At : ℕ → Progress → List ℤ → List ℤ → List (Item 𝓤)
+      abbrev At : ℕ → Descent → List ℤ → List ℤ → List (Item 𝓤)
       At m p ts ns = ‵ (OwnR m) ∷ Tok ∷ ‵ OwnS ∷ ‵ (OwnT ts) ∷ ‵ (flft κ₁ q₁) ∷ ‵ (OwnN ns) ∷ ‵ (flft κ₂ q₂)
           ∷ ‵ (froom (sliceTy τᵖ) l₁₃ 0) ∷ ‵ (fdies (sliceTy τᵖ) l₁₃) ∷ ‵ (froom τᵖ l₁₂ 0) ∷ ‵ (fdies τᵖ l₁₂) ∷ ‵ (froom (sliceTy τᵖ) l₁₁ 0) ∷ ‵ (fdies (sliceTy τᵖ) l₁₁) ∷ ‵ (froom τᵖ l₁₀ 0) ∷ ‵ (fdies τᵖ l₁₀)
           ∷ ‵ (froom (tyInt w64) l₉ 0) ∷ ‵ (fdies (tyInt w64) l₉) ∷ ‵ (froom (T′.mir erased) l₈ 0) ∷ ‵ (fdies (T′.mir erased) l₈) ∷ ‵ (froom tyBool l₇ 0) ∷ ‵ (fdies tyBool l₇) ∷ ‵ (froom S′.mir l₆ 0) ∷ ‵ (fdies S′.mir l₆)
@@ -387,7 +387,7 @@ module _ {M : Type 1} (𝓤 : URA M) (H : Heap 𝓤) (A : Atoms 𝓤) (W : Given
           -- [what `advance` asks; what s owns; what is kept of the names; of the table; what the reader owns; _13; …]
           calls-at-last ! fm (Advance 𝓤 H A at-mem run) known-advance (to-advance (x .p) (x .ts) (x .ns) l u ν₁ ν₂ δ₁ δ₂)
           (and-then ! (load ! (from ! (stop !)) (look ! 21 refl)) (and-then ! (load ! (from ! (stop !)) (look ! 9 refl)) (and-then ! (load ! (from ! (stop !)) (look ! 5 refl)) (and-then ! (load ! (from ! (stop !)) (look ! 29 refl)) (and-then ! (load ! (from ! (stop !)) (look ! 19 refl)) (no-more !)))))) (λ u″.
-          use1 W (later (some (λ (r : Progress). (Toks ν₁ ν₂ ⊛ ‵ (Y.the-row .own r (u″ ∷ []))) ⊛ raw (ensured 𝓤 H A advance.ended (advance.clauses 𝓤 H A at-mem run) (ν₁ ∷ [], (ν₂ ∷ [], (κ₀, tt))) (aA (x .p) (x .ts) (x .ns) l δ₁ δ₂) tt r)))) (id⊢ 𝓤 _) $ await ! tt $ pick ! (λ r.
+          use1 W (later (some (λ (r : Descent). (Toks ν₁ ν₂ ⊛ ‵ (Y.the-row .own r (u″ ∷ []))) ⊛ raw (ensured 𝓤 H A advance.ended (advance.clauses 𝓤 H A at-mem run) (ν₁ ∷ [], (ν₂ ∷ [], (κ₀, tt))) (aA (x .p) (x .ts) (x .ns) l δ₁ δ₂) tt r)))) (id⊢ 𝓤 _) $ await ! tt $ pick ! (λ r.
           split ! $ move ! (1 ∷ []) $ use1 W (some (λ (ws : Lasts). ‵ (lasts advance.ended (ν₁ ∷ [], (ν₂ ∷ [], (κ₀, tt))) (aA (x .p) (x .ts) (x .ns) l δ₁ δ₂) ws) ⊛ raw (fact 𝓤 (Advanced (now s) l (x .p) (x .ts) (x .ns) r (ws .1 .0) (ws .1 .1 .0))))) (id⊢ 𝓤 _) $ pick ! (λ ws.
           split ! $ move ! (1 ∷ []) $ heard ! (Advanced (now s) l (x .p) (x .ts) (x .ns) r (ws .1 .0) (ws .1 .1 .0)) (λ e. fsplit ! $ drop ! $ fsplit ! $ fsplit ! $ move ! (1 ∷ []) $ feqL ! (λ et. move ! (1 ∷ []) $ fsplit ! $ fsplit ! $ move ! (1 ∷ []) $ feqL ! (λ en. move ! (1 ∷ []) $ drop ! $
           -- [the last names; the last table; the tokens and the result; what s owns; what is kept of the names; of the table; what the reader owns; _13; …]
@@ -417,7 +417,7 @@ module _ {M : Type 1} (𝓤 : URA M) (H : Heap 𝓤) (A : Atoms 𝓤) (W : Given
       from-loop x = first ! $ blocks ! $ by ! (loop-runs x)
 
     -- the first state, with what `begun` gave
-    start : (p : Progress) {u : Val} → Is Y.the-row p (u ∷ []) → p ≡ nothing-judged → State
+    start : (p : Descent) {u : Val} → Is Y.the-row p (u ∷ []) → p ≡ nothing-judged → State
     start p {u} p-is e = record {
       m = 0;
       p = p;
@@ -455,7 +455,7 @@ module _ {M : Type 1} (𝓤 : URA M) (H : Heap 𝓤) (A : Atoms 𝓤) (W : Given
         rewrite ! 0 (λ (z : Reader). ‵ (B .own z (mach z ∷ []))) (at-start r e) refl $ rewrite ! 25 (λ (z : Reader). ‵ (fat fullShare (T′.mir erased) l₄ 0 (mach z))) (at-start r e) refl $
         nothing ! $ use1 W (raw (Begun 𝓤 H A at-mem run .pre to-begun)) goes-begun $
         calls-at ! fm (Begun 𝓤 H A at-mem run) known-begun to-begun (no-more !) (λ u′.
-        use1 W (later (some (λ (p : Progress). (‵ ftrue ⊛ ‵ (Y.the-row .own p (u′ ∷ []))) ⊛ raw (ensured 𝓤 H A begun.ended (begun.clauses 𝓤 H A at-mem run) tt tt tt p)))) (id⊢ 𝓤 _) $ await ! tt $ pick ! (λ p.
+        use1 W (later (some (λ (p : Descent). (‵ ftrue ⊛ ‵ (Y.the-row .own p (u′ ∷ []))) ⊛ raw (ensured 𝓤 H A begun.ended (begun.clauses 𝓤 H A at-mem run) tt tt tt p)))) (id⊢ 𝓤 _) $ await ! tt $ pick ! (λ p.
         split ! $ move ! (1 ∷ []) $ use1 W (raw (fact 𝓤 (p ≡ nothing-judged))) (begun-said p) $ heard ! (p ≡ nothing-judged) (λ ep. split ! $ drop ! $
         peeks ! Y.the-row (Is Y.the-row) (shows 𝓤 H A Y.the-row) p (u′ ∷ []) (λ p-is.
         land ! (from ! (stop !)) (init ! 24 refl (LL.lawful Y.the-type Y′.the-laws 𝓤 H A W .typed p _ p-is .0)) $ rewrite ! 24 (λ (z : Val). ‵ (fat fullShare Y′.mir l₅ 0 z)) (ap only (LL.tells Y.the-type Y′.the-laws p _ p-is)) refl $ drop ! $

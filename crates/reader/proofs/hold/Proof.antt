@@ -21,12 +21,12 @@ returns c = let a = c .before .before .before .args in (
 )
 
 slice-aggregate-push-row-2 : tie.Need-slice-aggregate-push-row-2
-slice-aggregate-push-row-2 c = sym (length-take-le (c .before .before .before .before .before .before .before .before .before .before .used .result) (now (c .before .before .before .before .before .before .before .before .before .before .before .args .table)) (omega arith))
+slice-aggregate-push-row-2 c = sym (length-take-le (c .before .before .before .before .before .before .before .before .before .before .used-words .result) (now (c .before .before .before .before .before .before .before .before .before .before .before .args .table)) (omega arith))
 
 push-row-requires-2 : tie.Need-push-row-requires-2
-push-row-requires-2 c κs = let n : length (take (c .before .before .before .before .before .before .before .before .before .before .used .result) (now (c .before .before .before .before .before .before .before .before .before .before .before .args .table))) ≡ c .before .before .before .before .before .before .before .before .before .before .used .result = length-take-le (c .before .before .before .before .before .before .before .before .before .before .used .result) (now (c .before .before .before .before .before .before .before .before .before .before .before .args .table)) (omega arith) in
+push-row-requires-2 c κs = let n : length (take (c .before .before .before .before .before .before .before .before .before .before .used-words .result) (now (c .before .before .before .before .before .before .before .before .before .before .before .args .table))) ≡ c .before .before .before .before .before .before .before .before .before .before .used-words .result = length-take-le (c .before .before .before .before .before .before .before .before .before .before .used-words .result) (now (c .before .before .before .before .before .before .before .before .before .before .before .args .table)) (omega arith) in
     let k : length (c .before .before .before .push-row .last .0) ≡ length (now (c .before .before .before .before .before .before .before .before .before .before .before .args .words)) = c .before .before .before .push-row .kept .0 in
-    let g : 3 + length (take (c .before .before .before .before .before .before .before .before .before .before .used .result) (now (c .before .before .before .before .before .before .before .before .before .before .before .args .table))) ≤ length (c .before .before .before .push-row .last .0) = omega (arith, c .before .before .before .before .before .before .before .before .before .if1 .left) in
+    let g : 3 + length (take (c .before .before .before .before .before .before .before .before .before .before .used-words .result) (now (c .before .before .before .before .before .before .before .before .before .before .before .args .table))) ≤ length (c .before .before .before .push-row .last .0) = omega (arith, c .before .before .before .before .before .before .before .before .before .if1 .left) in
     g
 
 returns-2 : tie.Need-returns-2
@@ -34,9 +34,9 @@ returns-2 c = let a = c .before .before .before .before .before .before .before 
     let p : toZ w32 (a .t .vars) ≡ pos (a .t .vars) = toZ-pos w32 (omega (arith, c .before .before .before .before .before .before .before .before .before .before .before .before .before .before .pre)) in
     let q : toZ w32 (a .t .locs) ≡ pos (a .t .locs) = toZ-pos w32 (omega (arith, c .before .before .before .before .before .before .before .before .before .before .before .before .before .before .pre)) in
     let r : toZ w32 (a .t .edges) ≡ pos (a .t .edges) = toZ-pos w32 (omega (arith, c .before .before .before .before .before .before .before .before .before .before .before .before .before .before .pre)) in (
-      λ d h. rw (enough d (now (a .words)) (omega (arith, c .before .before .before .before .before .before .before .before .before .before .before .before .before .before .pre, c .before .before .before .before .before .before .before .before .before .before .before .before .before .used .ensures, c .before .before .before .before .before .before .before .before .before .before .before .before .if1 .left, encode-length h (omega (arith, c .before .before .before .before .before .before .before .before .before .before .before .before .before .before .pre))))) (c .refused2 .ensures),
-      λ d h. rw (enough d (now (a .words)) (omega (arith, c .before .before .before .before .before .before .before .before .before .before .before .before .before .before .pre, c .before .before .before .before .before .before .before .before .before .before .before .before .before .used .ensures, c .before .before .before .before .before .before .before .before .before .before .before .before .if1 .left, encode-length h (omega (arith, c .before .before .before .before .before .before .before .before .before .before .before .before .before .before .pre)))))
-          (c .before .before .push-row2 .ensures ∙ rw (c .before .before .before .before .before .before .push-row .ensures, c .before .before .before .before .before .before .before .before .before .before .before .before .before .used .ensures, p, q, r) (held-words h (omega (arith, c .before .before .before .before .before .before .before .before .before .before .before .before .before .before .pre)) (now (a .words)) (omega (arith, c .before .before .before .before .before .before .before .before .before .before .before .before .before .used .ensures, c .before .before .before .before .before .before .before .before .before .before .before .before .if1 .left)))),
+      λ d h. rw (enough d (now (a .words)) (omega (arith, c .before .before .before .before .before .before .before .before .before .before .before .before .before .before .pre, c .before .before .before .before .before .before .before .before .before .before .before .before .before .used-words .ensures, c .before .before .before .before .before .before .before .before .before .before .before .before .if1 .left, encode-length h (omega (arith, c .before .before .before .before .before .before .before .before .before .before .before .before .before .before .pre))))) (c .refused2 .ensures),
+      λ d h. rw (enough d (now (a .words)) (omega (arith, c .before .before .before .before .before .before .before .before .before .before .before .before .before .before .pre, c .before .before .before .before .before .before .before .before .before .before .before .before .before .used-words .ensures, c .before .before .before .before .before .before .before .before .before .before .before .before .if1 .left, encode-length h (omega (arith, c .before .before .before .before .before .before .before .before .before .before .before .before .before .before .pre)))))
+          (c .before .before .push-row2 .ensures ∙ rw (c .before .before .before .before .before .before .push-row .ensures, c .before .before .before .before .before .before .before .before .before .before .before .before .before .used-words .ensures, p, q, r) (held-words h (omega (arith, c .before .before .before .before .before .before .before .before .before .before .before .before .before .before .pre)) (now (a .words)) (omega (arith, c .before .before .before .before .before .before .before .before .before .before .before .before .before .used-words .ensures, c .before .before .before .before .before .before .before .before .before .before .before .before .if1 .left)))),
     )
 
 pub hold-spec : {M : Type 1} → statement M

@@ -14,10 +14,10 @@ use Rattle.rows.proofs.leq_values.Statement.{statement}
 use Rattle.rows.proofs.leq_values.Tie as tie
 
 abbrev Inv-loop : tie.InvT-loop
-Inv-loop s e ok₀ i₀ ok i = (1 ≤ i) × (i ≤ length s) × (words-leq (drop 1 e) (drop 1 s) ≡ ok && words-leq (drop i e) (drop i s))
+Inv-loop e s ok₀ i₀ ok i = (1 ≤ i) × (i ≤ length s) × (words-leq (drop 1 e) (drop 1 s) ≡ ok && words-leq (drop i e) (drop i s))
 
 abbrev μ-loop : tie.MeasureT-loop
-μ-loop s e ok₀ i₀ ok i = length s - i
+μ-loop e s ok₀ i₀ ok i = length s - i
 
 loop-holds : tie.Need-loop-holds Inv-loop μ-loop
 loop-holds c = (omega arith, omega arith, refl)

@@ -3,17 +3,17 @@ use borrow.Author.Needs.{needs}
 use mathlib.Core.Path.{_≡_}
 use mir.Syntax.{w32}
 use mir.Val.{toZ, ofZ}
-use Rattle.semantics.specs.Reading.{andThen}
-use Rattle.text.specs.Fields.{wordRes, operandRes}
+use Rattle.semantics.specs.Reading.{if-ok}
+use Rattle.text.specs.Fields.{word-res, operand-res}
 use Rattle.text.proofs.as_number.Statement.{statement}
 use Rattle.text.proofs.as_number.Tie as tie
 
 returns : tie.Need-returns
-unfolding operandRes wordRes andThen
+unfolding operand-res word-res if-ok
 returns c = simp (c .before .w .given .1)
 
 returns-2 : tie.Need-returns-2
-unfolding operandRes wordRes andThen
+unfolding operand-res word-res if-ok
 returns-2 c =
     let z = c .before .w2 .given .0 .0 in
     let q : toZ w32 (ofZ w32 z) ≡ z = search needs in

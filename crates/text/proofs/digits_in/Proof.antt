@@ -5,14 +5,14 @@ use mathlib.Core.Path.{_≡_, refl, sym, ap, _∙_}
 use lib.ListN.{length, drop}
 use Prim.Native.Nat.{_-_, _≤_}
 use Rattle.semantics.specs.Text.{digits}
-use Rattle.text.specs.Fields.{naturalRead}
+use Rattle.text.specs.Fields.{natural-read}
 use Rattle.text.specs.declared.Natural.the-variants as natural
 use Rattle.text.proofs.Digits.{digits-end, digits-step, digits-low, digits-high, cut-same}
 use Rattle.text.proofs.digits_in.Statement.{statement}
 use Rattle.text.proofs.digits_in.Tie as tie
 
 abbrev Inv-loop : tie.InvT-loop
-Inv-loop f n₀ i₀ n i = (i ≤ length f) × (n ≤ 100000) × (naturalRead (digits 0 f) ≡ naturalRead (digits n (drop i f)))
+Inv-loop f n₀ i₀ n i = (i ≤ length f) × (n ≤ 100000) × (natural-read (digits 0 f) ≡ natural-read (digits n (drop i f)))
 
 abbrev μ-loop : tie.MeasureT-loop
 μ-loop f n₀ i₀ n i = length f - i
@@ -21,28 +21,28 @@ loop-holds : tie.Need-loop-holds Inv-loop μ-loop
 loop-holds c = (omega arith, omega arith, refl)
 
 returns : tie.Need-returns Inv-loop μ-loop
-unfolding naturalRead
+unfolding natural-read
 returns c =
     let k = c .before .before .before in
-    sym (k .before .loop .inv .2 ∙ ap naturalRead (digits-low _ _ _ (k .loop-test .taken) (omega arith)))
+    sym (k .before .loop .inv .2 ∙ ap natural-read (digits-low _ _ _ (k .loop-test .taken) (omega arith)))
 
 returns-2 : tie.Need-returns-2 Inv-loop μ-loop
-unfolding naturalRead
+unfolding natural-read
 returns-2 c =
     let k = c .before .before .before .before in
-    sym (k .before .loop .inv .2 ∙ ap naturalRead (digits-high _ _ _ (k .loop-test .taken) (omega arith)))
+    sym (k .before .loop .inv .2 ∙ ap natural-read (digits-high _ _ _ (k .loop-test .taken) (omega arith)))
 
 loop-again : tie.Need-loop-again Inv-loop μ-loop
 loop-again c =
     let k = c .before .before .before .before .before in (
       omega arith,
       omega arith,
-      k .before .loop .inv .2 ∙ ap naturalRead (digits-step _ _ _ (k .loop-test .taken) (omega arith) (omega arith)) ∙ cut-same _ _ _ (omega arith),
+      k .before .loop .inv .2 ∙ ap natural-read (digits-step _ _ _ (k .loop-test .taken) (omega arith) (omega arith)) ∙ cut-same _ _ _ (omega arith),
     )
 
 returns-3 : tie.Need-returns-3 Inv-loop μ-loop
-unfolding naturalRead
-returns-3 c = sym (c .before .loop .inv .2 ∙ ap naturalRead (digits-end _ _ _ (c .loop-test .left)) ∙ ap natural.Is (omega arith))
+unfolding natural-read
+returns-3 c = sym (c .before .loop .inv .2 ∙ ap natural-read (digits-end _ _ _ (c .loop-test .left)) ∙ ap natural.Is (omega arith))
 
 pub digits-in-spec : {M : Type 1} → statement M
 digits-in-spec =

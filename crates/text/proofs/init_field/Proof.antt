@@ -4,13 +4,13 @@ use mathlib.Core.Path.{sym, _∙_}
 use mir.Syntax.{w32}
 use mir.ValLaws.{toZ-ofZ}
 use Rattle.semantics.specs.Text.{same-bytes}
-use Rattle.text.specs.Fields.{initRes}
+use Rattle.text.specs.Fields.{init-res}
 use Rattle.text.proofs.Judged.{init-star, init-other}
 use Rattle.text.proofs.init_field.Statement.{statement}
 use Rattle.text.proofs.init_field.Tie as tie
 
 returns : tie.Need-returns
-unfolding initRes
+unfolding init-res
 returns c = sym (init-star _ _ _ (sym (c .before .same-bytes .ensures) ∙ c .if1 .taken))
 
 returns-2 : tie.Need-returns-2

@@ -7,14 +7,14 @@ use mir.Syntax.{w32}
 use mir.Val.{toZ, ofZ}
 use mir.ValLaws.{toZ-ofZ}
 use Rattle.semantics.specs.Chart.{within}
-use Rattle.semantics.specs.Reading.{ok, andThen, number-field}
-use Rattle.text.specs.Fields.{wordRes, initRes}
+use Rattle.semantics.specs.Reading.{ok, if-ok, number-field}
+use Rattle.text.specs.Fields.{word-res, init-res}
 use Rattle.text.proofs.Judged.{init-in, init-out}
 use Rattle.text.proofs.init_number.Statement.{statement}
 use Rattle.text.proofs.init_number.Tie as tie
 
 returns : tie.Need-returns
-unfolding initRes wordRes andThen
+unfolding init-res word-res if-ok
 returns c =
     let a = c .before .before .before in
     let z = a .z .given .0 .0 in
@@ -23,19 +23,19 @@ returns c =
     let f = now (s .args .f) in
     let lo = toZ-ofZ w32 (s .args .lo) (s .fits .lo) in
     let hi = toZ-ofZ w32 (s .args .hi) (s .fits .hi) in
-    let e : number-field f ≡ ok z = sym (a .before .before .number-field .ensures) ∙ ap wordRes (a .z .given .1) in
+    let e : number-field f ≡ ok z = sym (a .before .before .number-field .ensures) ∙ ap word-res (a .z .given .1) in
     let m : within (s .args .lo) (s .args .hi) z ≡ true = simp (lo, hi, q) at (sym (c .before .inside .ensures) ∙ c .if1 .taken) in
     rw q (init-in (s .args .lo) (s .args .hi) f z e m)
 
 returns-2 : tie.Need-returns-2
-unfolding initRes wordRes andThen
+unfolding init-res word-res if-ok
 returns-2 c =
     let a = c .before in
-    let e : number-field (now (a .before .before .before .before .args .f)) ≡ _ = sym (a .before .before .number-field .ensures) ∙ ap wordRes (a .n .given .1) in
+    let e : number-field (now (a .before .before .before .before .args .f)) ≡ _ = sym (a .before .before .number-field .ensures) ∙ ap word-res (a .n .given .1) in
     simp e
 
 returns-3 : tie.Need-returns-3
-unfolding initRes wordRes andThen
+unfolding init-res word-res if-ok
 returns-3 c =
     let a = c .before .before .before in
     let z = a .z .given .0 .0 in
@@ -44,7 +44,7 @@ returns-3 c =
     let f = now (s .args .f) in
     let lo = toZ-ofZ w32 (s .args .lo) (s .fits .lo) in
     let hi = toZ-ofZ w32 (s .args .hi) (s .fits .hi) in
-    let e : number-field f ≡ ok z = sym (a .before .before .number-field .ensures) ∙ ap wordRes (a .z .given .1) in
+    let e : number-field f ≡ ok z = sym (a .before .before .number-field .ensures) ∙ ap word-res (a .z .given .1) in
     let m : within (s .args .lo) (s .args .hi) z ≡ false = simp (lo, hi, q) at (sym (c .before .inside .ensures) ∙ c .if1 .left) in
     init-out (s .args .lo) (s .args .hi) f z e m
 

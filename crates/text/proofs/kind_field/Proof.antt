@@ -5,7 +5,7 @@ use mathlib.Core.Bool.{false}
 use denote.Ref.{now}
 use Rattle.semantics.specs.Text.{bytes, same-bytes}
 use Rattle.semantics.specs.Reading.{kind-field}
-use Rattle.text.specs.Fields.{flagRes}
+use Rattle.text.specs.Fields.{flag-res}
 use Rattle.text.proofs.kind_field.Statement.{statement}
 use Rattle.text.proofs.kind_field.Tie as tie
 
@@ -17,17 +17,17 @@ no2 : (c : tie.Else2) → same-bytes (now (c .before .before .before .before .be
 no2 c = sym (c .before .same-bytes2 .ensures) ∙ c .if2 .left
 
 returns : tie.Need-returns
-unfolding kind-field flagRes
+unfolding kind-field flag-res
 returns c = rw (sym (c .before .same-bytes .ensures) ∙ c .if1 .taken)
 
 returns-2 : tie.Need-returns-2
-unfolding kind-field flagRes
+unfolding kind-field flag-res
 returns-2 c =
     let e1 = c .before .before .before in
     rw (no1 e1, sym (c .before .same-bytes2 .ensures) ∙ c .if2 .taken)
 
 returns-3 : tie.Need-returns-3
-unfolding kind-field flagRes
+unfolding kind-field flag-res
 returns-3 c =
     let e1 = c .before .before .before in
     rw (no1 e1, no2 c)

@@ -2,7 +2,7 @@
 use borrow.Author.Needs.{needs}
 use mathlib.Core.Path.{ap, _∙_}
 use Rattle.semantics.specs.Reading.{below-or, location-field}
-use Rattle.text.specs.Fields.{numberSaid}
+use Rattle.text.specs.Fields.{number-said}
 use Rattle.text.specs.declared.NumberRead.{NumberRead}
 use Rattle.text.proofs.Digits.{below-or-cut}
 use Rattle.text.proofs.location_field.Statement.{statement}
@@ -10,7 +10,7 @@ use Rattle.text.proofs.location_field.Tie as tie
 
 returns : tie.Need-returns
 unfolding location-field
-returns c = c .below .ensures ∙ ap (λ (n : NumberRead). below-or (c .before .before .before .args .count) (numberSaid n)) (c .before .number .ensures) ∙ below-or-cut _ _ (c .before .before .before .pre)
+returns c = c .below .ensures ∙ ap (λ (n : NumberRead). below-or (c .before .before .before .args .count) (number-said n)) (c .before .number .ensures) ∙ below-or-cut _ _ (c .before .before .before .pre)
 
 pub location-field-spec : {M : Type 1} → statement M
 location-field-spec = tie.close (tie.spec (λ c κs. search needs) (λ c κs. search needs) returns)

@@ -4,25 +4,25 @@ use native.Mathlib.Omega.{arith}
 use mathlib.Core.Path.{ap, _∙_}
 use lib.IntN.{pos, negℤ}
 use Prim.Native.Nat.{ℕ}
-use Rattle.text.specs.Fields.{numberRead, naturalSaid}
+use Rattle.text.specs.Fields.{number-read, natural-said}
 use Rattle.text.specs.declared.NumberRead.the-variants as number
 use Rattle.text.proofs.Digits.{sub-fits, sub-back, minus-is}
 use Rattle.text.proofs.minus.Statement.{statement}
 use Rattle.text.proofs.minus.Tie as tie
 
 returns : tie.Need-returns
-unfolding numberRead naturalSaid
+unfolding number-read natural-said
 returns c = simp (c .before .before .n .given .1, c .if1 .taken)
 
 sub-t7 : tie.Need-sub-t7
 sub-t7 c = sub-fits (c .cut .result) (omega arith)
 
 returns-2 : tie.Need-returns-2
-unfolding numberRead naturalSaid
+unfolding number-read natural-said
 returns-2 c = simp (c .enum-told .given .1)
 
 returns-3 : tie.Need-returns-3
-unfolding naturalSaid
+unfolding natural-said
 returns-3 c =
     simp (c .before .before .before .n .given .1)
     (ap number.Is (sub-back (c .cut .result) (omega arith) ∙ ap (λ (k : ℕ). negℤ (pos k)) (c .cut .ensures)) ∙ minus-is _ (c .before .if1 .left))

@@ -2,24 +2,24 @@
 use borrow.Author.Needs.{needs}
 use mathlib.Core.Path.{sym, ap, _∙_}
 use Rattle.semantics.specs.Text.{negative}
-use Rattle.text.specs.Fields.{numberRead, naturalSaid}
+use Rattle.text.specs.Fields.{number-read, natural-said}
 use Rattle.text.specs.declared.Natural.{Natural}
 use Rattle.text.proofs.Digits.{number-empty, number-minus, number-plus, minus-cut}
 use Rattle.text.proofs.number.Statement.{statement}
 use Rattle.text.proofs.number.Tie as tie
 
 returns : tie.Need-returns
-unfolding numberRead
-returns c = sym (ap numberRead (number-empty _ (c .if1 .taken)))
+unfolding number-read
+returns c = sym (ap number-read (number-empty _ (c .if1 .taken)))
 
 returns-2 : tie.Need-returns-2
 returns-2 c =
     let k = c .before .before .before in
-    c .minus .ensures ∙ ap (λ (n : Natural). numberRead (negative (naturalSaid n))) (c .before .natural-in .ensures)
-    ∙ minus-cut _ ∙ ap numberRead (sym (number-minus _ (k .before .before .if1 .left) (k .if2 .taken)))
+    c .minus .ensures ∙ ap (λ (n : Natural). number-read (negative (natural-said n))) (c .before .natural-in .ensures)
+    ∙ minus-cut _ ∙ ap number-read (sym (number-minus _ (k .before .before .if1 .left) (k .if2 .taken)))
 
 returns-3 : tie.Need-returns-3
-returns-3 c = c .unsigned .ensures ∙ ap numberRead (sym (number-plus _ (c .before .before .before .if1 .left) (c .before .if2 .left)))
+returns-3 c = c .unsigned .ensures ∙ ap number-read (sym (number-plus _ (c .before .before .before .if1 .left) (c .before .if2 .left)))
 
 pub number-spec : {M : Type 1} → statement M
 number-spec =

@@ -2,7 +2,7 @@
 use borrow.Author.Needs.{needs}
 use mathlib.Core.Path.{ap, _∙_}
 use Rattle.semantics.specs.Reading.{small-or, number-field}
-use Rattle.text.specs.Fields.{numberSaid}
+use Rattle.text.specs.Fields.{number-said}
 use Rattle.text.specs.declared.NumberRead.{NumberRead}
 use Rattle.text.proofs.Digits.{small-or-cut}
 use Rattle.text.proofs.number_field.Statement.{statement}
@@ -10,7 +10,7 @@ use Rattle.text.proofs.number_field.Tie as tie
 
 returns : tie.Need-returns
 unfolding number-field
-returns c = c .small-word .ensures ∙ ap (λ (n : NumberRead). small-or (numberSaid n)) (c .before .number .ensures) ∙ small-or-cut _
+returns c = c .small-word .ensures ∙ ap (λ (n : NumberRead). small-or (number-said n)) (c .before .number .ensures) ∙ small-or-cut _
 
 pub number-field-spec : {M : Type 1} → statement M
 number-field-spec = tie.close (tie.spec (λ c κs. search needs) (λ c κs. search needs) returns)

@@ -5,7 +5,7 @@ use mathlib.Core.Bool.{false}
 use denote.Ref.{now}
 use Rattle.semantics.specs.Text.{bytes, same-bytes}
 use Rattle.semantics.specs.Reading.{op-word-field}
-use Rattle.text.specs.Fields.{opWordRes}
+use Rattle.text.specs.Fields.{op-word-res}
 use Rattle.text.proofs.op_word_field.Statement.{statement}
 use Rattle.text.proofs.op_word_field.Tie as tie
 
@@ -29,24 +29,24 @@ no6 : (c : tie.Else6) → same-bytes (now (c .before .before .before .before .be
 no6 c = sym (c .before .same-bytes6 .ensures) ∙ c .if6 .left
 
 returns : tie.Need-returns
-unfolding op-word-field opWordRes
+unfolding op-word-field op-word-res
 returns c = rw (sym (c .before .same-bytes .ensures) ∙ c .if1 .taken)
 
 returns-2 : tie.Need-returns-2
-unfolding op-word-field opWordRes
+unfolding op-word-field op-word-res
 returns-2 c =
     let e1 = c .before .before .before in
     rw (no1 e1, sym (c .before .same-bytes2 .ensures) ∙ c .if2 .taken)
 
 returns-3 : tie.Need-returns-3
-unfolding op-word-field opWordRes
+unfolding op-word-field op-word-res
 returns-3 c =
     let e2 = c .before .before .before in
     let e1 = e2 .before .before .before in
     rw (no1 e1, no2 e2, sym (c .before .same-bytes3 .ensures) ∙ c .if3 .taken)
 
 returns-4 : tie.Need-returns-4
-unfolding op-word-field opWordRes
+unfolding op-word-field op-word-res
 returns-4 c =
     let e3 = c .before .before .before in
     let e2 = e3 .before .before .before in
@@ -54,7 +54,7 @@ returns-4 c =
     rw (no1 e1, no2 e2, no3 e3, sym (c .before .same-bytes4 .ensures) ∙ c .if4 .taken)
 
 returns-5 : tie.Need-returns-5
-unfolding op-word-field opWordRes
+unfolding op-word-field op-word-res
 returns-5 c =
     let e4 = c .before .before .before in
     let e3 = e4 .before .before .before in
@@ -63,7 +63,7 @@ returns-5 c =
     rw (no1 e1, no2 e2, no3 e3, no4 e4, sym (c .before .same-bytes5 .ensures) ∙ c .if5 .taken)
 
 returns-6 : tie.Need-returns-6
-unfolding op-word-field opWordRes
+unfolding op-word-field op-word-res
 returns-6 c =
     let e5 = c .before .before .before in
     let e4 = e5 .before .before .before in
@@ -73,7 +73,7 @@ returns-6 c =
     rw (no1 e1, no2 e2, no3 e3, no4 e4, no5 e5, sym (c .before .same-bytes6 .ensures) ∙ c .if6 .taken)
 
 returns-7 : tie.Need-returns-7
-unfolding op-word-field opWordRes
+unfolding op-word-field op-word-res
 returns-7 c =
     let e5 = c .before .before .before in
     let e4 = e5 .before .before .before in

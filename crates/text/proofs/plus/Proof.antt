@@ -5,17 +5,17 @@ use mathlib.Core.Path.{ap, _∙_}
 use lib.IntN.{pos}
 use mir.Syntax.{w32}
 use mir.Facts.{toZ-pos}
-use Rattle.text.specs.Fields.{numberRead, naturalSaid}
+use Rattle.text.specs.Fields.{number-read, natural-said}
 use Rattle.text.specs.declared.NumberRead.the-variants as number
 use Rattle.text.proofs.plus.Statement.{statement}
 use Rattle.text.proofs.plus.Tie as tie
 
 returns : tie.Need-returns
-unfolding numberRead naturalSaid
+unfolding number-read natural-said
 returns c = simp (c .enum-told .given .1)
 
 returns-2 : tie.Need-returns-2
-unfolding numberRead naturalSaid
+unfolding number-read natural-said
 returns-2 c = simp (c .before .before .n .given .1) (ap number.Is (toZ-pos w32 (omega arith) ∙ ap pos (c .cut .ensures)))
 
 pub plus-spec : {M : Type 1} → statement M

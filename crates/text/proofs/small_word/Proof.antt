@@ -6,12 +6,12 @@ use mir.Syntax.{w32}
 use mir.Val.{toZ, ofZ}
 use Rattle.semantics.specs.Chart.{small}
 use Rattle.semantics.specs.Reading.{check}
-use Rattle.text.specs.Fields.{numberSaid, wordRes}
+use Rattle.text.specs.Fields.{number-said, word-res}
 use Rattle.text.proofs.small_word.Statement.{statement}
 use Rattle.text.proofs.small_word.Tie as tie
 
 returns : tie.Need-returns
-unfolding wordRes numberSaid check
+unfolding word-res number-said check
 returns c =
     let a = c .before .before .before in
     let z = a .n .given .0 .0 in
@@ -20,11 +20,11 @@ returns c =
     simp (a .n .given .1, q, m)
 
 returns-2 : tie.Need-returns-2
-unfolding wordRes numberSaid check
+unfolding word-res number-said check
 returns-2 c = simp (c .enum-told .given .1)
 
 returns-3 : tie.Need-returns-3
-unfolding wordRes numberSaid check
+unfolding word-res number-said check
 returns-3 c =
     let a = c .before .before .before in
     let z = a .n .given .0 .0 in

@@ -11,7 +11,7 @@ use Rattle.transfer.proofs.apply.Tie as tie
 -- the operation's code, as the chart has it
 module _ (c : tie.After-edge-operation) where
   abbrev op : ℕ
-  op = count (c .before .args .chart .now) (c .before .args .e .at + 2)
+  op = count (c .before .args .chart .now) (c .before .args .edge .at + 2)
 
   code : (n : ℕ) → c .edge-operation .result ≡ n → op ≡ n
   code n e = sym (c .edge-operation .ensures .0) ∙ e
@@ -52,7 +52,7 @@ returns-6 c =
       ne-eqb (op p) 3 (not-code p 3 (r .0 .1)),
       ne-eqb (op p) 4 (not-code p 4 (r .1)),
     )
-    (c .before .assume .ensures ∙ ap (λ (n : ℕ). assume-at (p .before .args .chart .now) n (p .before .args .e .at) (p .before .args .row .now)) (p .edge-operation .ensures .0))
+    (c .before .assume .ensures ∙ ap (λ (n : ℕ). assume-at (p .before .args .chart .now) n (p .before .args .edge .at) (p .before .args .row .now)) (p .edge-operation .ensures .0))
 
 pub apply-spec : {M : Type 1} → statement M
 apply-spec =

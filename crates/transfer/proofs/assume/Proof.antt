@@ -26,19 +26,19 @@ module _ (c : tie.After-first-operand) where
   abbrev right : ℤ
   right = c .first-operand .result
 
-  left-is : left ≡ getD (start .args .row .now) (target-at (start .args .chart .now) (start .args .e .at) + 1) (pos 0)
+  left-is : left ≡ getD (start .args .row .now) (target-at (start .args .chart .now) (start .args .edge .at) + 1) (pos 0)
   left-is = c .before .before .word-at .ensures ∙ ap (λ (n : ℕ). getD (start .args .row .now) (n + 1) (pos 0)) (c .before .before .before .before .edge-target .ensures .0)
 
-  left-top : ofZ w32 left ≡ ofZ w32 (pos 32768) → eqZ (getD (start .args .row .now) (target-at (start .args .chart .now) (start .args .e .at) + 1) (pos 0)) (pos 32768) ≡ true
+  left-top : ofZ w32 left ≡ ofZ w32 (pos 32768) → eqZ (getD (start .args .row .now) (target-at (start .args .chart .now) (start .args .edge .at) + 1) (pos 0)) (pos 32768) ≡ true
   left-top e = rw left-is at (bits-eq w32 {a = left} {b = pos 32768} (sfits-of {z = left} (c .before .before .word-at .ok)) (sfits-lit tt) e)
 
-  left-known : (ofZ w32 left ≡ ofZ w32 (pos 32768) → ⊥) → eqZ (getD (start .args .row .now) (target-at (start .args .chart .now) (start .args .e .at) + 1) (pos 0)) (pos 32768) ≡ false
+  left-known : (ofZ w32 left ≡ ofZ w32 (pos 32768) → ⊥) → eqZ (getD (start .args .row .now) (target-at (start .args .chart .now) (start .args .edge .at) + 1) (pos 0)) (pos 32768) ≡ false
   left-known e = rw left-is at (bits-ne w32 {a = left} {b = pos 32768} (sfits-of {z = left} (c .before .before .word-at .ok)) (sfits-lit tt) e)
 
-  right-top : ofZ w32 right ≡ ofZ w32 (pos 32768) → eqZ (operand-at (start .args .chart .now) (start .args .e .at + 4) (start .args .row .now)) (pos 32768) ≡ true
+  right-top : ofZ w32 right ≡ ofZ w32 (pos 32768) → eqZ (operand-at (start .args .chart .now) (start .args .edge .at + 4) (start .args .row .now)) (pos 32768) ≡ true
   right-top e = rw (c .first-operand .ensures) at (bits-eq w32 {a = right} {b = pos 32768} (sfits-of {z = right} (c .first-operand .ok)) (sfits-lit tt) e)
 
-  right-known : (ofZ w32 right ≡ ofZ w32 (pos 32768) → ⊥) → eqZ (operand-at (start .args .chart .now) (start .args .e .at + 4) (start .args .row .now)) (pos 32768) ≡ false
+  right-known : (ofZ w32 right ≡ ofZ w32 (pos 32768) → ⊥) → eqZ (operand-at (start .args .chart .now) (start .args .edge .at + 4) (start .args .row .now)) (pos 32768) ≡ false
   right-known e = rw (c .first-operand .ensures) at (bits-ne w32 {a = right} {b = pos 32768} (sfits-of {z = right} (c .first-operand .ok)) (sfits-lit tt) e)
 
 returns : tie.Need-returns

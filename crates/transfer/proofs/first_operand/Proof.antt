@@ -18,7 +18,7 @@ returns c =
     let r = c .operand .result in
     let p = told (sfits-of {z = t .result} (t .ok)) (t .ensures) in
     let q = told (sfits-of {z = v .result} (v .ok)) (v .ensures) in
-    toZ-ofZ w32 r (sfits-of {z = r} (c .operand .ok)) ∙ c .operand .ensures ∙ operand-read (a .chart .now) (a .row .now) (a .e .at + 4) (a .e .at + 5) p q (omega arith)
+    toZ-ofZ w32 r (sfits-of {z = r} (c .operand .ok)) ∙ c .operand .ensures ∙ operand-read (a .chart .now) (a .row .now) (a .edge .at + 4) (a .edge .at + 5) p q (omega arith)
 
 pub first-operand-spec : {M : Type 1} → statement M
 first-operand-spec = tie.close (tie.spec (λ c κs. search needs) (λ c κs. search needs) (λ c κs. search needs) returns)

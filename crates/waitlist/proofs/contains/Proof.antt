@@ -7,19 +7,21 @@ use lib.Seq.{length-take-le}
 use mir.Syntax.{w32}
 use mir.ValLaws.{toZ-pos}
 use borrow.Author.Needs.{needs}
-use Rattle.waitlist.specs.Waits.{waits, any-word}
+use Rattle.semantics.specs.Chart.{eqZ}
+use Rattle.semantics.specs.Lists.{some-of}
+use Rattle.waitlist.specs.Waits.{waits}
 use Rattle.waitlist.proofs.Laws.{front, any-some}
 use Rattle.waitlist.proofs.contains.Statement.{statement}
 use Rattle.waitlist.proofs.contains.Tie as tie
 
-slice-aggregate-any-word : tie.Need-slice-aggregate-any-word
-slice-aggregate-any-word c = sym (length-take-le (c .before .args .count) (c .before .args .list .now) (c .before .pre .0 .fits))
+slice-aggregate-contains : tie.Need-slice-aggregate-contains
+slice-aggregate-contains c = sym (length-take-le (c .before .args .count) (c .before .args .list .now) (c .before .pre .0 .fits))
 
 returns : tie.Need-returns
 returns c =
     let a = c .before .before .args in
     let p = c .before .before .pre .0 in
-    c .any-word .ensures ∙ rw (toZ-pos w32 (a .slot .0) (omega arith)) (ap (any-word (pos (a .slot .0))) (front p) ∙ any-some (a .slot .0) (waits (a .count) (a .list .now)))
+    c .contains .ensures ∙ rw (toZ-pos w32 (a .slot .0) (omega arith)) (ap (some-of (eqZ (pos (a .slot .0)))) (front p) ∙ any-some (a .slot .0) (waits (a .count) (a .list .now)))
 
 pub contains-spec : {M : Type 1} → statement M
-contains-spec = tie.close (tie.spec (λ c. search needs) slice-aggregate-any-word (λ c κs. search needs) returns)
+contains-spec = tie.close (tie.spec (λ c. search needs) slice-aggregate-contains (λ c κs. search needs) returns)

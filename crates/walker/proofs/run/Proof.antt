@@ -48,7 +48,7 @@ use Rattle.semantics.proofs.Analysis.Laws as T′
 use Rattle.semantics.proofs.Answer as S
 use Rattle.semantics.proofs.Answer.Laws as S′
 use Rattle.form.specs.Form.{lent}
-use Rattle.walker.specs.Calls.{Ends}
+use Rattle.walker.specs.Calls.{Ends-called}
 use Rattle.walker.specs.declared.Called.{Called}
 use Rattle.walker.proofs.Called as N
 use Rattle.walker.proofs.Called.Laws as N′
@@ -137,7 +137,7 @@ module _ {M : Type 1} (𝓤 : URA M) (H : Heap 𝓤) (A : Atoms 𝓤) (W : Given
   answer-is : (r : Called) (u : Val) → Is N.the-row r (u ∷ []) → Is S.the-row (r .answer) (LL.vals S.the-type S′.the-laws (r .answer))
   answer-is r u g = LL.owed N.the-type N′.the-laws r _ g .0
 
-  exits : (r : Called) (u : Val) → Is N.the-row r (u ∷ []) → Is i32 n (vn ∷ []) → (ts ls : List ℤ) → Ends out r ts ls → length ts ≡ length (t .now) → length ls ≡ length (l .now)
+  exits : (r : Called) (u : Val) → Is N.the-row r (u ∷ []) → Is i32 n (vn ∷ []) → (ts ls : List ℤ) → Ends-called out r ts ls → length ts ≡ length (t .now) → length ls ≡ length (l .now)
       → ent 𝓤 (⋆ 𝓤 H A (‵ (fobs γ (R .coded .code (r .analysis))) ∷ ‵ (fbor κ₁ (Body (mem R) b o γ)) ∷ ‵ (flft κ₁ q₁) ∷ Toks ∷ ‵ OwnC ∷ ‵ (finally i32 (t .name) ts) ∷ ‵ (finally i32 (l .name) ls) ∷ [])) (Post (LL.val S.the-type S′.the-laws (r .answer)))
   exits r u g n-is ts ls e lt ll =
       qed W (‵ (fobs γ (R .coded .code (r .analysis))) ∷ ‵ (fbor κ₁ (Body (mem R) b o γ)) ∷ ‵ (flft κ₁ q₁) ∷ Toks ∷ ‵ OwnC ∷ ‵ (finally i32 (t .name) ts) ∷ ‵ (finally i32 (l .name) ls) ∷ []) ∵
@@ -176,8 +176,8 @@ module _ {M : Type 1} (𝓤 : URA M) (H : Heap 𝓤) (A : Atoms 𝓤) (W : Given
         -- [what `advance` asks; c's; the cell; the open borrow; obs; auth; _11; …; _0; …]
         calls-at ! fm (Advance 𝓤 H A at-mem at-run) known to (and-then ! (load ! (from ! (stop !)) (look ! 26 refl)) (and-then ! (load ! (from ! (stop !)) (look ! 24 refl)) (and-then ! (load ! (from ! (stop !)) (look ! 14 refl)) (and-then ! (load ! (from ! (stop !)) (look ! 10 refl)) (and-then ! (load ! (from ! (stop !)) (look ! 6 refl)) (no-more !)))))) (λ u.
         use1 W (later (some (λ (r : Called). (Toks ⊛ ‵ (N.the-row .own r (u ∷ []))) ⊛ raw (ensured 𝓤 H A advance.ended (advance.clauses 𝓤 H A at-mem at-run) (κ₀, (κ₂, (κ₃, tt))) aA tt r)))) (id⊢ 𝓤 _) $ await ! tt $ pick ! (λ r.
-        split ! $ move ! (1 ∷ []) $ use1 W (some (λ (zs : Lasts). ‵ (lasts advance.ended (κ₀, (κ₂, (κ₃, tt))) aA zs) ⊛ raw (fact 𝓤 (Ends out r (zs .1 .1 .1 .0) (zs .1 .1 .1 .1 .0))))) (id⊢ 𝓤 _) $ pick ! (λ zs.
-        split ! $ move ! (1 ∷ []) $ heard ! (Ends out r (zs .1 .1 .1 .0) (zs .1 .1 .1 .1 .0)) (λ e. fsplit ! $ drop ! $ fsplit ! $ drop ! $ fsplit ! $ drop ! $ fsplit ! $ fsplit ! $ move ! (1 ∷ []) $ feqL ! (λ lt. move ! (1 ∷ []) $ fsplit ! $ fsplit ! $ move ! (1 ∷ []) $ feqL ! (λ ll. move ! (1 ∷ []) $ drop ! $
+        split ! $ move ! (1 ∷ []) $ use1 W (some (λ (zs : Lasts). ‵ (lasts advance.ended (κ₀, (κ₂, (κ₃, tt))) aA zs) ⊛ raw (fact 𝓤 (Ends-called out r (zs .1 .1 .1 .0) (zs .1 .1 .1 .1 .0))))) (id⊢ 𝓤 _) $ pick ! (λ zs.
+        split ! $ move ! (1 ∷ []) $ heard ! (Ends-called out r (zs .1 .1 .1 .0) (zs .1 .1 .1 .1 .0)) (λ e. fsplit ! $ drop ! $ fsplit ! $ drop ! $ fsplit ! $ drop ! $ fsplit ! $ fsplit ! $ move ! (1 ∷ []) $ feqL ! (λ lt. move ! (1 ∷ []) $ fsplit ! $ fsplit ! $ move ! (1 ∷ []) $ feqL ! (λ ll. move ! (1 ∷ []) $ drop ! $
         -- [the last list of l; of t; the tokens and the result; c's; the cell; the open borrow; obs; auth; the locals]
         move ! (2 ∷ []) $ split ! $ move ! (1 ∷ []) $ peeks ! N.the-row (Is N.the-row) (shows 𝓤 H A N.the-row) r (u ∷ []) (λ is.
         land ! (from ! (stop !)) (init ! 19 refl (LL.lawful N.the-type N′.the-laws 𝓤 H A W .typed r _ is .0)) $ rewrite ! 19 (λ (x : Val). ‵ (fat fullShare N′.mir l₆ 0 x)) (ap only (LL.tells N.the-type N′.the-laws r _ is)) refl $

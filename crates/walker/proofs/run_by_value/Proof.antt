@@ -50,7 +50,7 @@ use Rattle.semantics.proofs.Analysis.Laws as T′
 use Rattle.semantics.proofs.Answer as S
 use Rattle.semantics.proofs.Answer.Laws as S′
 use Rattle.form.specs.Form.{lent}
-use Rattle.walker.specs.Calls.{Leaves}
+use Rattle.walker.specs.Calls.{Ends}
 use Rattle.walker.specs.declared.Called.{Called}
 use Rattle.walker.proofs.Called as N
 use Rattle.walker.proofs.Called.Laws as N′
@@ -142,7 +142,7 @@ module _ {M : Type 1} (𝓤 : URA M) (H : Heap 𝓤) (A : Atoms 𝓤) (W : Given
   called-is : (r : Answer) (u : Val) (w : Analysis) → Is S.the-row r (u ∷ []) → Is R w (mach w ∷ []) → Is N.the-row (called r w) (LL.vals N.the-type N′.the-laws (called r w))
   called-is r u w g f = LL.owes N.the-type N′.the-laws (called r w) (LL.owes S.the-type S′.the-laws r (LL.owed S.the-type S′.the-laws r _ g), (f, tt))
 
-  exits : (r : Answer) (w : Analysis) → Is N.the-row (called r w) (LL.vals N.the-type N′.the-laws (called r w)) → Is i32 n (vn ∷ []) → Is R h (mach h ∷ []) → (ts ls : List ℤ) → Leaves out r w ts ls → length ts ≡ length (t .now) → length ls ≡ length (l .now)
+  exits : (r : Answer) (w : Analysis) → Is N.the-row (called r w) (LL.vals N.the-type N′.the-laws (called r w)) → Is i32 n (vn ∷ []) → Is R h (mach h ∷ []) → (ts ls : List ℤ) → Ends out r w ts ls → length ts ≡ length (t .now) → length ls ≡ length (l .now)
       → ent 𝓤 (⋆ 𝓤 H A (‵ (flft κ₀ q₀) ∷ (‵ (flft κ₁ q₁) ⊛ ‵ (flft κ₂ q₂) ⊛ ‵ ftrue) ∷ ‵ OwnC ∷ ‵ (finally i32 (t .name) ts) ∷ ‵ (finally i32 (l .name) ls) ∷ [])) (Post (LL.val N.the-type N′.the-laws (called r w)))
   exits r w made n-is h-is ts ls e lt ll =
       qed W (‵ (flft κ₀ q₀) ∷ (‵ (flft κ₁ q₁) ⊛ ‵ (flft κ₂ q₂) ⊛ ‵ ftrue) ∷ ‵ OwnC ∷ ‵ (finally i32 (t .name) ts) ∷ ‵ (finally i32 (l .name) ls) ∷ []) ∵
@@ -176,8 +176,8 @@ module _ {M : Type 1} (𝓤 : URA M) (H : Heap 𝓤) (A : Atoms 𝓤) (W : Given
         -- [what `run` asks; c's; the lender's part; _13; …]
         calls-at ! fm (Run 𝓤 H A at-mem at-run) known (to ν l₆ γ) (and-then ! (load ! (from ! (stop !)) (look ! 26 refl)) (and-then ! (load ! (from ! (stop !)) (look ! 24 refl)) (and-then ! (load ! (from ! (stop !)) (look ! 13 refl)) (and-then ! (load ! (from ! (stop !)) (look ! 9 refl)) (and-then ! (load ! (from ! (stop !)) (look ! 5 refl)) (no-more !)))))) (λ u.
         use1 W (later (some (λ (r : Answer). (Toks ν ⊛ ‵ (S.the-row .own r (u ∷ []))) ⊛ raw (ensured 𝓤 H A run.ended (run.clauses 𝓤 H A at-mem at-run) (κ₀, (ν ∷ [], (κ₁, (κ₂, tt)))) (aR l₆ γ) tt r)))) (id⊢ 𝓤 _) $ await ! tt $ pick ! (λ r.
-        split ! $ move ! (1 ∷ []) $ use1 W (some (λ (zs : Lasts). ‵ (lasts run.ended (κ₀, (ν ∷ [], (κ₁, (κ₂, tt)))) (aR l₆ γ) zs) ⊛ raw (fact 𝓤 (Leaves out r (zs .1 .1 .0) (zs .1 .1 .1 .0) (zs .1 .1 .1 .1 .0))))) (id⊢ 𝓤 _) $ pick ! (λ zs.
-        split ! $ move ! (1 ∷ []) $ heard ! (Leaves out r (zs .1 .1 .0) (zs .1 .1 .1 .0) (zs .1 .1 .1 .1 .0)) (λ e. fsplit ! $ drop ! $ fsplit ! $ drop ! $ fsplit ! $ move ! (1 ∷ []) $ fsplit ! $ fsplit ! $ move ! (1 ∷ []) $ feqL ! (λ lt. move ! (1 ∷ []) $ fsplit ! $ fsplit ! $ move ! (1 ∷ []) $ feqL ! (λ ll. move ! (1 ∷ []) $ drop ! $
+        split ! $ move ! (1 ∷ []) $ use1 W (some (λ (zs : Lasts). ‵ (lasts run.ended (κ₀, (ν ∷ [], (κ₁, (κ₂, tt)))) (aR l₆ γ) zs) ⊛ raw (fact 𝓤 (Ends out r (zs .1 .1 .0) (zs .1 .1 .1 .0) (zs .1 .1 .1 .1 .0))))) (id⊢ 𝓤 _) $ pick ! (λ zs.
+        split ! $ move ! (1 ∷ []) $ heard ! (Ends out r (zs .1 .1 .0) (zs .1 .1 .1 .0) (zs .1 .1 .1 .1 .0)) (λ e. fsplit ! $ drop ! $ fsplit ! $ drop ! $ fsplit ! $ move ! (1 ∷ []) $ fsplit ! $ fsplit ! $ move ! (1 ∷ []) $ feqL ! (λ lt. move ! (1 ∷ []) $ fsplit ! $ fsplit ! $ move ! (1 ∷ []) $ feqL ! (λ ll. move ! (1 ∷ []) $ drop ! $
         -- [the last list of l; of t; the last record; the tokens and the result; c's; the lender's part; the locals]
         move ! (3 ∷ []) $ split ! $ move ! (1 ∷ []) $ peeks ! S.the-row (Is S.the-row) (shows 𝓤 H A S.the-row) r (u ∷ []) (λ is.
         land ! (from ! (stop !)) (init ! 19 refl (LL.lawful S.the-type S′.the-laws 𝓤 H A W .typed r _ is .0)) $ rewrite ! 19 (λ (y : Val). ‵ (fat fullShare S′.mir l₇ 0 y)) (ap only (LL.tells S.the-type S′.the-laws r _ is)) refl $

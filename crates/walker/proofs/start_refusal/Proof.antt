@@ -7,7 +7,7 @@ use borrow.Author.Tests.{not-true, not-false}
 use denote.Ref.{now}
 use mir.Syntax.{w32}
 use mir.ValLaws.{toZ-ofZ}
-use Rattle.semantics.specs.Coverage.{allowed}
+use Rattle.semantics.specs.Algorithm.{allowed}
 use Rattle.semantics.specs.Encoding.{well-formed}
 use Rattle.semantics.specs.Memory.{capacity-ok}
 use Rattle.semantics.proofs.ListFacts.{from-true}

@@ -22,11 +22,9 @@ Inv-loop s i₀ i = (i ≤ length s) × (zeros s ≡ zeros (drop i s))
 abbrev μ-loop : tie.MeasureT-loop
 μ-loop s i₀ i = length s - i
 
--- src/lib.rt:62:5
 loop-holds : tie.Need-loop-holds Inv-loop μ-loop
 loop-holds c = (omega arith, refl)
 
--- src/lib.rt:65:13
 abbrev word : tie.After-x Inv-loop μ-loop → ℤ
 word c = getD (c .before .before .before .args .s .now) (c .before .before .loop .i) (pos 0)
 
@@ -40,12 +38,10 @@ returns : tie.Need-returns Inv-loop μ-loop
 returns c =
     rw (turn (c .before), bits-ne w32 {a = word (c .before)} {b = pos 0} (sfits-of (c .before .x .given)) (sfits-lit tt) (c .if1 .taken))
 
--- src/lib.rt:62:5
 loop-again : tie.Need-loop-again Inv-loop μ-loop
 loop-again c =
     (omega arith, rw (turn (c .before), bits-eq w32 {a = word (c .before)} {b = pos 0} (sfits-of (c .before .x .given)) (sfits-lit tt) (c .if1 .left)))
 
--- src/lib.rt:58:1
 returns-2 : tie.Need-returns-2 Inv-loop μ-loop
 returns-2 c = let b = c .before in sym (b .loop .inv .1 ∙ ap zeros (drop-of-length-le (b .before .args .s .now) (c .loop-test .left)))
 

@@ -18,11 +18,9 @@ Inv-loop dst₀ src i₀ dst i = (i ≤ length src) × (length dst ≡ length ds
 abbrev μ-loop : tie.MeasureT-loop
 μ-loop dst₀ src i₀ dst i = length src - i
 
--- src/lib.rt:51:5
 loop-holds : tie.Need-loop-holds Inv-loop μ-loop
 loop-holds c = (omega arith, refl, refl)
 
--- src/lib.rt:51:5
 loop-again : tie.Need-loop-again Inv-loop μ-loop
 loop-again c =
     let b = c .before .before in
@@ -37,11 +35,9 @@ loop-again c =
       rw (e, add-one, take-suc-set (b .loop .dst) i v hd, take-suc s i (pos 0) hs, b .loop .inv .2),
     )
 
--- src/lib.rt:46:1
 same-length : tie.Need-same-length Inv-loop μ-loop
 same-length c = c .before .loop .inv .1
 
--- src/lib.rt:46:1
 returns : tie.Need-returns Inv-loop μ-loop
 returns c =
     let b = c .before in

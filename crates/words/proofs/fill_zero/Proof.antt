@@ -17,18 +17,15 @@ Inv-loop s₀ i₀ s i = (i ≤ length s) × (length s ≡ length s₀) × (take
 abbrev μ-loop : tie.MeasureT-loop
 μ-loop s₀ i₀ s i = length s₀ - i
 
--- src/lib.rt:269:5
 loop-holds : tie.Need-loop-holds Inv-loop μ-loop
 loop-holds c = (omega arith, refl, refl)
 
--- src/lib.rt:269:5
 loop-again : tie.Need-loop-again Inv-loop μ-loop
 loop-again c =
     let b = c .before in
     let n = length-set (b .loop .s) (b .loop .i) (pos 0) in
     (omega (arith, n, c .loop-test .taken), n ∙ b .loop .inv .1, zero-turn (b .loop .s) (b .loop .i) (omega arith) (b .loop .inv .2))
 
--- src/lib.rt:265:1
 returns : tie.Need-returns Inv-loop μ-loop
 returns c =
     let b = c .before in

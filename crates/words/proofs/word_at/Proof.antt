@@ -6,7 +6,6 @@ use lib.ListN.{List·getD-eq-default}
 use Rattle.words.proofs.word_at.Statement.{statement}
 use Rattle.words.proofs.word_at.Tie as tie
 
--- src/lib.rt:17:1
 returns-2 : tie.Need-returns-2
 returns-2 c = sym (List·getD-eq-default (c .before .args .s .now) (pos 0) {n = c .before .args .i} (c .if1 .left))
 

@@ -17,7 +17,7 @@ returns c = let g = c .before .before .before .before .before .before .before .b
     let p6 : toZ w32 (ofZ w32 (o .value1)) ≡ o .value1 = search needs in
     let p7 : toZ w32 (ofZ w32 (o .tag2)) ≡ o .tag2 = search needs in
     let p8 : toZ w32 (ofZ w32 (o .value2)) ≡ o .value2 = search needs in
-    c .before .push-row .ensures ∙ rw (c .before .before .before .before .used .ensures, p1, p2, p3, p4, p5, p6, p7, p8)
+    c .before .push-row .ensures ∙ rw (c .before .before .before .before .used-words .ensures, p1, p2, p3, p4, p5, p6, p7, p8)
 
 pub push-spec : {M : Type 1} → statement M
 push-spec =

@@ -4,7 +4,7 @@ use native.Mathlib.Omega.{arith}
 use borrow.Author.Tests.{not-true, not-false}
 use borrow.Author.Needs.{needs}
 use Rattle.semantics.specs.Reading.{op-word-field}
-use Rattle.text.specs.Fields.{opWordRes}
+use Rattle.text.specs.Fields.{op-word-res}
 use Rattle.reader.proofs.Wording.{word-said}
 use Rattle.reader.proofs.Reading.{edge-full, edge-short, edge-no-word, edge-word}
 use Rattle.reader.proofs.edge.read_line.Statement.{statement}
@@ -17,8 +17,8 @@ returns-2 : tie.Need-returns-2
 returns-2 c = λ s names h g. edge-short s _ (omega (arith, h .edges)) (sym (c .before .enough .ensures) ∙ not-true _ (c .if2 .taken))
 
 returns-3 : tie.Need-returns-3
-unfolding opWordRes
-returns-3 c = λ s names h g. edge-no-word s _ (omega (arith, h .edges)) (sym (c .before .before .before .before .before .before .enough .ensures) ∙ not-false _ (c .before .before .before .before .before .if2 .left)) (ap op-word-field (sym (c .before .before .before .before .field .ensures)) ∙ sym (c .before .before .before .op-word-field .ensures) ∙ ap opWordRes (c .before .w .given .1))
+unfolding op-word-res
+returns-3 c = λ s names h g. edge-no-word s _ (omega (arith, h .edges)) (sym (c .before .before .before .before .before .before .enough .ensures) ∙ not-false _ (c .before .before .before .before .before .if2 .left)) (ap op-word-field (sym (c .before .before .before .before .field .ensures)) ∙ sym (c .before .before .before .op-word-field .ensures) ∙ ap op-word-res (c .before .w .given .1))
 
 returns-4 : tie.Need-returns-4
 returns-4 c = λ s names h g.

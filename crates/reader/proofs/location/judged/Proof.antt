@@ -4,18 +4,18 @@ use borrow.Author.Tests.{not-true, not-false}
 use borrow.Author.Needs.{needs}
 use Rattle.semantics.specs.Reading.{kind-field}
 use Rattle.semantics.specs.Text.{name-ok}
-use Rattle.text.specs.Fields.{flagRes}
+use Rattle.text.specs.Fields.{flag-res}
 use Rattle.reader.specs.Lines.{loc-fields}
 use Rattle.reader.proofs.Judging.{check-no, check-yes}
 use Rattle.reader.proofs.location.judged.Statement.{statement}
 use Rattle.reader.proofs.location.judged.Tie as tie
 
 returns : tie.Need-returns
-unfolding flagRes loc-fields
+unfolding flag-res loc-fields
 returns c = sym (check-no _ _ (sym (c .before .filled .ensures) ∙ not-true _ (c .if1 .taken)))
 
 returns-2 : tie.Need-returns-2
-unfolding flagRes loc-fields
+unfolding flag-res loc-fields
 returns-2 c = sym (check-yes _ _ (sym (c .before .before .before .before .filled .ensures) ∙ not-false _ (c .before .before .before .if1 .left)) ∙ check-no _ _ (ap name-ok (sym (c .before .before .field .ensures)) ∙ sym (c .before .name-ok .ensures) ∙ not-true _ (c .if2 .taken)))
 
 returns-3 : tie.Need-returns-3

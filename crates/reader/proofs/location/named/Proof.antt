@@ -17,7 +17,7 @@ returns-2 c = λ s names h g o. record {
   read = with-loc s (record { name = now (c .before .before .before .before .before .before .before .before .before .before .args .name); error = c .before .before .before .before .before .before .before .before .before .before .args .error });
   is = check-yes _ _ (not-yes (sym (name-held h (now (c .before .before .before .before .before .before .before .before .before .before .args .name)) o) ∙ sym (c .before .before .before .before .before .before .name-seen .ensures) ∙ c .before .before .before .before .before .if1 .left));
   few = record { vars = omega arith; locs = omega arith; edges = omega arith };
-  held = rw (c .before .before .push-location .ensures, c .before .before .before .before .used .ensures) (rows-loc s h (now (c .before .before .before .before .before .before .before .before .before .before .args .name)) (c .before .before .before .before .before .before .before .before .before .before .args .error) o (omega arith) (omega arith));
+  held = rw (c .before .before .push-location .ensures, c .before .before .before .before .used-words .ensures) (rows-loc s h (now (c .before .before .before .before .before .before .before .before .before .before .args .name)) (c .before .before .before .before .before .before .before .before .before .before .args .error) o (omega arith) (omega arith));
   names-held = g;
 }
 

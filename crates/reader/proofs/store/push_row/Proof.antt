@@ -1,0 +1,26 @@
+-- `reader::store::push_row` meets its contract. Assumes nothing.
+use borrow.Author.Needs.{needs}
+use Rattle.words.proofs.Rows.{span, part-length}
+use Rattle.reader.specs.Rows.{stored}
+use Rattle.reader.proofs.store.push_row.Statement.{statement}
+use Rattle.reader.proofs.store.push_row.Tie as tie
+
+copy-words-requires : tie.Need-copy-words-requires
+copy-words-requires c κs = rw span (part-length _ _ _ (c .before .pre))
+
+returns : tie.Need-returns
+unfolding stored
+returns c = rw (span, c .before .copy-words .ensures)
+
+pub push-row-spec : {M : Type 1} → statement M
+push-row-spec =
+    tie.close
+    (tie.spec
+    (λ c. search needs)
+    (λ c. search needs)
+    (λ c. search needs)
+    (λ c. search needs)
+    (λ c. search needs)
+    copy-words-requires
+    (λ c. search needs)
+    returns)
