@@ -9,7 +9,7 @@ use lib.IntN.{ℤ}
 use Rattle.semantics.specs.Lists.{pick, all}
 use Rattle.semantics.specs.Text.{bytes, between, same-bytes, fields, number-of}
 use Rattle.semantics.specs.Chart.{Chart}
-use Rattle.semantics.specs.Reading.{Res, fail, ok, check, if-ok, nth, filled, Reading, refused, accepted, read}
+use Rattle.semantics.specs.Reading.{Res, fail, ok, check, if-ok, word-field, nth, filled, Reading, refused, accepted, read}
 use Rattle.semantics.specs.Constants.{AbstractState}
 use Rattle.semantics.specs.Algorithm.{Mode, Sep, Join, Order, Old, New, Settings, Exploration, allowed}
 use Rattle.semantics.specs.Memory.{capacity-ok}
@@ -38,10 +38,10 @@ pub record Go : Type 0 where
   pub budget : ℤ
 
 abbrev pub mode-field : List ℕ → Res Mode
-mode-field f = pick (same-bytes f (mode-text Sep)) (ok Sep) (pick (same-bytes f (mode-text Join)) (ok Join) (fail 6))
+mode-field f = word-field mode-text (Sep ∷ Join ∷ []) f
 
 abbrev pub order-field : List ℕ → Res Order
-order-field f = pick (same-bytes f (order-text Old)) (ok Old) (pick (same-bytes f (order-text New)) (ok New) (fail 6))
+order-field f = word-field order-text (Old ∷ New ∷ []) f
 
 -- "numbers in form only; their size is judged by 11 and 13"
 abbrev pub any-number : Option ℤ → Res ℤ

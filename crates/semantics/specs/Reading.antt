@@ -60,9 +60,18 @@ operand-field n f = pick (eqb (getD f 0 0) 36) (if-ok (target-field n f) (λ k. 
 unfoldable pub init-field : ℤ → ℤ → List ℕ → Res Value
 init-field lo hi f = pick (same-bytes f (bytes "*")) (ok top) (if-ok (number-field f) (λ z. check (within lo hi z) 7 (ok (known z))))
 
+-- the first of the things given whose word the field is; else it is malformed
+abbrev pub word-field : {A : Type 0} → (A → List ℕ) → List A → List ℕ → Res A
+word-field text [] f = fail 6
+word-field text (x ∷ xs) f = pick (same-bytes f (text x)) (ok x) (word-field text xs f)
+
 -- "kind `o` ordinary, `e` bad"
+abbrev pub kind-text : Bool → List ℕ
+kind-text true = bytes "e"
+kind-text false = bytes "o"
+
 unfoldable pub kind-field : List ℕ → Res Bool
-kind-field f = pick (same-bytes f (bytes "o")) (ok false) (pick (same-bytes f (bytes "e")) (ok true) (fail 6))
+kind-field f = word-field kind-text (false ∷ true ∷ []) f
 
 abbrev pub rel-text : Rel → List ℕ
 rel-text eq = bytes "eq"
@@ -74,9 +83,7 @@ rel-text ge = bytes "ge"
 
 -- one of the six relation words
 unfoldable pub rel-field : List ℕ → Res Rel
-rel-field f =
-    pick (same-bytes f (rel-text eq)) (ok eq) (pick (same-bytes f (rel-text ne)) (ok ne) (pick (same-bytes f (rel-text lt)) (ok lt)
-    (pick (same-bytes f (rel-text le)) (ok le) (pick (same-bytes f (rel-text gt)) (ok gt) (pick (same-bytes f (rel-text ge)) (ok ge) (fail 6))))))
+rel-field f = word-field rel-text (eq ∷ ne ∷ lt ∷ le ∷ gt ∷ ge ∷ []) f
 
 pub data OpWord : Type 0 where
   do-set do-add do-sub do-in do-if do-skip : OpWord
@@ -91,9 +98,7 @@ word-text do-skip = bytes "skip"
 
 -- one of the six operation words
 unfoldable pub op-word-field : List ℕ → Res OpWord
-op-word-field f =
-    pick (same-bytes f (word-text do-set)) (ok do-set) (pick (same-bytes f (word-text do-add)) (ok do-add) (pick (same-bytes f (word-text do-sub)) (ok do-sub)
-    (pick (same-bytes f (word-text do-in)) (ok do-in) (pick (same-bytes f (word-text do-if)) (ok do-if) (pick (same-bytes f (word-text do-skip)) (ok do-skip) (fail 6))))))
+op-word-field f = word-field word-text (do-set ∷ do-add ∷ do-sub ∷ do-in ∷ do-if ∷ do-skip ∷ []) f
 
 -- the fields of an E line with this operation
 abbrev pub field-count : OpWord → ℕ

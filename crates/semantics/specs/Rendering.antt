@@ -1,20 +1,15 @@
 -- A text that reads to a given chart, its variables named a, b, c and so on: it shows that reading can produce whatever the check
 -- of an encoded chart accepts. No passage of document 01. Assumes nothing.
-use mathlib.Core.Bool.{Bool, true, false}
 use mathlib.Core.List.{List, [], _∷_, _++_, map}
 use Prim.Native.Nat.{ℕ, suc, _+_}
 use Rattle.semantics.specs.Text.{bytes, decimal, decimalZ}
 use Rattle.semantics.specs.Chart.{Var, Loc, Operand, num, var, Op, assign, add, sub, input, assume, skip, Edge, Chart}
 use Rattle.semantics.specs.Listing.{val-text}
-use Rattle.semantics.specs.Reading.{rel-text, do-set, do-add, do-sub, do-in, do-if, do-skip, word-text}
+use Rattle.semantics.specs.Reading.{kind-text, rel-text, do-set, do-add, do-sub, do-in, do-if, do-skip, word-text}
 
 abbrev pub operand-text : Operand → List ℕ
 operand-text (num z) = decimalZ z
 operand-text (var k) = 36 ∷ decimal k
-
-abbrev pub kind-text : Bool → List ℕ
-kind-text true = bytes "e"
-kind-text false = bytes "o"
 
 abbrev pub var-fields : ℕ → Var → List (List ℕ)
 var-fields i v = bytes "V" ∷ ((97 + i) ∷ []) ∷ decimalZ (v .lo) ∷ decimalZ (v .hi) ∷ val-text (v .init) ∷ []
