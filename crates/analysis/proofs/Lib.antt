@@ -1,3 +1,5 @@
+-- From one edge to whole calls: merge, arrival, edges passed over, iterations, the begin; then the words at exit and at
+-- entry, and sizes.
 pub mod Merges
 pub mod Arrival
 pub mod Passing

@@ -1,1 +1,2 @@
+-- Record and words as an exploration of rows.
 pub mod Loaded

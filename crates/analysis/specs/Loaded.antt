@@ -34,6 +34,7 @@ pub record Is-edge (c : List ℤ) (g : ℕ) (e : Edge) : Type 0 where
   pub id : e .id .0 ≡ g + 1
   pub at : e .at ≡ edge-at c g
 
+-- how the edges ended, with rows and slots; n is the edge of an alarm
 abbrev pub out-by : Exit → ℕ → List (List ℤ) → List ℕ → Out (List ℤ)
 out-by On n en wa = on en wa
 out-by Alarm n en wa = alarmed n en wa
@@ -43,6 +44,7 @@ out-by Full n en wa = full en wa
 abbrev pub out-of : ℕ → List ℤ → List ℤ → Progress → Out (List ℤ)
 out-of w t l p = out-by (p .exit) (p .edge .0) (rows-of w (p .used) t) (waits (p .waiting) l)
 
+-- no further edge is played: an alarm, or a full table
 abbrev pub has-ended : Exit → Bool
 has-ended On = false
 has-ended Alarm = true

@@ -1,1 +1,2 @@
+-- The check of an encoded chart, said of its words.
 pub mod Encoded

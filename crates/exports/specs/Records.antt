@@ -16,20 +16,24 @@ use Rattle.exports.specs.declared.Record.{Record}
 
 -- ---- the codes: merge and stop 0 sep, 1 join; order 0 old, 1 new; verdict 0 unfinished, 1 safe, 2 alarm, 3 out of room
 
+-- the code of a merge or a stop
 abbrev pub mode-code : Mode → ℕ
 mode-code Sep = 0
 mode-code Join = 1
 
+-- the code of an order
 abbrev pub order-code : Order → ℕ
 order-code Old = 0
 order-code New = 1
 
+-- the code of a verdict
 abbrev pub verdict-code : Verdict → ℕ
 verdict-code Open = 0
 verdict-code Safe = 1
 verdict-code Alarm = 2
 verdict-code Full = 3
 
+-- the record with a code for each setting and verdict
 abbrev pub record-of : Analysis → Record
 record-of a = record {
   merge = mode-code (a .settings .merge);
@@ -45,15 +49,19 @@ record-of a = record {
 
 -- ---- what a code names; one that names nothing is read as the last that names something
 
+-- the merge or stop of a code
 abbrev pub mode-in : ℕ → Mode
 mode-in n = pick (eqb n 0) Sep Join
 
+-- the order of a code
 abbrev pub order-in : ℕ → Order
 order-in n = pick (eqb n 0) Old New
 
+-- the verdict of a code
 abbrev pub verdict-in : ℕ → Verdict
 verdict-in n = pick (eqb n 0) Open (pick (eqb n 1) Safe (pick (eqb n 2) Alarm Full))
 
+-- the settings of three codes
 abbrev pub settings-in : ℕ → ℕ → ℕ → Settings
 settings-in merge stop order = record { merge = mode-in merge; stop = mode-in stop; order = order-in order }
 
@@ -61,6 +69,7 @@ settings-in merge stop order = record { merge = mode-in merge; stop = mode-in st
 abbrev pub settings-named : ℕ → ℕ → ℕ → Bool
 settings-named merge stop order = (ltb merge 2 && ltb stop 2) && ltb order 2
 
+-- whether each of the record's four codes names something
 abbrev pub codes-named : Record → Bool
 codes-named r = settings-named (r .merge) (r .stop) (r .order) && ltb (r .verdict) 4
 

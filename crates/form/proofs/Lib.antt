@@ -1,1 +1,2 @@
+-- Facts behind the form check.
 pub mod Facts

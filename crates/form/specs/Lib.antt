@@ -1,1 +1,2 @@
+-- Form rule 21 in two parts.
 pub mod Form

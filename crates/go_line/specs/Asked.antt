@@ -31,14 +31,17 @@ use Rattle.go_line.specs.declared.OrderRead.the-variants as order-read
 
 -- ---- what the answers say
 
+-- merge or stop; malformed is 6
 unfoldable pub mode-res : ModeRead → Res Mode
 mode-res mode-read.Malformed = fail 6
 mode-res (mode-read.Is m) = ok m
 
+-- order; malformed is 6
 unfoldable pub order-res : OrderRead → Res Order
 order-res order-read.Malformed = fail 6
 order-res (order-read.Is o) = ok o
 
+-- the refusal's number, or what is asked
 unfoldable pub asked-res : Asked → Res Asking
 asked-res (asked.Refused n) = fail n
 asked-res (asked.Is s r a) = ok (record { settings = s; capacity = r; budget = a })
@@ -61,12 +64,15 @@ numbers s p q = if-ok (any-number p) λ r. if-ok (any-number q) λ a. sized s r 
 abbrev pub from-order : Mode → Mode → List (List ℕ) → Res Asking
 from-order m s fs = if-ok (order-field (nth fs 3)) λ o. numbers (record { merge = m; stop = s; order = o }) (number-of (nth fs 4)) (number-of (nth fs 5))
 
+-- the fields from stop on; m is the merge
 abbrev pub from-stop : Mode → List (List ℕ) → Res Asking
 from-stop m fs = if-ok (mode-field (nth fs 2)) λ s. from-order m s fs
 
+-- the fields from merge on
 abbrev pub from-merge : List (List ℕ) → Res Asking
 from-merge fs = if-ok (mode-field (nth fs 1)) λ m. from-stop m fs
 
+-- the line's fields, by 5, then from left to right by 6
 unfoldable pub line-fields : List (List ℕ) → Res Asking
 line-fields fs = check (filled 6 fs) 5 (check (same-bytes (nth fs 0) (bytes "go")) 6 (from-merge fs))
 

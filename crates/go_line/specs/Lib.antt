@@ -1,1 +1,2 @@
+-- The go line in parts.
 pub mod Asked

@@ -1,1 +1,2 @@
+-- How a chain grows.
 pub mod Links

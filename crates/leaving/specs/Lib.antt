@@ -1,1 +1,2 @@
+-- Chains of edges.
 pub mod Chains

@@ -1,1 +1,2 @@
+-- Places of lines.
 pub mod Places

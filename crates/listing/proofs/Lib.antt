@@ -1,2 +1,3 @@
+-- The text piece by piece, then the refusals.
 pub mod Facts
 pub mod Refusals

@@ -20,10 +20,11 @@ tabbed f = 9 ∷ f
 unfoldable pub values-text : List ℤ → List ℕ
 values-text vs = each tabbed (map val-text (map val vs))
 
--- of the first line, the settings and the verdict, and the counts
+-- of the first line, the settings and the verdict
 unfoldable pub words-text : Analysis → List ℕ
 words-text a = tabbed (mode-text (a .settings .merge)) ++ (tabbed (mode-text (a .settings .stop)) ++ (tabbed (order-text (a .settings .order)) ++ tabbed (verdict-text (a .verdict))))
 
+-- of the first line, the counts: "rounds, used slots, alarm edge or 0"
 unfoldable pub counts-text : Analysis → List ℕ
 counts-text a = tabbed (decimal (a .iterations)) ++ (tabbed (decimal (a .used)) ++ tabbed (decimal (a .edge .0)))
 

@@ -1,1 +1,2 @@
+-- Table and waitlist together, as words.
 pub mod Reached

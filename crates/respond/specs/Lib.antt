@@ -1,1 +1,2 @@
+-- What the parts of the program ask and leave.
 pub mod Responded

@@ -1,1 +1,2 @@
+-- Turns of the loops over rows.
 pub mod Turns

@@ -11,25 +11,31 @@ use Rattle.semantics.specs.Algorithm.{Domain, Step}
 
 -- ---- words, 32,768 being top
 
+-- x lies under y: y is top, or it is "the same value in both"
 abbrev pub word-leq : ℤ → ℤ → Bool
 word-leq x y = eqZ y (pos 32768) || eqZ x y
 
+-- "equal values stay, all else becomes unspecific"
 abbrev pub word-join : ℤ → ℤ → ℤ
 word-join x y = pick (eqZ x y) y (pos 32768)
 
+-- lists of one length, each word under the one at its place
 abbrev pub words-leq : List ℤ → List ℤ → Bool
 words-leq e s = all-pairs word-leq e s
 
+-- each word joined with the one at its place; as long as the second list
 abbrev pub words-join : List ℤ → List ℤ → List ℤ
 words-join [] s = s
 words-join (x ∷ e) [] = []
 words-join (x ∷ e) (y ∷ s) = word-join x y ∷ words-join e s
 
+-- the two lists are the same, word for word
 abbrev pub same-words : List ℤ → List ℤ → Bool
 same-words e s = all-pairs eqZ e s
 
 -- ---- rows
 
+-- "the locations agree"
 abbrev pub same-place : List ℤ → List ℤ → Bool
 same-place e s = eqZ (getD e 0 (pos 0)) (getD s 0 (pos 0))
 
@@ -50,6 +56,7 @@ abbrev pub join-of : List ℤ → List (List ℤ) → List ℤ
 join-of x [] = x
 join-of x (y ∷ ys) = join-of (row-join x y) ys
 
+-- e lies under the join of the rows; "with no such slot, never"
 abbrev pub leq-join-of : List ℤ → List (List ℤ) → Bool
 leq-join-of e [] = false
 leq-join-of e (x ∷ xs) = row-leq e (join-of x xs)
@@ -68,6 +75,7 @@ rows-merge e w (suc n) t = row-merge e (take w t) ++ rows-merge e w n (drop w t)
 
 -- ---- the rows as a domain, over the transfer by an edge, counted from 0 here, and the test of an error location
 
+-- edge g has the number g + 1; merge is the join into the slot's row
 abbrev pub row-domain : (ℕ → List ℤ → Step (List ℤ)) → (List ℤ → Bool) → Domain (List ℤ) ℕ
 row-domain post error = record {
   number = λ g. suc g;

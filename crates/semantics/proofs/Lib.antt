@@ -1,22 +1,30 @@
+-- What holds of the definitions: over any domain (to Simulate), of the constants (to Executions), of words (Stored,
+-- Reloaded), of a chart's text and its words (to Exactness), of the calls (to Realisable), of the program (to
+-- OutputShort). The claims are in Exactness, WholeWalks and MarkedCases.
 pub mod ListFacts
 pub mod Waitlist
 pub mod Covering
-pub mod Values
-pub mod ConstantsSound
 pub mod Tidy
 pub mod SettingsKept
+pub mod Verdicts
+pub mod Simulate
+pub mod Values
+pub mod ConstantsSound
 pub mod StatesOk
+pub mod Executions
 pub mod Stored
-pub mod Encoded
-pub mod WholeWalks
+pub mod Reloaded
 pub mod Numbers
 pub mod Texts
+pub mod Accepted
+pub mod Encoded
+pub mod Decoded
 pub mod JudgedBack
 pub mod Rendered
-pub mod Accepted
 pub mod Exactness
+pub mod FirstCase
+pub mod WholeWalks
 pub mod Realisable
-pub mod Reloaded
 pub mod Listed
 pub mod Program
 pub mod Input
@@ -24,8 +32,3 @@ pub mod Refusals
 pub mod Calls
 pub mod OutputShort
 pub mod MarkedCases
-pub mod Simulate
-pub mod FirstCase
-pub mod Decoded
-pub mod Verdicts
-pub mod Executions

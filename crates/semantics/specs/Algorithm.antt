@@ -34,6 +34,7 @@ pub data Step (E : Type 0) : Type 0 where
   fault : Step E
   to : E → Step E
 
+-- what the algorithm asks of abstract states and edges; document 01's are the constants (Constants)
 pub record Domain (E G : Type 0) : Type 0 where
   pub number : G → ℕ
   -- the abstract move by an edge; halt where the edge does not leave the state's place
@@ -68,25 +69,31 @@ abbrev pub join-unless : Bool → ℕ → List ℕ → List ℕ
 join-unless true k w = w
 join-unless false k w = w ++ (k ∷ [])
 
+-- slot k waits, if it does not yet
 abbrev pub wait : ℕ → List ℕ → List ℕ
 wait k w = join-unless (some-of (eqb k) w) k w
 
+-- each of the slots waits, in the order given
 abbrev pub wait-all : List ℕ → List ℕ → List ℕ
 wait-all [] w = w
 wait-all (k ∷ ks) w = wait-all ks (wait k w)
 
+-- the slot that was taken from a waitlist, and the slots that still wait
 pub record Taken : Type 0 where
   pub slot : ℕ
   pub rest : List ℕ
 
+-- by `old`: the first slot of the list
 abbrev pub take-first : List ℕ → Option Taken
 take-first [] = none
 take-first (x ∷ xs) = some (record { slot = x; rest = xs })
 
+-- the last of a list that begins with x, given the last of the rest; x itself where the rest is empty
 abbrev pub later : ℕ → Option Taken → Option Taken
 later x none = some (record { slot = x; rest = [] })
 later x (some t) = some (record { slot = t .slot; rest = x ∷ t .rest })
 
+-- by `new`: the last slot of the list
 abbrev pub take-last : List ℕ → Option Taken
 take-last [] = none
 take-last (x ∷ xs) = later x (take-last xs)
@@ -96,6 +103,7 @@ abbrev pub take-by : Order → List ℕ → Option Taken
 take-by Old w = take-first w
 take-by New w = take-last w
 
+-- the list without slot k
 abbrev pub without : ℕ → List ℕ → List ℕ
 without k [] = []
 without k (x ∷ xs) = cons-unless (eqb k x) x (without k xs)
@@ -113,6 +121,7 @@ pub data Out (E : Type 0) : Type 0 where
   alarmed : ℕ → List E → List ℕ → Out E
   full : List E → List ℕ → Out E
 
+-- goes on by k, unless an alarm or a full table has ended the iteration
 abbrev pub then : {E : Type 0} → Out E → (List E → List ℕ → Out E) → Out E
 then (on en wa) k = k en wa
 then (alarmed n en wa) k = alarmed n en wa
@@ -143,15 +152,17 @@ module _ {E G : Type 0} (D : Domain E G) where
   merged Sep e en = en
   merged Join e en = map (joined e) en
 
+  -- "a changed slot waits again": the waitlist after step 2, en the table before it
   abbrev pub rewait : Mode → E → List E → List ℕ → List ℕ
   rewait Sep e en w = w
   rewait Join e en w = wait-all (changed e 0 en) w
 
-  -- step 3
+  -- step 3. x is kept before the others if the test passes
   abbrev pub keep-if : Bool → E → List E → List E
   keep-if true x r = x ∷ r
   keep-if false x r = r
 
+  -- "all slots of its location": the states of en at the place of e
   abbrev pub of-place : E → List E → List E
   of-place e [] = []
   of-place e (x ∷ xs) = keep-if (D .same-place e x) x (of-place e xs)
@@ -171,6 +182,7 @@ module _ {E G : Type 0} (D : Domain E G) where
   store-if true e en wa = on (en ++ (e ∷ [])) (wa ++ (length en ∷ []))
   store-if false e en wa = full en wa
 
+  -- the Bool says whether e is dropped; "If not dropped", it is stored while fewer than r slots are in use
   abbrev pub stop-if : Bool → ℕ → E → List E → List ℕ → Out E
   stop-if true r e en wa = on en wa
   stop-if false r e en wa = store-if (ltb (length en) r) e en wa
@@ -221,6 +233,7 @@ module _ {E G : Type 0} (D : Domain E G) where
   with-copy gs w k rest none = w
   with-copy gs w k rest (some e) = finish w k (leave (w .settings) (w .capacity) e gs (w .reached) rest)
 
+  -- the iteration by the slot taken; a waitlist with none to take is no case of an open analysis
   abbrev pub with-taken : List G → Exploration E → Option Taken → Exploration E
   with-taken gs w none = w
   with-taken gs w (some t) = with-copy gs w (t .slot) (t .rest) (get (w .reached) (t .slot))
@@ -231,6 +244,7 @@ module _ {E G : Type 0} (D : Domain E G) where
 
   -- ---- the run of iterations, and the start
 
+  -- one more iteration, but none after a verdict
   abbrev pub iterate-if : List G → Verdict → Exploration E → Exploration E
   iterate-if gs Open w = iteration gs w
   iterate-if gs Safe w = w
@@ -242,6 +256,7 @@ module _ {E G : Type 0} (D : Domain E G) where
   run gs zero w = w
   run gs (suc n) w = run gs n (iterate-if gs (w .verdict) w)
 
+  -- e in slot 0, waiting, 0 iterations and edge 0; v is the verdict
   abbrev pub start-with : Verdict → Settings → ℕ → E → Exploration E
   start-with v s r e = record { settings = s; capacity = r; iterations = 0; reached = e ∷ []; waitlist = 0 ∷ []; verdict = v; edge = 0 }
 

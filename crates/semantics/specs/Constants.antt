@@ -24,6 +24,7 @@ pub record Covers (c : Chart) (e : AbstractState) (s : State) : Type 0 where
 
 -- ---- lies under, and join
 
+-- the same value in both, or top in both
 abbrev pub equal-value : Value → Value → Bool
 equal-value (known a) (known b) = eqZ a b
 equal-value (known a) top = false
@@ -42,6 +43,7 @@ abbrev pub value-or-top : Bool → Value → Value
 value-or-top true v = v
 value-or-top false v = top
 
+-- the join of one variable's values
 abbrev pub join-value : Value → Value → Value
 join-value a b = value-or-top (equal-value a b) b
 
@@ -51,9 +53,11 @@ join-values [] ys = ys
 join-values (x ∷ xs) [] = []
 join-values (x ∷ xs) (y ∷ ys) = join-value x y ∷ join-values xs ys
 
+-- "the locations agree"
 abbrev pub same-location : AbstractState → AbstractState → Bool
 same-location e f = eqb (e .loc) (f .loc)
 
+-- the same location and the same value of each variable; a merge that ends so changes no slot
 abbrev pub equal : AbstractState → AbstractState → Bool
 equal e f = same-location e f && all-pairs equal-value (e .vals) (f .vals)
 
@@ -70,12 +74,14 @@ abbrev pub join-all : AbstractState → List AbstractState → AbstractState
 join-all e [] = e
 join-all e (x ∷ xs) = join-all (join e x) xs
 
+-- e lies under "the join of all slots of its location", which the list is; "with no such slot, never"
 abbrev pub leq-join-all : AbstractState → List AbstractState → Bool
 leq-join-all e [] = false
 leq-join-all e (x ∷ xs) = leq e (join-all x xs)
 
 -- ---- the abstract move
 
+-- what an operand is worth at these values; a number is known, a `$k` may be top
 abbrev pub operand-value : Operand → List Value → Value
 operand-value (num z) vs = known z
 operand-value (var k) vs = getD vs k (known (pos 0))
@@ -127,10 +133,12 @@ effect vars (input v p q) vs = some (set vs v (one-of (eqZ p q) p))
 effect vars (assume v r a) vs = tested vars r (var v) a (operand-value (var v) vs) (operand-value a vs) vs
 effect vars skip vs = some vs
 
+-- the successor at location l with these values; none where the operation gives none
 abbrev pub arrive-at : ℕ → Option (List Value) → Step AbstractState
 arrive-at l none = halt
 arrive-at l (some vs) = to (record { loc = l; vals = vs })
 
+-- the Bool says whether the edge leaves the state's location; if not, there is no move
 abbrev pub post-if : Bool → List Var → Edge → List Value → Step AbstractState
 post-if true vars g vs = arrive-at (g .to) (effect vars (g .op) vs)
 post-if false vars g vs = halt

@@ -23,6 +23,7 @@ pub record System (G S : Type 0) : Type 1 where
   -- the edge, taken at the state, is a fault (unused in document 01)
   pub Faults : G → S → Type 0
 
+-- a chart as a transition system; in document 01 no edge is a fault
 abbrev pub system : Chart → System Numbered State
 system c = record { edges = numbered c; Initial = Initial c; Moves = λ g. Moves c (g .edge); Error = Error c; Faults = λ g s. ⊥ }
 
@@ -40,10 +41,11 @@ module _ {G S : Type 0} (M : System G S) where
 -- ---- coverage
 
 module _ {E S : Type 0} (Covers : E → S → Type 0) where
-  -- covered by a slot in use; by one that is waiting
+  -- covered by a slot in use
   abbrev pub Covered : List E → S → Type 0
   Covered en s = (j : ℕ) × (x : E) × At en j x × Covers x s
 
+  -- covered by a slot that is waiting
   abbrev pub Waits : List E → List ℕ → S → Type 0
   Waits en wa s = (j : ℕ) × (x : E) × At en j x × In j wa × Covers x s
 
@@ -59,6 +61,7 @@ pub record Covering {E G S : Type 0} (M : System G S) (Covers : E → S → Type
 
 -- ---- an analysis in form
 
+-- no number stands twice in the list
 abbrev pub Distinct : List ℕ → Type 0
 Distinct [] = Unit
 Distinct (x ∷ xs) = (In x xs → ⊥) × Distinct xs
@@ -90,6 +93,7 @@ module _ {E G : Type 0} (D : Domain E G) where
   abbrev pub Raises : G → E → Type 0
   Raises g e = (D .post g e ≡ fault) ⊎ ((f : E) × (D .post g e ≡ to f) × T (D .error f))
 
+  -- none of the edges raises an alarm at e
   abbrev pub Quiet : E → List G → Type 0
   Quiet e gs = (g : G) → In g gs → Raises g e → ⊥
 
@@ -110,6 +114,7 @@ module _ {E G : Type 0} (D : Domain E G) where
 
 -- ---- what a domain owes to cover the system: `Covers e s`, and the form `Fit` that its states keep
 
+-- with these laws every analysis over the domain D covers the executions of M
 pub record Laws {E G S : Type 0} (M : System G S) (D : Domain E G) (Fit : E → Type 0) (Covers : E → S → Type 0) : Type 0 where
   -- the abstract move covers each move, or is a fault
   pub post-covers : (g : G) (e : E) (s t : S) → Covers e s → M .Moves g s t → (D .post g e ≡ fault) ⊎ ((f : E) × (D .post g e ≡ to f) × Covers f t)
@@ -127,6 +132,7 @@ pub record Laws {E G S : Type 0} (M : System G S) (D : Domain E G) (Fit : E → 
 
 -- ---- the claim over any list of start and run calls
 
+-- settings that 12 lets pass
 abbrev pub Allowed : Settings → Type 0
 Allowed s = T (allowed (s .merge) (s .stop))
 
@@ -134,15 +140,18 @@ Allowed s = T (allowed (s .merge) (s .stop))
 abbrev pub Fit : Chart → AbstractState → Type 0
 Fit c e = length (e .vals) ≡ length (c .vars)
 
+-- a start, with settings and a capacity, or a run, with a budget
 pub data Action : Type 0 where
   starting : (z : Settings) → Allowed z → ℕ → Action
   running : ℕ → Action
 
 module _ (c : Chart) where
+  -- what the rules make of one action; a start begins anew
   abbrev pub act : Action → Exploration AbstractState → Exploration AbstractState
   act (starting z ok r) w = start (constants c) z r (initial c)
   act (running n) w = run (constants c) (numbered c) n w
 
+  -- what they make of the actions, one after the other
   abbrev pub act-all : List Action → Exploration AbstractState → Exploration AbstractState
   act-all [] w = w
   act-all (k ∷ ks) w = act-all ks (act k w)

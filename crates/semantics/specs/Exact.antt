@@ -19,6 +19,7 @@ pub record Produced (words : List ℤ) : Type 0 where
   pub reads : read text ≡ accepted chart
   pub holds : words ≡ encode chart ++ after
 
+-- both ways: reading produces nothing that the check refuses, and the check accepts nothing else
 pub record EncodedExactly : Type 0 where
   -- what reading accepts is well formed, with any words after, and is read back
   pub formed : (text : List ℕ) (c : Chart) → read text ≡ accepted c → (after : List ℤ) → T (well-formed (encode c ++ after)) × (decode (encode c ++ after) ≡ c)

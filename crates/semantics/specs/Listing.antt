@@ -10,10 +10,12 @@ use Rattle.semantics.specs.Chart.{Value, known, top, Loc, Chart}
 use Rattle.semantics.specs.Constants.{AbstractState}
 use Rattle.semantics.specs.Algorithm.{Mode, Sep, Join, Order, Old, New, Verdict, Open, Safe, Alarm, Full, Exploration}
 
+-- the word of a merge or a stop
 abbrev pub mode-text : Mode → List ℕ
 mode-text Sep = bytes "sep"
 mode-text Join = bytes "join"
 
+-- the word of an order
 abbrev pub order-text : Order → List ℕ
 order-text Old = bytes "old"
 order-text New = bytes "new"
@@ -25,6 +27,7 @@ verdict-text Safe = bytes "safe"
 verdict-text Alarm = bytes "alarm"
 verdict-text Full = bytes "room"
 
+-- the name of location n; empty where the chart has no such location
 abbrev pub loc-text : List Loc → ℕ → List ℕ
 loc-text [] n = []
 loc-text (l ∷ ls) zero = l .name
@@ -44,6 +47,7 @@ mark false = bytes "-"
 abbrev pub slot-text : Chart → List ℕ → ℕ → AbstractState → List ℕ
 slot-text c wa s e = line-of (decimal s) (loc-text (c .locs) (e .loc) ∷ (map val-text (e .vals) ++ (mark (some-of (eqb s) wa) ∷ [])))
 
+-- the lines of the slots, the first of them slot s; wa is the waitlist
 abbrev pub slots-text : Chart → List ℕ → ℕ → List AbstractState → List ℕ
 slots-text c wa s [] = []
 slots-text c wa s (e ∷ es) = slot-text c wa s e ++ slots-text c wa (suc s) es

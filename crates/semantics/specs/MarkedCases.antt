@@ -15,6 +15,7 @@ use Rattle.semantics.specs.Program.{output}
 
 -- ---- case A: its bytes, and the chart that they say
 
+-- the chart file of case A
 unfoldable pub text-A : List ℕ
 text-A =
     bytes "V\tx\t0\t1\t0\n"
@@ -33,6 +34,7 @@ text-A =
     ++ bytes "E\t3\t4\tadd\t$2\t$0\t$1\n"
     ++ bytes "E\t4\t5\tif\t$2\teq\t0\n"
 
+-- what the program "prints, whole" with `go sep sep old 16 100`
 unfoldable pub listing-A : List ℕ
 listing-A =
     bytes "walk\tsep\tsep\told\tsafe\t7\t7\t0\n"
@@ -44,21 +46,27 @@ listing-A =
     ++ bytes "5\tsum\t1\t0\t1\t-\n"
     ++ bytes "6\tsum\t0\t1\t1\t-\n"
 
+-- a variable by its range and init
 abbrev var-of : ℤ → ℤ → Value → Var
 var-of lo hi init = record { lo = lo; hi = hi; init = init }
 
+-- a location by its name, and whether it is an error location
 abbrev loc-of : List ℕ → Bool → Loc
 loc-of name error = record { name = name; error = error }
 
+-- an edge by from, to and operation
 abbrev edge-of : ℕ → ℕ → Op → Edge
 edge-of f t o = record { from = f; to = t; op = o }
 
+-- the known value 0
 abbrev 0̂ : Value
 0̂ = known (pos 0)
 
+-- the known value 1
 abbrev 1̂ : Value
 1̂ = known (pos 1)
 
+-- the chart of that file, written out
 unfoldable pub chart-A : Chart
 chart-A = record {
   vars = var-of (pos 0) (pos 1) 0̂ ∷ var-of (pos 0) (pos 1) 0̂ ∷ var-of (pos 0) (pos 9) top ∷ [];
@@ -86,6 +94,7 @@ one-var lo hi = record { vars = var-of lo hi top ∷ []; locs = loc-of (bytes "a
 
 -- ---- what a case says
 
+-- one case, with the answer expected
 pub data Marked : Type 0 where
   -- the bytes are read as the chart
   reads : List ℕ → Chart → Marked
@@ -103,6 +112,7 @@ abbrev calls : List Request → List Call
 calls [] = []
 calls (k ∷ ks) = record { request = k; table = 64; waitlist = 16; space = 400 } ∷ calls ks
 
+-- the definitions give the answer expected
 abbrev pub Holds : Marked → Type 0
 Holds (reads text c) = read text ≡ accepted c
 Holds (prints input out) = output input ≡ out
@@ -111,12 +121,14 @@ Holds (moves c g e s) = post c g e ≡ s
 Holds (joins e f r) = join e f ≡ r
 Holds (lies-under e f b) = leq e f ≡ b
 
+-- "a single claim over" the list
 abbrev pub AllHold : List Marked → Type 0
 AllHold [] = Unit
 AllHold (x ∷ xs) = Holds x × AllHold xs
 
 -- ---- the list
 
+-- an abstract state by its location and values
 abbrev state : ℕ → List Value → AbstractState
 state loc vals = record { loc = loc; vals = vals }
 
@@ -124,6 +136,7 @@ state loc vals = record { loc = loc; vals = vals }
 abbrev walk-of : Mode → Mode → ℕ → List Request
 walk-of merge stop capacity = ask-start (record { merge = merge; stop = stop; order = Old }) (pos capacity) ∷ ask-run (pos 100) ∷ []
 
+-- the exploration at the end of such a walk, field by field
 abbrev comes-to : Mode → Mode → ℕ → ℕ → List AbstractState → List ℕ → Verdict → ℕ → Exploration AbstractState
 comes-to merge stop capacity iterations reached waitlist verdict edge = record {
   settings = record { merge = merge; stop = stop; order = Old };
@@ -135,6 +148,7 @@ comes-to merge stop capacity iterations reached waitlist verdict edge = record {
   edge = edge;
 }
 
+-- the slots of A by sep with room 6
 abbrev first-six : List AbstractState
 first-six =
     state 0 (0̂ ∷ 0̂ ∷ top ∷ [])
@@ -145,9 +159,11 @@ first-six =
     ∷ state 4 (1̂ ∷ 0̂ ∷ 1̂ ∷ [])
     ∷ []
 
+-- the slots of A by sep
 abbrev all-seven : List AbstractState
 all-seven = first-six ++ (state 4 (0̂ ∷ 1̂ ∷ 1̂ ∷ []) ∷ [])
 
+-- the slots of A by join
 abbrev joined-five : List AbstractState
 joined-five =
     state 0 (0̂ ∷ 0̂ ∷ top ∷ [])
@@ -157,6 +173,7 @@ joined-five =
     ∷ state 4 (top ∷ top ∷ top ∷ [])
     ∷ []
 
+-- "those marked † form one list"
 abbrev pub marked-cases : List Marked
 marked-cases =
     reads text-A chart-A

@@ -14,6 +14,7 @@ use Rattle.semantics.specs.Algorithm.{Verdict, Open, Safe, Alarm, Full, 
 use Rattle.semantics.specs.Encoding.{word, val, padded}
 pub use Rattle.semantics.specs.declared.Analysis.{Analysis}
 
+-- what a walk's calls are lent: the table's words, the waitlist's, "a lent buffer of its own", and the record
 pub record Memory : Type 0 where
   pub table : List ℤ
   pub waitlist : List ℤ
@@ -23,14 +24,17 @@ pub record Memory : Type 0 where
 abbrev pub width : Chart → ℕ
 width c = suc (length (c .vars))
 
+-- the words of a slot
 abbrev pub row : AbstractState → List ℤ
 row e = pos (e .loc) ∷ map word (e .vals)
 
 -- ---- an exploration in words: "room × (v + 1) table words and room list words"; "Unused words of the room hold 0"
 
+-- the table: the slots in use, and 0 up to the capacity's words
 abbrev pub table-of : Chart → Exploration AbstractState → List ℤ
 table-of c w = padded (w .capacity * width c) (each row (w .reached))
 
+-- the waitlist: "its slot numbers, longest waiting first", and 0 up to the capacity
 abbrev pub waitlist-of : Exploration AbstractState → List ℤ
 waitlist-of w = padded (w .capacity) (map pos (w .waitlist))
 
@@ -52,6 +56,7 @@ store c w = record { table = table-of c w; waitlist = waitlist-of w; analysis = 
 
 -- ---- the exploration that words and a record hold
 
+-- the abstract state in the words of a slot; no words are no case of a slot
 abbrev pub state-in : List ℤ → AbstractState
 state-in [] = record { loc = 0; vals = [] }
 state-in (x ∷ xs) = record { loc = natAbs x; vals = map val xs }
@@ -83,21 +88,26 @@ value-ok v x = eqZ x (pos 32768) || within (v .lo) (v .hi) x
 abbrev pub below : ℕ → ℤ → Bool
 below n x = nonNeg x && ltb (natAbs x) n
 
+-- the words of one slot: a location of the chart, and each value top or in its range
 abbrev pub row-ok : Chart → List ℤ → Bool
 row-ok c [] = false
 row-ok c (x ∷ xs) = below (length (c .locs)) x && all-pairs value-ok (c .vars) xs
 
+-- the words of the first n slots
 abbrev pub rows-ok : Chart → ℕ → List ℤ → Bool
 rows-ok c zero t = true
 rows-ok c (suc n) t = row-ok c (take (width c) t) && rows-ok c n (drop (width c) t)
 
+-- no slot is "named twice"
 abbrev pub each-once : List ℤ → Bool
 each-once [] = true
 each-once (x ∷ xs) = not (some-of (eqZ x) xs) && each-once xs
 
+-- all of the words are 0
 abbrev pub zeros : List ℤ → Bool
 zeros ws = all (eqZ (pos 0)) ws
 
+-- the verdict is alarm; with any other the edge is 0
 abbrev pub is-alarm : Verdict → Bool
 is-alarm Open = false
 is-alarm Safe = false
@@ -142,5 +152,6 @@ form-tests c m =
     ∷ empty-if-safe (r .verdict) (r .waiting)
     ∷ []
 
+-- the analysis is in form: no case of 21 holds
 unfoldable pub analysis-ok : Chart → Memory → Bool
 analysis-ok c m = all-of (form-tests c m)

@@ -23,17 +23,21 @@ pub record Outcome : Type 0 where
 
 -- ---- refusals: the first case that holds, in the order given; 0 where none does
 
+-- a row of the tables in document 01, "When a call says no": whether its case holds, and its number
 pub record Case : Type 0 where
   pub holds : Bool
   pub number : ℕ
 
+-- case n, which holds where b is true
 abbrev pub case : ℕ → Bool → Case
 case n b = record { holds = b; number = n }
 
+-- n if the test passes, else the refusal r by the later cases
 abbrev pub number-if : Bool → ℕ → ℕ → ℕ
 number-if true n r = n
 number-if false n r = r
 
+-- the number by which a call is refused; 0 where it goes through
 abbrev pub refusal : List Case → ℕ
 refusal [] = 0
 refusal (k ∷ ks) = number-if (k .holds) (k .number) (refusal ks)
@@ -42,6 +46,7 @@ refusal (k ∷ ks) = number-if (k .holds) (k .number) (refusal ks)
 abbrev pub fine : ℕ → Answer
 fine n = record { number = 0; line = 0; length = n }
 
+-- "the answer is the number and a line"
 abbrev pub refused-by : ℕ → ℕ → Answer
 refused-by n l = record { number = n; line = l; length = 0 }
 
@@ -52,6 +57,7 @@ settled (suc n) m sp o = record { answer = refused-by (suc n) 0; memory = m; spa
 
 -- ---- the tests of 13, 14 and 22
 
+-- "0..60,000", what 13 asks of a budget
 abbrev pub budget-ok : ℤ → Bool
 budget-ok a = within (pos 0) (pos 60000) a
 
@@ -59,6 +65,7 @@ budget-ok a = within (pos 0) (pos 60000) a
 abbrev pub short : Chart → ℕ → ℕ → ℕ → Bool
 short c r table list = ltb table (r * width c) || ltb list r
 
+-- 22: "the walk already stands at safe, alarm or out of room"
 abbrev pub has-verdict : Verdict → Bool
 has-verdict Open = false
 has-verdict Safe = true
@@ -67,6 +74,7 @@ has-verdict Full = true
 
 -- ---- what the rules make of a call that goes through
 
+-- what a start begins; r has passed 11, so its magnitude is the capacity
 abbrev pub started : Chart → Settings → ℤ → Exploration AbstractState
 started c z r = start (constants c) z (natAbs r) (initial c)
 
@@ -84,14 +92,17 @@ put-in c w m = record {
 
 -- ---- read: from the file's bytes and the words lent to hold the chart
 
+-- at exit of a read: the answer, and the words lent to hold the chart
 pub record ReadOutcome : Type 0 where
   pub answer : Answer
   pub words : List ℤ
 
+-- the Bool says whether the words are too few, which is 14; if not, the chart stands at their front
 abbrev pub held-unless : Bool → Chart → List ℤ → ReadOutcome
 held-unless true c ws = record { answer = refused-by 14 0; words = ws }
 held-unless false c ws = record { answer = fine 0; words = encode c ++ drop (length (encode c)) ws }
 
+-- a file that is refused leaves the words as they were
 abbrev pub held-by : Reading → List ℤ → ReadOutcome
 held-by (refused n l) ws = record { answer = refused-by n l; words = ws }
 held-by (accepted c) ws = held-unless (ltb (length ws) (length (encode c))) c ws
@@ -111,6 +122,7 @@ start-cases words z r table list =
     ∷ case 14 (short (decode words) (natAbs r) table list)
     ∷ []
 
+-- a start: refused, or the new exploration in the capacity's words
 unfoldable pub start-outcome : List ℤ → Settings → ℤ → Memory → Outcome
 start-outcome words z r m =
     let c = decode words in
@@ -123,6 +135,7 @@ start-outcome words z r m =
 abbrev pub short-of : Chart → Memory → Bool
 short-of c m = short c (m .analysis .capacity) (length (m .table)) (length (m .waitlist))
 
+-- the cases of a run with budget a
 abbrev pub run-cases : List ℤ → ℤ → Memory → List Case
 run-cases words a m =
     let c = decode words in
@@ -134,6 +147,7 @@ run-cases words a m =
     ∷ case 23 (eqb (m .analysis .iterations) 60000)
     ∷ []
 
+-- a run: refused, or the exploration taken from the memory, carried on, and put back
 unfoldable pub run-outcome : List ℤ → ℤ → Memory → Outcome
 run-outcome words a m =
     let c = decode words in
@@ -156,6 +170,7 @@ listing-cases words m space =
     ∷ case 15 (ltb space (length (text-of c m)))
     ∷ []
 
+-- a listing: refused, or its text at the front of the bytes lent; the memory is only read
 unfoldable pub listing-outcome : List ℤ → Memory → List ℕ → Outcome
 listing-outcome words m space =
     let text = text-of (decode words) m in

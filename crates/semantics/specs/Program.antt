@@ -18,15 +18,17 @@ use Rattle.semantics.specs.Outcomes.{budget-ok, has-verdict, started, re
 
 -- ---- the go line and the chart after it
 
+-- one of the bytes is LF
 abbrev pub has-lf : List ℕ → Bool
 has-lf [] = false
 has-lf (b ∷ bs) = eqb b 10 || has-lf bs
 
--- the bytes before the first LF, and those after it
+-- the bytes before the first LF; all where there is none
 abbrev pub first-line : List ℕ → List ℕ
 first-line [] = []
 first-line (b ∷ bs) = pick (eqb b 10) [] (b ∷ first-line bs)
 
+-- the bytes after the first LF: "then a chart"
 abbrev pub past-line : List ℕ → List ℕ
 past-line [] = []
 past-line (b ∷ bs) = pick (eqb b 10) bs (past-line bs)
@@ -37,9 +39,11 @@ pub record Go : Type 0 where
   pub capacity : ℤ
   pub budget : ℤ
 
+-- merge or stop: `sep` or `join`
 abbrev pub mode-field : List ℕ → Res Mode
 mode-field f = word-field mode-text (Sep ∷ Join ∷ []) f
 
+-- order: `old` or `new`
 abbrev pub order-field : List ℕ → Res Order
 order-field f = word-field order-text (Old ∷ New ∷ []) f
 
@@ -78,13 +82,16 @@ go-line input =
 abbrev pub explored : Chart → Go → Exploration AbstractState
 explored c g = let w = started c (g .settings) (g .capacity) in pick (has-verdict (w .verdict)) w (resumed c (g .budget) w)
 
+-- the chart's refusal, or the listing
 abbrev pub print-read : Go → Reading → List ℕ
 print-read g (refused n l) = refused-text n l
 print-read g (accepted c) = listing-text c (explored c g)
 
+-- the go line's refusal, "as line 0", or what comes of the chart
 abbrev pub print-go : Res Go → List ℕ → List ℕ
 print-go (fail n) chart = refused-text n 0
 print-go (ok g) chart = print-read g (read chart)
 
+-- what the program prints on this input
 unfoldable pub output : List ℕ → List ℕ
 output input = print-go (go-line input) (past-line input)

@@ -14,6 +14,7 @@ use Rattle.semantics.specs.Chart.{Value, known, top, Var, Loc, Operand, 
 
 -- ---- a refusal's number, or a value
 
+-- a line or a field that is refused by a number, or read
 pub data Res (A : Type 0) : Type 0 where
   fail : ℕ → Res A
   ok : A → Res A
@@ -23,6 +24,7 @@ unfoldable pub check : {A : Type 0} → Bool → ℕ → Res A → Res A
 check true n r = r
 check false n r = fail n
 
+-- the refusal, or on with what was read
 unfoldable pub if-ok : {A B : Type 0} → Res A → (A → Res B) → Res B
 if-ok (fail n) f = fail n
 if-ok (ok a) f = f a
@@ -34,6 +36,7 @@ abbrev pub small-or : Option ℤ → Res ℤ
 small-or none = fail 6
 small-or (some z) = check (small z) 7 (ok z)
 
+-- a number: malformed is 6, outside −32,768..32,767 is 7
 unfoldable pub number-field : List ℕ → Res ℤ
 number-field f = small-or (number-of f)
 
@@ -70,9 +73,11 @@ abbrev pub kind-text : Bool → List ℕ
 kind-text true = bytes "e"
 kind-text false = bytes "o"
 
+-- whether the kind is `e`
 unfoldable pub kind-field : List ℕ → Res Bool
 kind-field f = word-field kind-text (false ∷ true ∷ []) f
 
+-- the word of a relation
 abbrev pub rel-text : Rel → List ℕ
 rel-text eq = bytes "eq"
 rel-text ne = bytes "ne"
@@ -85,9 +90,11 @@ rel-text ge = bytes "ge"
 unfoldable pub rel-field : List ℕ → Res Rel
 rel-field f = word-field rel-text (eq ∷ ne ∷ lt ∷ le ∷ gt ∷ ge ∷ []) f
 
+-- the six operations by their words, before their fields are read
 pub data OpWord : Type 0 where
   do-set do-add do-sub do-in do-if do-skip : OpWord
 
+-- the word of an operation
 abbrev pub word-text : OpWord → List ℕ
 word-text do-set = bytes "set"
 word-text do-add = bytes "add"
@@ -116,9 +123,11 @@ pub record So-far : Type 0 where
   pub names : List (List ℕ)
   pub chart : Chart
 
+-- field k, counted from 0; empty past the last
 abbrev pub nth : List (List ℕ) → ℕ → List ℕ
 nth fs k = getD fs k []
 
+-- no field is empty
 abbrev pub none-empty : List (List ℕ) → Bool
 none-empty fs = all (λ f. not (is-empty f)) fs
 
@@ -126,12 +135,15 @@ none-empty fs = all (λ f. not (is-empty f)) fs
 abbrev pub filled : ℕ → List (List ℕ) → Bool
 filled n fs = eqb (length fs) n && none-empty fs
 
+-- one more variable, of name n
 abbrev pub with-var : So-far → List ℕ → Var → So-far
 with-var s n v = record { names = n ∷ s .names; chart = record { vars = s .chart .vars ++ (v ∷ []); locs = s .chart .locs; edges = s .chart .edges } }
 
+-- one more location
 abbrev pub with-loc : So-far → Loc → So-far
 with-loc s l = record { names = s .names; chart = record { vars = s .chart .vars; locs = s .chart .locs ++ (l ∷ []); edges = s .chart .edges } }
 
+-- one more edge
 abbrev pub with-edge : So-far → Edge → So-far
 with-edge s g = record { names = s .names; chart = record { vars = s .chart .vars; locs = s .chart .locs; edges = s .chart .edges ++ (g ∷ []) } }
 
@@ -210,6 +222,7 @@ pub data Reading : Type 0 where
   refused : ℕ → ℕ → Reading
   accepted : Chart → Reading
 
+-- line n is refused, or reading goes on by f
 abbrev pub onward : ℕ → Res So-far → (So-far → Reading) → Reading
 onward n (fail k) f = refused k n
 onward n (ok s) f = f s
@@ -224,6 +237,7 @@ unfoldable pub judged : ℕ → So-far → List (List (List ℕ)) → Reading
 judged n s [] = ended (is-empty (s .chart .locs)) (s .chart)
 judged n s (l ∷ ls) = onward n (judge s l) (λ t. judged (suc n) t ls)
 
+-- before the first line
 abbrev pub nothing-read : So-far
 nothing-read = record { names = []; chart = record { vars = []; locs = []; edges = [] } }
 
@@ -241,10 +255,12 @@ unfoldable pub open-line : ℕ → ℕ → List ℕ → Option ℕ
 open-line n last [] = pick (eqb last 10) none (some n)
 open-line n last (b ∷ bs) = open-line (pick (eqb last 10) (suc n) n) b bs
 
+-- refused by k, at the line given if there is one
 abbrev pub refused-at : Option ℕ → ℕ → Reading → Reading
 refused-at none k r = r
 refused-at (some n) k r = refused k n
 
+-- refused by k, with line 0, if the test passes
 abbrev pub refused-if : Bool → ℕ → Reading → Reading
 refused-if true k r = refused k 0
 refused-if false k r = r

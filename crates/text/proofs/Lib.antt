@@ -1,3 +1,4 @@
+-- Laws of texts, from the whole to the part: lines, the fields of a line, bytes and names, numbers, one field judged.
 pub mod Lines
 pub mod Parts
 pub mod Bytes

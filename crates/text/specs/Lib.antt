@@ -1,1 +1,2 @@
+-- What the functions over lines and fields answer.
 pub mod Fields

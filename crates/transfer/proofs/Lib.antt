@@ -1,3 +1,4 @@
+-- The code's turns; then where words stand, an operation's effect, the agreement with the rules, and rows in form.
 pub mod Turns
 pub mod Places
 pub mod Effects

@@ -1,1 +1,2 @@
+-- The transfer on words.
 pub mod Transfer

@@ -49,24 +49,29 @@ set-value c k top z e = pick top (to (set e (k + 1) (pos 32768))) (set-ranged c 
 
 -- ---- the operations of the edge at i: its target, and its operands
 
+-- v, the variable that the edge sets or tests
 abbrev pub target-at : List ℤ → ℕ → ℕ
 target-at c i = count c (i + 3)
 
+-- "`set v a`: v becomes a"
 unfoldable pub assign-at : List ℤ → ℕ → List ℤ → Step (List ℤ)
 assign-at c i e = let a = operand-at c (i + 4) e in set-value c (target-at c i) (eqZ a (pos 32768)) a e
 
+-- "`add v a b`: a + b"; "any unknown operand makes v unspecific"
 unfoldable pub add-at : List ℤ → ℕ → List ℤ → Step (List ℤ)
 add-at c i e =
     let a = operand-at c (i + 4) e in
     let b = operand-at c (i + 6) e in
     set-value c (target-at c i) (eqZ a (pos 32768) || eqZ b (pos 32768)) (a +ℤ b) e
 
+-- "`sub v a b`: a − b"; the same of an unknown operand
 unfoldable pub sub-at : List ℤ → ℕ → List ℤ → Step (List ℤ)
 sub-at c i e =
     let a = operand-at c (i + 4) e in
     let b = operand-at c (i + 6) e in
     set-value c (target-at c i) (eqZ a (pos 32768) || eqZ b (pos 32768)) (a -ℤ b) e
 
+-- `in v p q`: "known if p = q, else unspecific"
 unfoldable pub input-at : List ℤ → ℕ → List ℤ → Step (List ℤ)
 input-at c i e = to (set e (target-at c i + 1) (word-join (getD c (i + 5) (pos 0)) (getD c (i + 7) (pos 0))))
 
@@ -84,6 +89,7 @@ unfoldable pub tested-by : List ℤ → ℕ → ℕ → ℕ → ℤ → ℤ → 
 tested-by c n k j x y e =
     pick (eqZ x (pos 32768)) (refine-by c n k y e) (pick (eqZ y (pos 32768)) (refine-by c n j x e) (step-of (holds-by n x y) e))
 
+-- `if v rel a`, the relation of code n
 unfoldable pub assume-at : List ℤ → ℕ → ℕ → List ℤ → Step (List ℤ)
 assume-at c n i e = tested-by c n (target-at c i) (count c (i + 5)) (getD e (target-at c i + 1) (pos 0)) (operand-at c (i + 4) e) e
 
@@ -102,6 +108,7 @@ location-word n = pick (ltb n 2147483648) (pos n) (pos 0)
 unfoldable pub post-at : List ℤ → ℕ → List ℤ → Step (List ℤ)
 post-at c i e = pick (eqb (count c i) (count e 0)) (op-by (count c (i + 2)) c i (set e 0 (location-word (count c (i + 1))))) halt
 
+-- by edge g, edges from 0
 unfoldable pub post-words : List ℤ → ℕ → List ℤ → Step (List ℤ)
 post-words c g e = post-at c (edge-at c g) e
 
@@ -116,5 +123,6 @@ abbrev pub initial-words : List ℤ → ℕ → ℕ → List ℤ
 initial-words c i zero = []
 initial-words c i (suc n) = getD c i (pos 0) ∷ initial-words c (i + 3) n
 
+-- "start location, each init"; the first init stands at word 5
 unfoldable pub initial-row : List ℤ → List ℤ
 initial-row c = pos 0 ∷ initial-words c 5 (count c 0)

@@ -1,2 +1,3 @@
+-- Writing, then decimals.
 pub mod Written
 pub mod Decimals

@@ -1,1 +1,2 @@
+-- Bytes written over others.
 pub mod Writing
