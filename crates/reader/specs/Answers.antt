@@ -61,7 +61,7 @@ unfoldable pub edge-res : EdgeLine → Res (List ℤ)
 edge-res (edge-line.Refused k) = fail k
 edge-res (edge-line.Is g) = ok (edge-row g)
 
--- the word that an answer names; a refused one stands for none
+-- the word that an answer names; a refused one is not looked at
 unfoldable pub the-word : Said → OpWord
 the-word (said.Refused k) = do-skip
 the-word said.Set = do-set

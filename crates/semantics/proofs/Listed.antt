@@ -85,22 +85,22 @@ few-used c m t =
     omega (arith, leb→le (m .analysis .used) (m .analysis .capacity) (h .0), few-slots (m .analysis .capacity) (h .1 .1 .1 .1 .1 .1 .1 .1 .1 .1 .0))
 
 module _ (c : Chart) (b : Bounds c) where
-  slot-short : (wa : List ℕ) (s : ℕ) (e : AbstractState) → s ≤ 256 → StateOk c e → length (slot-text c wa s e) ≤ 82
-  slot-short wa s e l h =
-      let m = mark (some-of (eqb s) wa) in
+  slot-short : (s : ℕ) (e : AbstractState) (waits : Bool) → s ≤ 256 → StateOk c e → length (slot-text c s e waits) ≤ 82
+  slot-short s e waits l h =
+      let m = mark waits in
       omega (
         arith,
         line-size (decimal s) (loc-text (c .locs) (e .loc) ∷ (map val-text (e .vals) ++ (m ∷ []))),
         dec-short s (omega arith),
         name-short (c .locs) (e .loc) (b .names),
         vals-short (c .vars) (e .vals) m (b .vars) (h .vals),
-        mark-short (some-of (eqb s) wa),
+        mark-short waits,
         b .few-vars,
       )
 
   slots-short : (wa : List ℕ) (s : ℕ) (es : List AbstractState) → s + length es ≤ 256 → Every (StateOk c) es → length (slots-text c wa s es) ≤ length es * 82
   slots-short wa s [] l h = omega arith
-  slots-short wa s (e ∷ es) l h = omega (arith, length-append (slot-text c wa s e) (slots-text c wa (suc s) es), slot-short wa s e (omega arith) (h .0), slots-short wa (suc s) es (omega arith) (h .1))
+  slots-short wa s (e ∷ es) l h = omega (arith, length-append (slot-text c s e (some-of (eqb s) wa)) (slots-text c wa (suc s) es), slot-short s e (some-of (eqb s) wa) (omega arith) (h .0), slots-short wa (suc s) es (omega arith) (h .1))
 
   listing-fits : (w : Exploration AbstractState) → length (w .reached) ≤ 256 → w .iterations ≤ 60000 → w .edge ≤ length (c .edges) → Every (StateOk c) (w .reached)
       → length (listing-text c w) ≤ 24576

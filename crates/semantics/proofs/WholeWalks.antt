@@ -16,7 +16,8 @@ use Rattle.semantics.specs.Coverage.{Allowed, Covering, system, Fit}
 use Rattle.semantics.specs.Encoding.{encode, well-formed, chart-ok}
 use Rattle.semantics.specs.Memory.{Memory, width, table-of, waitlist-of, analysis-of, store, load, capacity-ok, analysis-ok}
 use Rattle.semantics.specs.Listing.{listing-text}
-use Rattle.semantics.specs.Outcomes.{Outcome, case, number-if, refusal, settled, budget-ok, short, has-verdict, started, resumed, fine, put-in, start-outcome, run-outcome, listing-outcome}
+use Rattle.semantics.specs.Outcomes.{Outcome, case, refusal, settled, budget-ok, short, has-verdict, started, resumed, fine, put-in, start-outcome, run-outcome, listing-outcome}
+use Rattle.semantics.specs.Lists.{pick}
 use Rattle.semantics.specs.WholeWalks.{Request, ask-start, ask-run, ask-listing, Call, Ruling, ruling-or, no-text, start-refusal, run-refusal, request-ruling, ruling, rulings, no-exploration, LentCall, call-of, request-outcome, outcome, reply-of, over, left, played, Agrees, Handed, HandedOn, goes-through, started-first, WholeWalks}
 use Rattle.semantics.proofs.FirstCase.{passed}
 use Rattle.semantics.proofs.ListFacts.{from-false}
@@ -32,13 +33,13 @@ use Rattle.semantics.proofs.Encoded.{decode-back, well-formed-back}
 
 -- ---- tests
 
-passes : (x y : Bool) (a b r : ℕ) → number-if x (suc a) (number-if y (suc b) r) ≡ 0 → (x ≡ false) × (y ≡ false) × (r ≡ 0)
+passes : (x y : Bool) (a b r : ℕ) → pick x (suc a) (pick y (suc b) r) ≡ 0 → (x ≡ false) × (y ≡ false) × (r ≡ 0)
 passes true y a b r e = absurd (omega arith)
 passes false true a b r e = absurd (omega arith)
 passes false false a b r e = (refl, refl, e)
 
 -- a test that fails where the one before it does
-skips : (x s f : Bool) (a b d r : ℕ) → (s ≡ false → f ≡ false) → number-if x a (number-if s b (number-if f d r)) ≡ number-if x a (number-if s b r)
+skips : (x s f : Bool) (a b d r : ℕ) → (s ≡ false → f ≡ false) → pick x a (pick s b (pick f d r)) ≡ pick x a (pick s b r)
 skips true s f a b d r h = refl
 skips false true f a b d r h = refl
 skips false false f a b d r h = rw (h refl)
@@ -142,7 +143,7 @@ module _ (c : Chart) (ok : T (chart-ok c)) where
     where
       good : Good c (started c z r)
       good =
-          let p = passes (not (capacity-ok r)) (not (allowed (z .merge) (z .stop))) 10 11 (number-if (short c (natAbs r) (k .table) (k .waitlist)) 14 0) e in
+          let p = passes (not (capacity-ok r)) (not (allowed (z .merge) (z .stop))) 10 11 (pick (short c (natAbs r) (k .table) (k .waitlist)) 14 0) e in
           started-good z r (passed (capacity-ok r) (p .0)) (passed (allowed (z .merge) (z .stop)) (p .1))
 
   -- the chart as read, with words after it
@@ -202,12 +203,12 @@ module _ (c : Chart) (ok : T (chart-ok c)) where
       play-same : (a : ℤ) → Same (store c w) (run-outcome (encode c ++ after) a lend) (request-ruling c (ask-run a) (told-of (ask-run a)) w)
       unfolding lend told-of run-outcome is-short
       play-same a =
-          rw (decode-back c ok after, formed after, skips (not (budget-ok a)) is-short (not (analysis-ok c lend)) 13 14 21 (number-if (has-verdict (w .verdict)) 22 (number-if (eqb (w .iterations) 60000) 23 0)) lend-formed)
+          rw (decode-back c ok after, formed after, skips (not (budget-ok a)) is-short (not (analysis-ok c lend)) 13 14 21 (pick (has-verdict (w .verdict)) 22 (pick (eqb (w .iterations) 60000) 23 0)) lend-formed)
           (settle (run-refusal c a (told-of (ask-run a)) w) (store c w) lend [] w _ (no-text (resumed c a w)) untouched g went)
         where
           went : run-refusal c a (told-of (ask-run a)) w ≡ 0 → Same (store c w) (record { answer = fine 0; memory = put-in c (resumed c a (load c lend)) lend; space = [] }) (no-text (resumed c a w))
           went e =
-              let p = passes (not (budget-ok a)) is-short 12 13 (number-if (has-verdict (w .verdict)) 22 (number-if (eqb (w .iterations) 60000) 23 0)) e in
+              let p = passes (not (budget-ok a)) is-short 12 13 (pick (has-verdict (w .verdict)) 22 (pick (eqb (w .iterations) 60000) 23 0)) e in
               rw (loaded (p .1)) (record { reply = refl; memory = put-leaves (resumed c a w) (store c w) lend (resumed-good a w g); good = resumed-good a w g })
 
       show-same : Same (store c w) (listing-outcome (encode c ++ after) lend sp) (request-ruling c ask-listing (told-of ask-listing) w)
@@ -222,10 +223,10 @@ module _ (c : Chart) (ok : T (chart-ok c)) where
 
           by-short : (s : Bool) → is-short ≡ s
               → Same (store c w)
-              (settled (number-if s 14 (number-if (not (analysis-ok c lend)) 21 (number-if (ltb (length sp) (length (listing-text c (load c lend)))) 15 0))) lend sp (record { answer = fine (length (listing-text c (load c lend))); memory = lend; space = listing-text c (load c lend) ++ drop (length (listing-text c (load c lend))) sp }))
-              (ruling-or (number-if s 14 (number-if (ltb (length sp) (length text)) 15 0)) w (record { reply = record { answer = fine (length text); text = text }; exploration = w }))
+              (settled (pick s 14 (pick (not (analysis-ok c lend)) 21 (pick (ltb (length sp) (length (listing-text c (load c lend)))) 15 0))) lend sp (record { answer = fine (length (listing-text c (load c lend))); memory = lend; space = listing-text c (load c lend) ++ drop (length (listing-text c (load c lend))) sp }))
+              (ruling-or (pick s 14 (pick (ltb (length sp) (length text)) 15 0)) w (record { reply = record { answer = fine (length text); text = text }; exploration = w }))
           by-short true e = record { reply = refl; memory = untouched; good = g }
-          by-short false e = rw (lend-formed e, loaded e) (settle (number-if (ltb (length sp) (length text)) 15 0) (store c w) lend sp w _ _ untouched g (λ q. went))
+          by-short false e = rw (lend-formed e, loaded e) (settle (pick (ltb (length sp) (length text)) 15 0) (store c w) lend sp w _ _ untouched g (λ q. went))
 
       act-same : (x : Request) → Same (store c w) (request-outcome x (encode c ++ after) lend sp) (request-ruling c x (told-of x) w)
       act-same (ask-start z r) = begin-same z r

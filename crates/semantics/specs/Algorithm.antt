@@ -64,12 +64,12 @@ pub record Exploration (E : Type 0) : Type 0 where
 
 -- ---- the waitlist
 
--- "a changed slot waits again, at the last-joined end, or keeps its place if already waiting"
+-- slot k joins the list w at its end, unless the test passes
 abbrev pub join-unless : Bool → ℕ → List ℕ → List ℕ
 join-unless true k w = w
 join-unless false k w = w ++ (k ∷ [])
 
--- slot k waits, if it does not yet
+-- "a changed slot waits again, at the last-joined end, or keeps its place if already waiting"
 abbrev pub wait : ℕ → List ℕ → List ℕ
 wait k w = join-unless (some-of (eqb k) w) k w
 

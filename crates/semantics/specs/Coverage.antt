@@ -33,7 +33,7 @@ module _ {G S : Type 0} (M : System G S) where
   Leads s [] = Unit
   Leads s (t ∷ ts) = (g : G) × In g (M .edges) × M .Moves g s t × Leads t ts
 
-  -- document 01's run: "a finite list of states: the first is initial"; "an initial state alone is a run"
+  -- document 01's run: "a finite list of states: the first is initial"; "An initial state alone is a run"
   abbrev pub Execution : List S → Type 0
   Execution [] = ⊥
   Execution (s ∷ ss) = M .Initial s × Leads s ss

@@ -80,7 +80,7 @@ load c m = record {
 
 -- ---- form rule 21
 
--- "a location or value not of the chart"
+-- a value of the chart: top, or in its variable's range
 abbrev pub value-ok : Var → ℤ → Bool
 value-ok v x = eqZ x (pos 32768) || within (v .lo) (v .hi) x
 

@@ -6,6 +6,7 @@ use Prim.Native.Nat.{ℕ, zero, suc, _-_, _*_, min}
 use lib.Dec.{ltb, eqb}
 use lib.ListN.{length, drop}
 use lib.IntN.{ℤ, pos, natAbs}
+use Rattle.semantics.specs.Lists.{pick}
 use Rattle.semantics.specs.Chart.{Chart, numbered, within}
 use Rattle.semantics.specs.Reading.{Reading, refused, accepted, read}
 use Rattle.semantics.specs.Constants.{AbstractState, constants, initial}
@@ -32,15 +33,10 @@ pub record Case : Type 0 where
 abbrev pub case : ℕ → Bool → Case
 case n b = record { holds = b; number = n }
 
--- n if the test passes, else the refusal r by the later cases
-abbrev pub number-if : Bool → ℕ → ℕ → ℕ
-number-if true n r = n
-number-if false n r = r
-
 -- the number by which a call is refused; 0 where it goes through
 abbrev pub refusal : List Case → ℕ
 refusal [] = 0
-refusal (k ∷ ks) = number-if (k .holds) (k .number) (refusal ks)
+refusal (k ∷ ks) = pick (k .holds) (k .number) (refusal ks)
 
 -- "A call that goes through answers 0 and line 0, a listing call also its length in bytes"
 abbrev pub fine : ℕ → Answer
