@@ -34,6 +34,7 @@ pub record Is-edge (c : List ℤ) (g : ℕ) (e : Edge) : Type 0 where
   pub id : e .id .0 ≡ g + 1
   pub at : e .at ≡ edge-at c g
 
+-- the outcome of the edges that ended so: n is the alarm's edge
 abbrev pub out-by : Exit → ℕ → List (List ℤ) → List ℕ → Out (List ℤ)
 out-by On n en wa = on en wa
 out-by Alarm n en wa = alarmed n en wa
@@ -43,6 +44,11 @@ out-by Full n en wa = full en wa
 abbrev pub out-of : ℕ → List ℤ → List ℤ → Progress → Out (List ℤ)
 out-of w t l p = out-by (p .exit) (p .edge .0) (rows-of w (p .used) t) (waits (p .waiting) l)
 
+-- no edge has ended the iteration so far
+abbrev pub went-on : ℕ → ℕ → Progress
+went-on used waiting = record { exit = On; edge = record { 0 = 0 }; used = used; waiting = waiting }
+
+-- whether an edge has ended the iteration
 abbrev pub has-ended : Exit → Bool
 has-ended On = false
 has-ended Alarm = true

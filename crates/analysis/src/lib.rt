@@ -18,10 +18,7 @@ ghost use Rattle.waitlist.specs.Waits.{waits, Stored};
 ghost use Rattle.reached.specs.Reached.{Kept};
 ghost use Rattle.transfer.specs.Transfer.{edge-at, edges-from, post-at};
 ghost use Rattle.leaving.specs.Chains.{Chained};
-ghost use Rattle.analysis.specs.Loaded.{Is-edge, rows-only, domain-of, has-ended, Progressed, load-of, Held, Loaded, Ended, Finished};
-
-// The most iterations that an analysis plays.
-pub const MOST_ITERATIONS: u32 = 60000;
+ghost use Rattle.analysis.specs.Loaded.{Is-edge, rows-only, domain-of, has-ended, went-on, Progressed, load-of, Held, Loaded, Ended, Finished};
 
 // How the edges of an iteration, or some of them, end.
 pub enum Exit {
@@ -36,6 +33,18 @@ pub struct Progress {
     pub edge: EdgeId,
     pub used: usize,
     pub waiting: usize,
+}
+
+// No edge so far has met an error or a full table.
+fn went_on(used: usize, waiting: usize) -> Progress
+    ensures { λ p. ⌜ p ≡ went-on used waiting ⌝ }
+{
+    Progress {
+        exit: Exit::On,
+        edge: EdgeId(0),
+        used,
+        waiting,
+    }
 }
 
 // The merge of a successor with each slot, by the setting. How many slots are waiting then.
@@ -76,22 +85,12 @@ fn arrive(
     let merge = settings.merge;
     let count = merge_by(merge, capacity, table, used, e, list, waiting);
     if reached::covered(table, used, e) {
-        return Progress {
-            exit: Exit::On,
-            edge: EdgeId(0),
-            used,
-            waiting: count,
-        };
+        return went_on(used, count);
     }
     if used < capacity {
         reached::put_row(table, SlotId(used), e);
         let more = waitlist::append(list, count, SlotId(used));
-        return Progress {
-            exit: Exit::On,
-            edge: EdgeId(0),
-            used: used + 1,
-            waiting: more,
-        };
+        return went_on(used + 1, more);
     }
     Progress {
         exit: Exit::Full,
@@ -119,12 +118,7 @@ fn visit(
 {
     let moved = transfer::successor(chart, edge, copy, next);
     if !moved {
-        return Progress {
-            exit: Exit::On,
-            edge: EdgeId(0),
-            used,
-            waiting,
-        };
+        return went_on(used, waiting);
     }
     if transfer::is_error(chart, next) {
         let id = edge.id;
@@ -171,7 +165,7 @@ fn leave(
     let mut count = waiting;
     let location = rows::location_of(copy);
     let mut id = leaving::first_leaving(heads, location);
-    while id.0 <= edges {
+    while semantics::is_edge_of(edges, id) {
         let edge = encoded::edge_of(first, id);
         let p = visit(
             chart,
@@ -193,12 +187,7 @@ fn leave(
         count = p.waiting;
         id = leaving::next_leaving(chart, edge, nexts, location);
     }
-    Progress {
-        exit: Exit::On,
-        edge: EdgeId(0),
-        used: slots,
-        waiting: count,
-    }
+    went_on(slots, count)
 }
 
 // The verdict after an iteration that met no error and no full table.
@@ -351,7 +340,7 @@ fn iterations_left(budget: u32, iterations: u32) -> u32
     requires { ⌜ iterations ≤ 60000 ⌝ }
     ensures { λ r. ⌜ r ≡ min budget (60000 - iterations) ⌝ }
 {
-    let left = MOST_ITERATIONS - iterations;
+    let left = semantics::MOST_ITERATIONS - iterations;
     if budget < left {
         return budget;
     }
