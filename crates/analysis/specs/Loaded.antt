@@ -3,7 +3,7 @@
 use mathlib.Core.Path.{_≡_}
 use mathlib.Core.Bool.{Bool, true, false}
 use mathlib.Core.List.{List}
-use Prim.Native.Nat.{ℕ, _+_}
+use Prim.Native.Nat.{ℕ, _+_, _<_}
 use lib.IntN.{ℤ}
 use lib.ListN.{length}
 use Rattle.semantics.specs.declared.Verdict.{Verdict}
@@ -15,6 +15,7 @@ use Rattle.waitlist.specs.Waits.{waits, Stored}
 use Rattle.reached.specs.Reached.{Kept}
 use Rattle.encoded.specs.declared.Edge.{Edge}
 use Rattle.transfer.specs.Transfer.{edge-at, post-words, error-row}
+use Rattle.leaving.specs.Chains.{Chained}
 use Rattle.analysis.specs.declared.Exit.{Exit}
 use Rattle.analysis.specs.declared.Exit.the-variants.{On, Alarm, Full}
 use Rattle.analysis.specs.declared.Progress.{Progress}
@@ -33,6 +34,12 @@ rows-only = row-domain (λ g e. halt) (λ e. false)
 pub record Is-edge (c : List ℤ) (g : ℕ) (e : Edge) : Type 0 where
   pub id : e .id .0 ≡ g + 1
   pub at : e .at ≡ edge-at c g
+
+-- what it takes to follow the n edges of a chart: the first of them, places that do not wrap, and chains of those that leave a location
+pub record Edges-held (c : List ℤ) (g : Edge) (n : ℕ) (heads nexts : List ℕ) : Type 0 where
+  pub first : Is-edge c 0 g
+  pub small : edge-at c n < 4294967296
+  pub chained : Chained c 0 heads nexts
 
 -- the outcome of the edges that ended so: n is the alarm's edge
 abbrev pub out-by : Exit → ℕ → List (List ℤ) → List ℕ → Out (List ℤ)

@@ -17,8 +17,7 @@ ghost use Rattle.rows.specs.Rows.{rows-of};
 ghost use Rattle.waitlist.specs.Waits.{waits, Stored};
 ghost use Rattle.reached.specs.Reached.{Kept};
 ghost use Rattle.transfer.specs.Transfer.{edge-at, edges-from, post-at};
-ghost use Rattle.leaving.specs.Chains.{Chained};
-ghost use Rattle.analysis.specs.Loaded.{Is-edge, rows-only, domain-of, has-ended, went-on, Progressed, load-of, Held, Loaded, Ended, Finished};
+ghost use Rattle.analysis.specs.Loaded.{Edges-held, rows-only, domain-of, has-ended, went-on, Progressed, load-of, Held, Loaded, Ended, Finished};
 
 // How the edges of an iteration, or some of them, end.
 pub enum Exit {
@@ -158,7 +157,7 @@ fn leave(
     list: &mut [i32],
     waiting: usize,
 ) -> Progress
-    requires { ⌜ Kept (length (now copy)) capacity (now table) (now list) used waiting × Allowed settings × (length (now next) ≡ length (now copy)) × Is-edge (now chart) 0 first × (edge-at (now chart) edges < 4294967296) × Chained (now chart) 0 (now heads) (now nexts) ⌝ }
+    requires { ⌜ Kept (length (now copy)) capacity (now table) (now list) used waiting × Allowed settings × (length (now next) ≡ length (now copy)) × Edges-held (now chart) first edges (now heads) (now nexts) ⌝ }
     ensures { λ p. ⌜ Progressed (length (now (copy .entry))) capacity (now (table .exit)) (now (list .exit)) p (leave (domain-of (now (chart .entry))) settings capacity (now (copy .entry)) (edges-from 0 edges) (rows-of (length (now (copy .entry))) used (now (table .entry))) (waits waiting (now (list .entry)))) ⌝ }
 {
     let mut slots = used;
@@ -263,7 +262,7 @@ fn iteration_with(
     copy: &mut [i32],
     next: &mut [i32],
 ) -> Analysis
-    requires { ⌜ Held (length (now copy)) edges a (now table) (now list) × (a .iterations < 60000) × (0 < a .waiting) × (length (now next) ≡ length (now copy)) × Is-edge (now chart) 0 first × (edge-at (now chart) edges < 4294967296) × Chained (now chart) 0 (now heads) (now nexts) ⌝ }
+    requires { ⌜ Held (length (now copy)) edges a (now table) (now list) × (a .iterations < 60000) × (0 < a .waiting) × (length (now next) ≡ length (now copy)) × Edges-held (now chart) first edges (now heads) (now nexts) ⌝ }
     ensures { λ r. ⌜ Loaded (length (now (copy .entry))) edges r (now (table .exit)) (now (list .exit)) (iteration (domain-of (now (chart .entry))) (edges-from 0 edges) (load-of (length (now (copy .entry))) a (now (table .entry)) (now (list .entry)))) × (r .iterations ≡ a .iterations + 1) ⌝ }
 {
     let settings = a.settings;
@@ -303,7 +302,7 @@ fn iteration(
     table: &mut [i32],
     list: &mut [i32],
 ) -> Analysis
-    requires { ⌜ Held width edges a (now table) (now list) × (a .iterations < 60000) × (0 < a .waiting) × (width ≤ 9) × Is-edge (now chart) 0 first × (edge-at (now chart) edges < 4294967296) × Chained (now chart) 0 (now heads) (now nexts) ⌝ }
+    requires { ⌜ Held width edges a (now table) (now list) × (a .iterations < 60000) × (0 < a .waiting) × (width ≤ 9) × Edges-held (now chart) first edges (now heads) (now nexts) ⌝ }
     ensures { λ r. ⌜ Loaded width edges r (now (table .exit)) (now (list .exit)) (iteration (domain-of (now (chart .entry))) (edges-from 0 edges) (load-of width a (now (table .entry)) (now (list .entry)))) × (r .iterations ≡ a .iterations + 1) ⌝ }
 {
     // a location and 8 variables at most
@@ -360,7 +359,7 @@ fn play(
     table: &mut [i32],
     list: &mut [i32],
 ) -> Analysis
-    requires { ⌜ Held width edges a (now table) (now list) × (a .iterations + most ≤ 60000) × (width ≤ 9) × Is-edge (now chart) 0 first × (edge-at (now chart) edges < 4294967296) × Chained (now chart) 0 (now heads) (now nexts) ⌝ }
+    requires { ⌜ Held width edges a (now table) (now list) × (a .iterations + most ≤ 60000) × (width ≤ 9) × Edges-held (now chart) first edges (now heads) (now nexts) ⌝ }
     ensures { λ r. ⌜ Loaded width edges r (now (table .exit)) (now (list .exit)) (run (domain-of (now (chart .entry))) (edges-from 0 edges) most (load-of width a (now (table .entry)) (now (list .entry)))) ⌝ }
 {
     let mut left = most;

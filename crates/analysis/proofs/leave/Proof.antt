@@ -46,7 +46,7 @@ loop-holds c =
       s .pre .2,
       omega (arith, m),
       ap (λ (k : ℕ). leave (domain-of (a .chart .now)) (a .settings) (a .capacity) e (edges-from 0 k) en wa) n
-          ∙ passed (a .chart .now) (a .settings) (a .capacity) e (a .edges) en wa 0 (c .first-leaving .result .0 - 1) (omega arith) (λ j lo hi q. s .pre .5 .head (count e 0) j lo (omega (arith, m)) q),
+          ∙ passed (a .chart .now) (a .settings) (a .capacity) e (a .edges) en wa 0 (c .first-leaving .result .0 - 1) (omega arith) (λ j lo hi q. s .pre .3 .chained .head (count e 0) j lo (omega (arith, m)) q),
     )
 
 -- the chain names an edge of the chart
@@ -56,19 +56,19 @@ in-chart c = leb-true _ _ (sym (c .before .is-edge-of .ensures) ∙ c .if1 .take
 edge-of-requires : tie.Need-edge-of-requires Inv-loop μ-loop
 edge-of-requires c κs =
     let s = c .before .before .before .before .before .before .before in
-    (omega (arith, s .pre .3 .at, s .pre .4), c .before .before .loop .inv .2, omega (arith, s .pre .4, in-chart c))
+    (omega (arith, s .pre .3 .first .at, s .pre .3 .small), c .before .before .loop .inv .2, omega (arith, s .pre .3 .small, in-chart c))
 
 -- the edge of the turn
 edge-is : (c : tie.After-edge-of Inv-loop μ-loop) → Is-edge (c .before .before .before .before .before .before .before .before .args .chart .now) (c .before .before .before .loop .id .0 - 1) (c .edge-of .result)
 edge-is c =
-    let f = c .before .before .before .before .before .before .before .before .pre .3 in
+    let f = c .before .before .before .before .before .before .before .before .pre .3 .first in
     record { id = omega (arith, c .before .before .before .loop .inv .2, c .edge-of .ensures .0); at = omega (arith, f .at, c .edge-of .ensures .1) }
 
 visit-requires : tie.Need-visit-requires Inv-loop μ-loop
 visit-requires c κs =
     let b = c .before .before .before .before .before .before in
     let s = b .before .before .before .before .before in
-    (b .loop .inv .0, s .pre .1, b .loop .inv .1, omega (arith, edge-is (c .before .before .before) .at, b .loop .inv .2, s .pre .4, in-chart (c .before .before .before .before)))
+    (b .loop .inv .0, s .pre .1, b .loop .inv .1, omega (arith, edge-is (c .before .before .before) .at, b .loop .inv .2, s .pre .3 .small, in-chart (c .before .before .before .before)))
 
 -- a turn, once the edge is played
 turn : (c : tie.After-has-ended Inv-loop μ-loop) →
@@ -119,10 +119,10 @@ next-leaving-requires c κs =
     let b = d .before .before .before in
     let s = b .before .before .before .before .before in
     let k : d .edge-of .result .id .0 ≡ b .loop .id .0 = d .edge-of .ensures .0 in (
-      λ j lo hi q. s .pre .5 .next (b .loop .id .0 - 1) j (omega (arith, k)) (rw k at hi) (q ∙ ap (λ (n : ℕ). from-at (s .args .chart .now) (n - 1)) k),
+      λ j lo hi q. s .pre .3 .chained .next (b .loop .id .0 - 1) j (omega (arith, k)) (rw k at hi) (q ∙ ap (λ (n : ℕ). from-at (s .args .chart .now) (n - 1)) k),
       edge-is d .at ∙ ap (λ (n : ℕ). edge-at (s .args .chart .now) (n - 1)) (sym k),
       omega (arith, k, b .loop .inv .2),
-      omega (arith, k, s .pre .4, in-chart (d .before)),
+      omega (arith, k, s .pre .3 .small, in-chart (d .before)),
     )
 
 loop-less : tie.Need-loop-less Inv-loop μ-loop
