@@ -3,7 +3,7 @@
 use mathlib.Core.Path.{_≡_}
 use mathlib.Core.Bool.{Bool, true, false}
 use mathlib.Core.List.{List}
-use Prim.Native.Nat.{ℕ, _+_}
+use Prim.Native.Nat.{ℕ, _+_, _<_}
 use lib.IntN.{ℤ}
 use lib.ListN.{length}
 use Rattle.semantics.specs.declared.Verdict.{Verdict}
@@ -15,6 +15,7 @@ use Rattle.waitlist.specs.Waits.{waits, Stored}
 use Rattle.reached.specs.Reached.{Kept}
 use Rattle.encoded.specs.declared.Edge.{Edge}
 use Rattle.transfer.specs.Transfer.{edge-at, post-words, error-row}
+use Rattle.leaving.specs.Chains.{Chained}
 use Rattle.analysis.specs.declared.Exit.{Exit}
 use Rattle.analysis.specs.declared.Exit.the-variants.{On, Alarm, Full}
 use Rattle.analysis.specs.declared.Progress.{Progress}
@@ -34,6 +35,13 @@ pub record Is-edge (c : List ℤ) (g : ℕ) (e : Edge) : Type 0 where
   pub id : e .id .0 ≡ g + 1
   pub at : e .at ≡ edge-at c g
 
+-- what it takes to follow the n edges of a chart: the first of them, places that do not wrap, and chains of those that
+-- leave a location
+pub record Edges-held (c : List ℤ) (g : Edge) (n : ℕ) (heads nexts : List ℕ) : Type 0 where
+  pub first : Is-edge c 0 g
+  pub small : edge-at c n < 4294967296
+  pub chained : Chained c 0 heads nexts
+
 -- how the edges ended, with rows and slots; n is the edge of an alarm
 abbrev pub out-by : Exit → ℕ → List (List ℤ) → List ℕ → Out (List ℤ)
 out-by On n en wa = on en wa
@@ -43,6 +51,10 @@ out-by Full n en wa = full en wa
 -- what words and counts say of the edges played so far
 abbrev pub out-of : ℕ → List ℤ → List ℤ → Progress → Out (List ℤ)
 out-of w t l p = out-by (p .exit) (p .edge .0) (rows-of w (p .used) t) (waits (p .waiting) l)
+
+-- no edge has ended the iteration so far
+abbrev pub went-on : ℕ → ℕ → Progress
+went-on used waiting = record { exit = On; edge = record { 0 = 0 }; used = used; waiting = waiting }
 
 -- no further edge is played: an alarm, or a full table
 abbrev pub has-ended : Exit → Bool

@@ -17,11 +17,7 @@ ghost use Rattle.rows.specs.Rows.{rows-of};
 ghost use Rattle.waitlist.specs.Waits.{waits, Stored};
 ghost use Rattle.reached.specs.Reached.{Kept};
 ghost use Rattle.transfer.specs.Transfer.{edge-at, edges-from, post-at};
-ghost use Rattle.leaving.specs.Chains.{Chained};
-ghost use Rattle.analysis.specs.Loaded.{Is-edge, rows-only, domain-of, has-ended, Progressed, load-of, Held, Loaded, Ended, Finished};
-
-// The most iterations that an analysis plays.
-pub const MOST_ITERATIONS: u32 = 60000;
+ghost use Rattle.analysis.specs.Loaded.{Edges-held, rows-only, domain-of, has-ended, went-on, Progressed, load-of, Held, Loaded, Ended, Finished};
 
 // How the edges of an iteration, or some of them, end.
 pub enum Exit {
@@ -36,6 +32,18 @@ pub struct Progress {
     pub edge: EdgeId,
     pub used: usize,
     pub waiting: usize,
+}
+
+// No edge so far has met an error or a full table.
+fn went_on(used: usize, waiting: usize) -> Progress
+    ensures { λ p. ⌜ p ≡ went-on used waiting ⌝ }
+{
+    Progress {
+        exit: Exit::On,
+        edge: EdgeId(0),
+        used,
+        waiting,
+    }
 }
 
 // The merge of a successor with each slot, by the setting. How many slots are waiting then.
@@ -76,22 +84,12 @@ fn arrive(
     let merge = settings.merge;
     let count = merge_by(merge, capacity, table, used, e, list, waiting);
     if reached::covered(table, used, e) {
-        return Progress {
-            exit: Exit::On,
-            edge: EdgeId(0),
-            used,
-            waiting: count,
-        };
+        return went_on(used, count);
     }
     if used < capacity {
         reached::put_row(table, SlotId(used), e);
         let more = waitlist::append(list, count, SlotId(used));
-        return Progress {
-            exit: Exit::On,
-            edge: EdgeId(0),
-            used: used + 1,
-            waiting: more,
-        };
+        return went_on(used + 1, more);
     }
     Progress {
         exit: Exit::Full,
@@ -119,12 +117,7 @@ fn visit(
 {
     let moved = transfer::successor(chart, edge, copy, next);
     if !moved {
-        return Progress {
-            exit: Exit::On,
-            edge: EdgeId(0),
-            used,
-            waiting,
-        };
+        return went_on(used, waiting);
     }
     if transfer::is_error(chart, next) {
         let id = edge.id;
@@ -164,14 +157,14 @@ fn leave(
     list: &mut [i32],
     waiting: usize,
 ) -> Progress
-    requires { ⌜ Kept (length (now copy)) capacity (now table) (now list) used waiting × Allowed settings × (length (now next) ≡ length (now copy)) × Is-edge (now chart) 0 first × (edge-at (now chart) edges < 4294967296) × Chained (now chart) 0 (now heads) (now nexts) ⌝ }
+    requires { ⌜ Kept (length (now copy)) capacity (now table) (now list) used waiting × Allowed settings × (length (now next) ≡ length (now copy)) × Edges-held (now chart) first edges (now heads) (now nexts) ⌝ }
     ensures { λ p. ⌜ Progressed (length (now (copy .entry))) capacity (now (table .exit)) (now (list .exit)) p (leave (domain-of (now (chart .entry))) settings capacity (now (copy .entry)) (edges-from 0 edges) (rows-of (length (now (copy .entry))) used (now (table .entry))) (waits waiting (now (list .entry)))) ⌝ }
 {
     let mut slots = used;
     let mut count = waiting;
     let location = rows::location_of(copy);
     let mut id = leaving::first_leaving(heads, location);
-    while id.0 <= edges {
+    while semantics::is_edge_of(edges, id) {
         let edge = encoded::edge_of(first, id);
         let p = visit(
             chart,
@@ -193,12 +186,7 @@ fn leave(
         count = p.waiting;
         id = leaving::next_leaving(chart, edge, nexts, location);
     }
-    Progress {
-        exit: Exit::On,
-        edge: EdgeId(0),
-        used: slots,
-        waiting: count,
-    }
+    went_on(slots, count)
 }
 
 // The verdict after an iteration that met no error and no full table.
@@ -274,7 +262,7 @@ fn iteration_with(
     copy: &mut [i32],
     next: &mut [i32],
 ) -> Analysis
-    requires { ⌜ Held (length (now copy)) edges a (now table) (now list) × (a .iterations < 60000) × (0 < a .waiting) × (length (now next) ≡ length (now copy)) × Is-edge (now chart) 0 first × (edge-at (now chart) edges < 4294967296) × Chained (now chart) 0 (now heads) (now nexts) ⌝ }
+    requires { ⌜ Held (length (now copy)) edges a (now table) (now list) × (a .iterations < 60000) × (0 < a .waiting) × (length (now next) ≡ length (now copy)) × Edges-held (now chart) first edges (now heads) (now nexts) ⌝ }
     ensures { λ r. ⌜ Loaded (length (now (copy .entry))) edges r (now (table .exit)) (now (list .exit)) (iteration (domain-of (now (chart .entry))) (edges-from 0 edges) (load-of (length (now (copy .entry))) a (now (table .entry)) (now (list .entry)))) × (r .iterations ≡ a .iterations + 1) ⌝ }
 {
     let settings = a.settings;
@@ -314,7 +302,7 @@ fn iteration(
     table: &mut [i32],
     list: &mut [i32],
 ) -> Analysis
-    requires { ⌜ Held width edges a (now table) (now list) × (a .iterations < 60000) × (0 < a .waiting) × (width ≤ 9) × Is-edge (now chart) 0 first × (edge-at (now chart) edges < 4294967296) × Chained (now chart) 0 (now heads) (now nexts) ⌝ }
+    requires { ⌜ Held width edges a (now table) (now list) × (a .iterations < 60000) × (0 < a .waiting) × (width ≤ 9) × Edges-held (now chart) first edges (now heads) (now nexts) ⌝ }
     ensures { λ r. ⌜ Loaded width edges r (now (table .exit)) (now (list .exit)) (iteration (domain-of (now (chart .entry))) (edges-from 0 edges) (load-of width a (now (table .entry)) (now (list .entry)))) × (r .iterations ≡ a .iterations + 1) ⌝ }
 {
     // a location and 8 variables at most
@@ -351,7 +339,7 @@ fn iterations_left(budget: u32, iterations: u32) -> u32
     requires { ⌜ iterations ≤ 60000 ⌝ }
     ensures { λ r. ⌜ r ≡ min budget (60000 - iterations) ⌝ }
 {
-    let left = MOST_ITERATIONS - iterations;
+    let left = semantics::MOST_ITERATIONS - iterations;
     if budget < left {
         return budget;
     }
@@ -371,7 +359,7 @@ fn play(
     table: &mut [i32],
     list: &mut [i32],
 ) -> Analysis
-    requires { ⌜ Held width edges a (now table) (now list) × (a .iterations + most ≤ 60000) × (width ≤ 9) × Is-edge (now chart) 0 first × (edge-at (now chart) edges < 4294967296) × Chained (now chart) 0 (now heads) (now nexts) ⌝ }
+    requires { ⌜ Held width edges a (now table) (now list) × (a .iterations + most ≤ 60000) × (width ≤ 9) × Edges-held (now chart) first edges (now heads) (now nexts) ⌝ }
     ensures { λ r. ⌜ Loaded width edges r (now (table .exit)) (now (list .exit)) (run (domain-of (now (chart .entry))) (edges-from 0 edges) most (load-of width a (now (table .entry)) (now (list .entry)))) ⌝ }
 {
     let mut left = most;

@@ -15,7 +15,7 @@ ghost use Rattle.form.specs.Form.{lent};
 ghost use Rattle.analysis.specs.Loaded.{domain-of, Loaded};
 ghost use Rattle.transfer.specs.Transfer.{initial-row};
 ghost use Rattle.walker.specs.Calls.{Begins, Ends, Ends-called};
-ghost use Rattle.semantics.specs.Outcomes.{refusal, fine, refused-by, put-in, started, resumed, start-cases, start-outcome, run-cases, run-outcome};
+ghost use Rattle.semantics.specs.Outcomes.{refusal, put-in, started, resumed, start-cases, start-outcome, run-cases, run-outcome};
 
 // What a call answers, and the record as it leaves it.
 pub struct Called {
@@ -64,31 +64,10 @@ fn run_refusal(chart: &[i32], budget: i32, a: Analysis, table: &[i32], list: &[i
     if analysis::has_verdict(verdict) {
         return 22;
     }
-    if a.iterations == 60000 {
+    if a.iterations == semantics::MOST_ITERATIONS {
         return 23;
     }
     0
-}
-
-// A call that goes through answers 0 and line 0.
-fn gone_through() -> Answer
-    ensures { λ r. ⌜ r ≡ fine 0 ⌝ }
-{
-    Answer {
-        number: 0,
-        line: 0,
-        length: 0,
-    }
-}
-
-fn refused(number: u32) -> Answer
-    ensures { λ r. ⌜ r ≡ refused-by number 0 ⌝ }
-{
-    Answer {
-        number,
-        line: 0,
-        length: 0,
-    }
 }
 
 // The initial state's row is made in the row lent, and put into slot 0.
@@ -188,13 +167,13 @@ pub fn start(
     let number = start_refusal(chart, settings, capacity, table.len(), list.len());
     if number != 0 {
         return Called {
-            answer: refused(number),
+            answer: semantics::refused(number, 0),
             analysis: a,
         };
     }
     let begun = start_through(chart, settings, capacity as u32, table, list);
     Called {
-        answer: gone_through(),
+        answer: semantics::gone_through(0),
         analysis: begun,
     }
 }
@@ -206,13 +185,13 @@ fn advance(chart: &[i32], budget: i32, a: Analysis, table: &mut [i32], list: &mu
     let number = run_refusal(chart, budget, a, table, list);
     if number != 0 {
         return Called {
-            answer: refused(number),
+            answer: semantics::refused(number, 0),
             analysis: a,
         };
     }
     let played = run_through(chart, budget as u32, a, table, list);
     Called {
-        answer: gone_through(),
+        answer: semantics::gone_through(0),
         analysis: played,
     }
 }

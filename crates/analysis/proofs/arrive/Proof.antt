@@ -75,7 +75,7 @@ covered-requires : tie.Need-covered-requires
 covered-requires c κs = let k = c .before .before .before .merge-by .ensures .1 .1 in (k .wide, in-table k)
 
 returns : tie.Need-returns
-returns c = record { out = dropped (c .before) (c .if1 .taken); kept = form (c .before) }
+returns c = rw (c .went-on .ensures) (record { out = dropped (c .before .before) (c .before .if1 .taken); kept = form (c .before .before) })
 
 put-row-requires : tie.Need-put-row-requires
 put-row-requires c κs = next-row (form (c .before .before .before)) (c .before .if2 .taken)
@@ -90,14 +90,15 @@ append-requires c κs =
 
 returns-2 : tie.Need-returns-2
 returns-2 c =
-    let d = c .before .before .before .before .before .before .before .before in
+    let b = c .before in
+    let d = b .before .before .before .before .before .before .before .before in
     let k = form d in
-    let l : at-start d .args .used < at-start d .args .capacity = c .before .before .before .before .before .before .if2 .taken in
-    let put = c .before .before .before .before .put-row in
-    let app = c .before .append in
+    let l : at-start d .args .used < at-start d .args .capacity = b .before .before .before .before .before .before .if2 .taken in
+    let put = b .before .before .before .before .put-row in
+    let app = b .before .append in
     let w = length (e d) in
-    rw (put .ensures) (record {
-      out = rw (rows-stored w (at-start d .args .used) (table d) (e d) (next-row k l) refl, held (app .ensures)) (kept-on d (c .before .before .before .before .before .before .before .if1 .left) l);
+    rw (c .went-on2 .ensures, put .ensures) (record {
+      out = rw (rows-stored w (at-start d .args .used) (table d) (e d) (next-row k l) refl, held (app .ensures)) (kept-on d (b .before .before .before .before .before .before .before .if1 .left) l);
       kept = kept-stored k l (e d) refl (app .ensures) (app .kept .0);
     })
 
@@ -110,12 +111,14 @@ arrive-spec =
     (tie.spec
     (λ c κs. search needs)
     covered-requires
+    (λ c κs. search needs)
     (λ c. search needs)
     (λ c. search needs)
     returns
     put-row-requires
     append-requires
     (λ c. search needs)
+    (λ c κs. search needs)
     (λ c. search needs)
     (λ c. search needs)
     returns-2

@@ -27,7 +27,7 @@ slice-aggregate-iteration-with-2 c = let s = c .before .before .before .before .
 iteration-with-requires : tie.Need-iteration-with-requires
 iteration-with-requires c κs =
     let s = c .before .before .before .before .before .before in
-    rw (row-length (s .args .width) (s .pre .3)) (s .pre .0, s .pre .1, s .pre .2, refl, s .pre .4, s .pre .5, s .pre .6)
+    rw (row-length (s .args .width) (s .pre .3)) (s .pre .0, s .pre .1, s .pre .2, refl, s .pre .4)
 
 returns : tie.Need-returns
 returns c =

@@ -71,7 +71,7 @@ leave-requires : tie.Need-leave-requires
 leave-requires c κs =
     let d = c .before .before .before .before in
     let s = at-start d in
-    (rw (row-length d) (form d), s .pre .0 .allowed, s .pre .3 ∙ sym (row-length d), s .pre .4, s .pre .5, s .pre .6)
+    (rw (row-length d) (form d), s .pre .0 .allowed, s .pre .3 ∙ sym (row-length d), s .pre .4)
 
 finish-requires : tie.Need-finish-requires
 finish-requires c κs =

@@ -5,6 +5,7 @@ use Prim.Native.Nat.{ℕ, suc, _+_, _-_, _≤_, max}
 use native.Mathlib.Numerals.{add-one}
 use native.Mathlib.Omega.{arith}
 use borrow.Author.Needs.{needs}
+use borrow.Author.Tests.{leb-true, leb-false}
 use lib.IntN.{ℤ}
 use lib.ListN.{length, getD}
 use Rattle.semantics.specs.Algorithm.{Out, then, visit, leave}
@@ -45,25 +46,29 @@ loop-holds c =
       s .pre .2,
       omega (arith, m),
       ap (λ (k : ℕ). leave (domain-of (a .chart .now)) (a .settings) (a .capacity) e (edges-from 0 k) en wa) n
-          ∙ passed (a .chart .now) (a .settings) (a .capacity) e (a .edges) en wa 0 (c .first-leaving .result .0 - 1) (omega arith) (λ j lo hi q. s .pre .5 .head (count e 0) j lo (omega (arith, m)) q),
+          ∙ passed (a .chart .now) (a .settings) (a .capacity) e (a .edges) en wa 0 (c .first-leaving .result .0 - 1) (omega arith) (λ j lo hi q. s .pre .3 .chained .head (count e 0) j lo (omega (arith, m)) q),
     )
+
+-- the chain names an edge of the chart
+in-chart : (c : tie.Then1 Inv-loop μ-loop) → c .before .before .loop .id .0 ≤ c .before .before .before .before .before .before .before .args .edges
+in-chart c = leb-true _ _ (sym (c .before .is-edge-of .ensures) ∙ c .if1 .taken)
 
 edge-of-requires : tie.Need-edge-of-requires Inv-loop μ-loop
 edge-of-requires c κs =
     let s = c .before .before .before .before .before .before .before in
-    (omega (arith, s .pre .3 .at, s .pre .4), c .before .before .loop .inv .2, omega (arith, s .pre .4, c .if1 .taken))
+    (omega (arith, s .pre .3 .first .at, s .pre .3 .small), c .before .before .loop .inv .2, omega (arith, s .pre .3 .small, in-chart c))
 
 -- the edge of the turn
 edge-is : (c : tie.After-edge-of Inv-loop μ-loop) → Is-edge (c .before .before .before .before .before .before .before .before .args .chart .now) (c .before .before .before .loop .id .0 - 1) (c .edge-of .result)
 edge-is c =
-    let f = c .before .before .before .before .before .before .before .before .pre .3 in
+    let f = c .before .before .before .before .before .before .before .before .pre .3 .first in
     record { id = omega (arith, c .before .before .before .loop .inv .2, c .edge-of .ensures .0); at = omega (arith, f .at, c .edge-of .ensures .1) }
 
 visit-requires : tie.Need-visit-requires Inv-loop μ-loop
 visit-requires c κs =
     let b = c .before .before .before .before .before .before in
     let s = b .before .before .before .before .before in
-    (b .loop .inv .0, s .pre .1, b .loop .inv .1, omega (arith, edge-is (c .before .before .before) .at, b .loop .inv .2, s .pre .4, c .before .before .before .before .if1 .taken))
+    (b .loop .inv .0, s .pre .1, b .loop .inv .1, omega (arith, edge-is (c .before .before .before) .at, b .loop .inv .2, s .pre .3 .small, in-chart (c .before .before .before .before)))
 
 -- a turn, once the edge is played
 turn : (c : tie.After-has-ended Inv-loop μ-loop) →
@@ -89,7 +94,7 @@ turn c =
     m .ensures .out ∙ rw (edge-is d .id, add-one, q) in
     let gs = edges-from (b .loop .id .0 - 1 + 1) (a .edges - (b .loop .id .0 - 1 + 1)) in
     b .loop .inv .3
-    ∙ ap (λ (x : List ℕ). leave D (a .settings) (a .capacity) e x en wa) (edges-turn (b .loop .id .0 - 1) (a .edges) (omega (arith, b .loop .inv .2, d .before .if1 .taken)))
+    ∙ ap (λ (x : List ℕ). leave D (a .settings) (a .capacity) e x en wa) (edges-turn (b .loop .id .0 - 1) (a .edges) (omega (arith, b .loop .inv .2, in-chart (d .before))))
     ∙ ap (λ (x : Out (List ℤ)). then x (λ en wa. leave D (a .settings) (a .capacity) e gs en wa)) (sym o)
 
 same-length : tie.Need-same-length Inv-loop μ-loop
@@ -114,14 +119,14 @@ next-leaving-requires c κs =
     let b = d .before .before .before in
     let s = b .before .before .before .before .before in
     let k : d .edge-of .result .id .0 ≡ b .loop .id .0 = d .edge-of .ensures .0 in (
-      λ j lo hi q. s .pre .5 .next (b .loop .id .0 - 1) j (omega (arith, k)) (rw k at hi) (q ∙ ap (λ (n : ℕ). from-at (s .args .chart .now) (n - 1)) k),
+      λ j lo hi q. s .pre .3 .chained .next (b .loop .id .0 - 1) j (omega (arith, k)) (rw k at hi) (q ∙ ap (λ (n : ℕ). from-at (s .args .chart .now) (n - 1)) k),
       edge-is d .at ∙ ap (λ (n : ℕ). edge-at (s .args .chart .now) (n - 1)) (sym k),
       omega (arith, k, b .loop .inv .2),
-      omega (arith, k, s .pre .4, d .before .if1 .taken),
+      omega (arith, k, s .pre .3 .small, in-chart (d .before)),
     )
 
 loop-less : tie.Need-loop-less Inv-loop μ-loop
-loop-less c = omega (arith, c .next-leaving .ensures .0, c .before .before .before .before .before .before .before .before .before .before .edge-of .ensures .0, c .before .before .before .before .before .before .before .before .before .before .before .if1 .taken)
+loop-less c = omega (arith, c .next-leaving .ensures .0, c .before .before .before .before .before .before .before .before .before .before .edge-of .ensures .0, in-chart (c .before .before .before .before .before .before .before .before .before .before .before))
 
 loop-again : tie.Need-loop-again Inv-loop μ-loop
 loop-again c =
@@ -143,8 +148,11 @@ loop-again c =
 
 returns-2 : tie.Need-returns-2 Inv-loop μ-loop
 returns-2 c =
-    let b = c .before .before in
-    record { out = sym (b .loop .inv .3 ∙ rw (edges-none (b .loop .id .0 - 1) (b .before .before .before .before .before .args .edges) (omega (arith, c .if1 .left)))); kept = b .loop .inv .0 }
+    let d = c .before .before in
+    let b = d .before in
+    let n = b .before .before .before .before .before .args .edges in
+    let past = leb-false (b .loop .id .0) n (sym (d .is-edge-of .ensures) ∙ c .before .if1 .left) in
+    rw (c .went-on .ensures) (record { out = sym (b .loop .inv .3 ∙ rw (edges-none (b .loop .id .0 - 1) n (omega (arith, past)))); kept = b .loop .inv .0 })
 
 pub leave-spec : {M : Type 1} → statement M
 leave-spec =
@@ -155,6 +163,7 @@ leave-spec =
     (λ c κs. search needs)
     (λ c κs. search needs)
     loop-holds
+    (λ c κs. search needs)
     edge-of-requires
     visit-requires
     (λ c κs. search needs)
@@ -165,6 +174,7 @@ leave-spec =
     next-leaving-requires
     loop-less
     loop-again
+    (λ c κs. search needs)
     (λ c. search needs)
     (λ c. search needs)
     (λ c. search needs)

@@ -44,7 +44,7 @@ iteration-requires c κs =
     let h = b .loop .inv .0 in
     let none = sym (c .before .before .before .has-verdict .ensures) ∙ c .before .before .if1 .left in
     let o = open-waits (s .args .width) (s .args .edges) (b .loop .at) (b .loop .table) (b .loop .list) h none in
-    (h, omega (arith, b .loop .inv .3, c .before .before .before .before .loop-test .taken), o, s .pre .2, s .pre .3, s .pre .4, s .pre .5)
+    (h, omega (arith, b .loop .inv .3, c .before .before .before .before .loop-test .taken), o, s .pre .2, s .pre .3)
 
 loop-again : tie.Need-loop-again Inv-loop μ-loop
 loop-again c =

@@ -1,4 +1,5 @@
 -- `analysis::run_core` meets its contract. Assumes nothing.
+use native.Mathlib.Omega.{arith}
 use borrow.Author.Needs.{needs}
 use Rattle.leaving.proofs.Links.{unchained}
 use Rattle.analysis.proofs.run_core.Statement.{statement}
@@ -6,6 +7,18 @@ use Rattle.analysis.proofs.run_core.Tie as tie
 
 chain-requires : tie.Need-chain-requires
 chain-requires c κs = let s = c .before .before .before in (unchained (s .args .chart .now) (s .args .edges) 64 256, s .pre .3)
+
+play-requires : tie.Need-play-requires
+play-requires c κs =
+    let l = c .before .before .before .before in
+    let k = l .before .before .before in
+    let f = k .before .before .before in
+    let s = f .before in (
+      s .pre .0,
+      omega (arith, s .pre .1, l .iterations-left .ensures),
+      s .pre .2,
+      record { first = record { id = f .first-edge .ensures .0; at = omega (arith, f .first-edge .ensures .1) }; small = s .pre .3; chained = k .chain .ensures },
+    )
 
 returns : tie.Need-returns
 returns c = rw (c .before .before .before .before .before .before .before .iterations-left .ensures) at (c .before .before .play .ensures)
@@ -22,7 +35,7 @@ run-core-spec =
     (λ c κs. search needs)
     (λ c. search needs)
     (λ c. search needs)
-    (λ c κs. search needs)
+    play-requires
     (λ c. search needs)
     (λ c. search needs)
     returns)

@@ -16,10 +16,10 @@ successor-requires c κs = let s = c .before in (s .pre .0 .wide, s .pre .2, s .
 
 returns : tie.Need-returns
 returns c =
-    let d = c .before .before in
+    let d = c .before .before .before in
     let s = d .before .before in
-    let h : post-at (s .args .chart .now) (s .args .edge .at) (s .args .copy .now) ≡ halt = sym (d .successor .ensures) ∙ rw (not-true (d .successor .result) (c .if1 .taken)) in
-    record { out = rw h; kept = s .pre .0 }
+    let h : post-at (s .args .chart .now) (s .args .edge .at) (s .args .copy .now) ≡ halt = sym (d .successor .ensures) ∙ rw (not-true (d .successor .result) (c .before .if1 .taken)) in
+    rw (c .went-on .ensures) (record { out = rw h; kept = s .pre .0 })
 
 returns-2 : tie.Need-returns-2
 returns-2 c =
@@ -53,6 +53,7 @@ visit-spec =
     tie.close
     (tie.spec
     successor-requires
+    (λ c κs. search needs)
     (λ c. search needs)
     returns
     (λ c κs. search needs)
