@@ -19,9 +19,10 @@ use Rattle.semantics.specs.Memory.{Memory, width, state-in, states-in, load, an
 use Rattle.semantics.specs.Listing.{loc-text, mark, val-text, slot-text, slots-text, listing-text}
 use Rattle.semantics.specs.declared.Analysis.{Analysis}
 use Rattle.semantics.proofs.Values.{and-left, and-right}
+use Rattle.semantics.proofs.Reloaded.{states-count}
 use Rattle.form.specs.Form.{lent}
 use Rattle.writing.specs.Writing.{Put}
-use Rattle.writing.proofs.Written.{written-long, put-none, put-then, put-same}
+use Rattle.writing.proofs.Written.{written-long, put-none}
 use Rattle.listing.specs.Pieces.{tabbed, values-text, words-text, counts-text, header-text, marked-text, marked}
 
 -- ---- lines
@@ -50,10 +51,6 @@ seven f m s o v i u e =
 pub header-is : (a : Analysis) → bytes "walk" ++ (words-text a ++ (counts-text a ++ (10 ∷ []))) ≡ header-text a
 unfolding words-text counts-text header-text
 header-is a = seven _ _ _ _ _ _ _ _
-
--- a tab, and a field that a test told
-pub field : {A : Type 0} (f : A → List ℕ) {x y : A} {at r r′ : ℕ} {out out′ out″ : List ℕ} → x ≡ y → Put at (9 ∷ []) out out′ r → Put r (f y) out′ out″ r′ → Put at (tabbed (f x)) out out″ r′
-field {A} f e p q = put-same (ap (λ (z : A). tabbed (f z)) (sym e)) (put-then p q)
 
 -- ---- the turns of the loops
 
@@ -150,14 +147,10 @@ marked-from-none n ks s h =
 
 -- ---- the whole
 
-states-length : (k n : ℕ) (t : List ℤ) → length (states-in k n t) ≡ n
-states-length k zero t = refl
-states-length k (suc n) t = ap suc (states-length k n (drop k t))
-
 pub listing-is : (c : Chart) (t l : List ℤ) (a : Analysis)
     → header-text a ++ slots-text c (map natAbs (take (a .waiting) l)) 0 (states-in (width c) (a .used) t) ≡ listing-text c (load c (lent t l a))
 unfolding header-text listing-text load
-listing-is c t l a = rw (states-length (width c) (a .used) t)
+listing-is c t l a = rw (states-count c (a .used) t)
 
 -- of rule 21, that the counts are in order
 pub counts-in-order : (c : Chart) (m : Memory) → T (analysis-ok c m) → (m .analysis .used ≤ m .analysis .capacity) × (m .analysis .waiting ≤ m .analysis .used)

@@ -23,51 +23,49 @@ ghost use Rattle.form.specs.Form.{lent};
 ghost use Rattle.writing.specs.Writing.{Put, limit};
 ghost use Rattle.listing.specs.Pieces.{tabbed, values-text, words-text, counts-text, header-text, marked-text, marked};
 
-const TAB: u8 = 9;
-
-const LF: u8 = 10;
-
-// No listing of an analysis in form has more bytes.
-const LONGEST: usize = 24_576;
+// A field that is not a line's first: a tab, and its bytes.
+fn put_field(out: &mut [u8], at: usize, field: &[u8]) -> usize
+    ensures { λ r. ⌜ Put at (tabbed (now (field .entry))) (now (out .entry)) (now (out .exit)) r ⌝ }
+{
+    let place = writing::put_byte(out, at, semantics::TAB);
+    writing::put_bytes(out, place, field)
+}
 
 // ---- the fields of the first line, each after its tab
 
 fn put_mode(out: &mut [u8], at: usize, m: Mode) -> usize
     ensures { λ r. ⌜ Put at (tabbed (mode-text m)) (now (out .entry)) (now (out .exit)) r ⌝ }
 {
-    let place = writing::put_byte(out, at, TAB);
     match m {
-        Mode::Sep => writing::put_bytes(out, place, b"sep"),
-        Mode::Join => writing::put_bytes(out, place, b"join"),
+        Mode::Sep => put_field(out, at, b"sep"),
+        Mode::Join => put_field(out, at, b"join"),
     }
 }
 
 fn put_order(out: &mut [u8], at: usize, o: Order) -> usize
     ensures { λ r. ⌜ Put at (tabbed (order-text o)) (now (out .entry)) (now (out .exit)) r ⌝ }
 {
-    let place = writing::put_byte(out, at, TAB);
     match o {
-        Order::Old => writing::put_bytes(out, place, b"old"),
-        Order::New => writing::put_bytes(out, place, b"new"),
+        Order::Old => put_field(out, at, b"old"),
+        Order::New => put_field(out, at, b"new"),
     }
 }
 
 fn put_verdict(out: &mut [u8], at: usize, v: Verdict) -> usize
     ensures { λ r. ⌜ Put at (tabbed (verdict-text v)) (now (out .entry)) (now (out .exit)) r ⌝ }
 {
-    let place = writing::put_byte(out, at, TAB);
     match v {
-        Verdict::Open => writing::put_bytes(out, place, b"open"),
-        Verdict::Safe => writing::put_bytes(out, place, b"safe"),
-        Verdict::Alarm => writing::put_bytes(out, place, b"alarm"),
-        Verdict::Full => writing::put_bytes(out, place, b"room"),
+        Verdict::Open => put_field(out, at, b"open"),
+        Verdict::Safe => put_field(out, at, b"safe"),
+        Verdict::Alarm => put_field(out, at, b"alarm"),
+        Verdict::Full => put_field(out, at, b"room"),
     }
 }
 
 fn put_number(out: &mut [u8], at: usize, n: usize) -> usize
     ensures { λ r. ⌜ Put at (tabbed (decimal n)) (now (out .entry)) (now (out .exit)) r ⌝ }
 {
-    let place = writing::put_byte(out, at, TAB);
+    let place = writing::put_byte(out, at, semantics::TAB);
     writing::put_decimal(out, place, n)
 }
 
@@ -104,7 +102,7 @@ fn put_header(out: &mut [u8], a: Analysis) -> usize
     let words = writing::put_bytes(out, 0, b"walk");
     let counts = put_words(out, words, a);
     let end = put_counts(out, counts, a);
-    writing::put_byte(out, end, LF)
+    writing::put_byte(out, end, semantics::LF)
 }
 
 // ---- a slot's line
@@ -114,7 +112,7 @@ fn put_name(out: &mut [u8], at: usize, chart: &[i32], l: LocationId) -> usize
     ensures { λ r. ⌜ Put at (tabbed (loc-text (decode (now (chart .entry)) .locs) (l .0))) (now (out .entry)) (now (out .exit)) r ⌝ }
 {
     let name = encoded::name(chart, l);
-    let mut place = writing::put_byte(out, at, TAB);
+    let mut place = writing::put_byte(out, at, semantics::TAB);
     let mut i = 0;
     while i < name.len() {
         let b = encoded::name_byte(name[i]);
@@ -127,10 +125,10 @@ fn put_name(out: &mut [u8], at: usize, chart: &[i32], l: LocationId) -> usize
 fn put_value(out: &mut [u8], at: usize, w: i32) -> usize
     ensures { λ r. ⌜ Put at (tabbed (val-text (val w))) (now (out .entry)) (now (out .exit)) r ⌝ }
 {
-    let place = writing::put_byte(out, at, TAB);
     if w == words::TOP {
-        return writing::put_byte(out, place, b'*');
+        return put_field(out, at, b"*");
     }
+    let place = writing::put_byte(out, at, semantics::TAB);
     writing::put_signed(out, place, w)
 }
 
@@ -171,11 +169,10 @@ fn mark_waiting(marks: &mut [bool], list: &[i32])
 fn put_mark(out: &mut [u8], at: usize, waiting: bool) -> usize
     ensures { λ r. ⌜ Put at (tabbed (mark waiting)) (now (out .entry)) (now (out .exit)) r ⌝ }
 {
-    let place = writing::put_byte(out, at, TAB);
     if waiting {
-        return writing::put_byte(out, place, b'w');
+        return put_field(out, at, b"w");
     }
-    writing::put_byte(out, place, b'-')
+    put_field(out, at, b"-")
 }
 
 // The line of a slot, whose words are the row.
@@ -190,13 +187,12 @@ fn put_slot(
     requires { ⌜ T (well-formed (now chart)) × (1 ≤ length (now row)) ⌝ }
     ensures { λ r. ⌜ Put at (marked-text (decode (now (chart .entry))) (slot .0) (state-in (now (row .entry))) waiting) (now (out .entry)) (now (out .exit)) r ⌝ }
 {
-    let w = row[0];
-    let location = LocationId(words::magnitude(w));
+    let location = rows::location_of(row);
     let name = writing::put_decimal(out, at, slot.0);
     let values = put_name(out, name, chart, location);
     let last = put_values(out, values, &row[1..]);
     let end = put_mark(out, last, waiting);
-    writing::put_byte(out, end, LF)
+    writing::put_byte(out, end, semantics::LF)
 }
 
 // The lines of the slots in use. Slot and word offset go together.
@@ -265,7 +261,7 @@ fn listing_refusal(chart: &[i32], a: Analysis, table: &[i32], list: &[i32], spac
     if !form::analysis_ok(chart, table, list, a) {
         return 21;
     }
-    if LONGEST <= space {
+    if semantics::LISTING_BYTES <= space {
         return 0;
     }
     if space < listing_length(chart, table, list, a) {
@@ -281,16 +277,8 @@ pub fn listing(chart: &[i32], a: Analysis, table: &[i32], list: &[i32], space: &
 {
     let number = listing_refusal(chart, a, table, list, space.len());
     if number != 0 {
-        return Answer {
-            number,
-            line: 0,
-            length: 0,
-        };
+        return semantics::refused(number, 0);
     }
     let length = write_listing(chart, table, list, a, space);
-    Answer {
-        number: 0,
-        line: 0,
-        length,
-    }
+    semantics::gone_through(length)
 }

@@ -32,27 +32,28 @@ through c =
 
 returns : tie.Need-returns
 returns c =
-    let s = c .before .before .before in
-    let o = listing-refused (words s) (memory s) (s .args .space .now) (c .before .listing-refusal .result) (c .before .listing-refusal .ensures) (c .if1 .taken) in
-    (ap (λ (x : Outcome). x .answer) o, ap (λ (x : Outcome). x .space) o)
+    let r = c .before .before .listing-refusal in
+    let s = c .before .before .before .before in
+    let o = listing-refused (words s) (memory s) (s .args .space .now) (r .result) (r .ensures) (c .before .if1 .taken) in
+    (c .refused .ensures ∙ ap (λ (x : Outcome). x .answer) o, ap (λ (x : Outcome). x .space) o)
 
 write-listing-requires : tie.Need-write-listing-requires
 write-listing-requires c κs = let h = through (c .before) in (h .formed, h .enough .0, h .enough .1, h .ok)
 
 returns-2 : tie.Need-returns-2
 returns-2 c =
-    let b = c .before .before .before .before in
+    let b = c .before .before .before .before .before in
     let s = b .before .before .before in
     let space = s .args .space .now in
     let text = text-of (decode (words s)) (memory s) in
     let o = listing-through (words s) (memory s) space (b .before .listing-refusal .ensures) (b .if1 .left) in
     let long : 0 + length text ≤ length space = omega (arith, through b .fits) in
-    let f = put-fits (c .before .before .write-listing .ensures) long in (
-      ap fine (f .1 ∙ zero-add (length text)) ∙ ap (λ (x : Outcome). x .answer) o,
+    let f = put-fits (c .before .before .before .write-listing .ensures) long in (
+      c .gone-through .ensures ∙ ap fine (f .1 ∙ zero-add (length text)) ∙ ap (λ (x : Outcome). x .answer) o,
       f .0 ∙ ap (λ (n : ℕ). text ++ drop n space) (zero-add (length text)) ∙ ap (λ (x : Outcome). x .space) o,
     )
 
 pub listing-spec : {M : Type 1} → statement M
 listing-spec =
     tie.close
-    (tie.spec (λ c κs. search needs) returns write-listing-requires (λ c. search needs) returns-2)
+    (tie.spec (λ c κs. search needs) (λ c κs. search needs) returns write-listing-requires (λ c κs. search needs) (λ c. search needs) returns-2)

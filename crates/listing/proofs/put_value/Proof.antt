@@ -1,39 +1,34 @@
 -- `listing::put_value` meets its contract. Assumes nothing.
-use mathlib.Core.Bool.{Bool}
 use borrow.Author.Needs.{needs}
 use lib.IntN.{pos}
 use mir.Syntax.{w32}
 use mir.Facts.{sfits-lit}
 use mir.ValLaws.{toZ-ofZ}
-use Rattle.semantics.specs.Encoding.{val-if}
-use Rattle.semantics.specs.Listing.{val-text}
 use Rattle.words.proofs.Words.{bits-eq, bits-ne}
-use Rattle.listing.proofs.Facts.{field}
+use Rattle.writing.proofs.Written.{put-then}
 use Rattle.listing.proofs.put_value.Statement.{statement}
 use Rattle.listing.proofs.put_value.Tie as tie
 
 returns : tie.Need-returns
 returns c =
-    let s = c .before .before .before .before .before .before .before .before .before .before in
-    field (λ (t : Bool). val-text (val-if t (s .args .w)))
-    (bits-eq w32 {a = s .args .w} {b = pos 32768} (s .fits .w) (sfits-lit tt) (c .before .before .before .before .if1 .taken))
-    (c .before .before .before .before .before .before .before .put-byte .ensures) (c .before .before .put-byte2 .ensures)
+    let s = c .before .before .before .before .before .before .before in
+    rw (bits-eq w32 {a = s .args .w} {b = pos 32768} (s .fits .w) (sfits-lit tt) (c .before .before .before .before .before .if1 .taken)) (c .before .before .put-field .ensures)
 
 returns-2 : tie.Need-returns-2
 returns-2 c =
     let s = c .before .before .before .before .before .before .before .before .before .before in
-    field (λ (t : Bool). val-text (val-if t (s .args .w)))
-    (bits-ne w32 {a = s .args .w} {b = pos 32768} (s .fits .w) (sfits-lit tt) (c .before .before .before .before .if1 .left))
-    (c .before .before .before .before .before .before .before .put-byte .ensures) (rw (toZ-ofZ w32 (s .args .w) (s .fits .w)) at (c .before .before .put-signed .ensures))
+    let put = rw (toZ-ofZ w32 (s .args .w) (s .fits .w)) at (c .before .before .put-signed .ensures) in
+    rw (bits-ne w32 {a = s .args .w} {b = pos 32768} (s .fits .w) (sfits-lit tt) (c .before .before .before .before .before .before .before .before .if1 .left)) (put-then (c .before .before .before .before .before .before .put-byte .ensures) put)
 
 pub put-value-spec : {M : Type 1} → statement M
 put-value-spec =
     tie.close
     (tie.spec
-    (λ c κs. search needs)
+    (λ c. search needs)
     (λ c κs. search needs)
     (λ c. search needs)
     returns
+    (λ c κs. search needs)
     (λ c κs. search needs)
     (λ c. search needs)
     returns-2)

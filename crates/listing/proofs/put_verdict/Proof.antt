@@ -1,27 +1,24 @@
 -- `listing::put_verdict` meets its contract. Assumes nothing.
 use borrow.Author.Needs.{needs}
-use Rattle.semantics.specs.Listing.{verdict-text}
-use Rattle.listing.proofs.Facts.{field}
 use Rattle.listing.proofs.put_verdict.Statement.{statement}
 use Rattle.listing.proofs.put_verdict.Tie as tie
 
 returns : tie.Need-returns
-returns c = field verdict-text (c .before .before .before .before .before .enum-told .given .1) (c .before .before .before .before .before .before .before .before .before .put-byte .ensures) (c .before .before .put-bytes .ensures)
+returns c = rw (c .before .before .before .before .before .enum-told .given .1) (c .before .before .put-field .ensures)
 
 returns-2 : tie.Need-returns-2
-returns-2 c = field verdict-text (c .before .before .before .before .before .enum-told2 .given .1) (c .before .before .before .before .before .before .before .before .before .put-byte .ensures) (c .before .before .put-bytes2 .ensures)
+returns-2 c = rw (c .before .before .before .before .before .enum-told2 .given .1) (c .before .before .put-field2 .ensures)
 
 returns-3 : tie.Need-returns-3
-returns-3 c = field verdict-text (c .before .before .before .before .before .enum-told3 .given .1) (c .before .before .before .before .before .before .before .before .before .put-byte .ensures) (c .before .before .put-bytes3 .ensures)
+returns-3 c = rw (c .before .before .before .before .before .enum-told3 .given .1) (c .before .before .put-field3 .ensures)
 
 returns-4 : tie.Need-returns-4
-returns-4 c = field verdict-text (c .before .before .before .before .before .enum-told4 .given .1) (c .before .before .before .before .before .before .before .before .before .put-byte .ensures) (c .before .before .put-bytes4 .ensures)
+returns-4 c = rw (c .before .before .before .before .before .enum-told4 .given .1) (c .before .before .put-field4 .ensures)
 
 pub put-verdict-spec : {M : Type 1} → statement M
 put-verdict-spec =
     tie.close
     (tie.spec
-    (λ c κs. search needs)
     (λ c. search needs)
     (λ c. search needs)
     (λ c κs. search needs)
