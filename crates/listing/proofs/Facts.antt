@@ -16,14 +16,14 @@ use Rattle.semantics.specs.Text.{bytes, decimal, line-of}
 use Rattle.semantics.specs.Chart.{Chart}
 use Rattle.semantics.specs.Encoding.{val}
 use Rattle.semantics.specs.Memory.{Memory, width, state-in, states-in, load, analysis-ok}
-use Rattle.semantics.specs.Listing.{loc-text, mark, val-text, slot-text, slots-text, listing-text}
+use Rattle.semantics.specs.Listing.{loc-text, mark, val-text, slot-text, slots-text, header-text, listing-text}
 use Rattle.semantics.specs.declared.Analysis.{Analysis}
 use Rattle.semantics.proofs.Values.{and-left, and-right}
 use Rattle.semantics.proofs.Reloaded.{states-count}
 use Rattle.form.specs.Form.{lent}
 use Rattle.writing.specs.Writing.{Put}
 use Rattle.writing.proofs.Written.{written-long, put-none}
-use Rattle.listing.specs.Pieces.{tabbed, values-text, words-text, counts-text, header-text, marked-text, marked}
+use Rattle.listing.specs.Pieces.{tabbed, values-text, words-text, counts-text, marked}
 
 -- ---- lines
 
@@ -49,7 +49,7 @@ seven f m s o v i u e =
     )
 
 pub header-is : (a : Analysis) → bytes "walk" ++ (words-text a ++ (counts-text a ++ (10 ∷ []))) ≡ header-text a
-unfolding words-text counts-text header-text
+unfolding words-text counts-text
 header-is a = seven _ _ _ _ _ _ _ _
 
 -- ---- the turns of the loops
@@ -73,7 +73,7 @@ values-turn vs i h = rw add-one (values-snoc vs i h)
 
 -- a slot's line, by its location n and its mark b
 pub slot-is : (c : Chart) (s : ℕ) (row : List ℤ) (n : ℕ) (b : Bool) → 1 ≤ length row → n ≡ natAbs (getD row 0 (pos 0))
-    → decimal s ++ (tabbed (loc-text (c .locs) n) ++ (values-text (take (length row - 1) (drop 1 row)) ++ (tabbed (mark b) ++ (10 ∷ [])))) ≡ marked-text c s (state-in row) b
+    → decimal s ++ (tabbed (loc-text (c .locs) n) ++ (values-text (take (length row - 1) (drop 1 row)) ++ (tabbed (mark b) ++ (10 ∷ [])))) ≡ slot-text c s (state-in row) b
 unfolding line-of values-text
 slot-is c s [] n b h p = absurd (omega arith)
 slot-is c s (x ∷ xs) n b h p =
@@ -84,7 +84,7 @@ slot-is c s (x ∷ xs) n b h p =
 -- the lines of s slots from slot k on, and of one more
 module _ (c : Chart) (wa : List ℕ) (w : ℕ) where
   abbrev line : ℕ → List ℤ → List ℕ
-  line k row = slot-text c wa k (state-in row)
+  line k row = slot-text c k (state-in row) (some-of (eqb k) wa)
 
   slots-snoc : (k s : ℕ) (t : List ℤ) → slots-text c wa k (states-in w (suc s) t) ≡ slots-text c wa k (states-in w s t) ++ line (k + s) (take w (drop (s * w) t))
   slots-snoc k zero t =
@@ -149,7 +149,7 @@ marked-from-none n ks s h =
 
 pub listing-is : (c : Chart) (t l : List ℤ) (a : Analysis)
     → header-text a ++ slots-text c (map natAbs (take (a .waiting) l)) 0 (states-in (width c) (a .used) t) ≡ listing-text c (load c (lent t l a))
-unfolding header-text listing-text load
+unfolding listing-text load
 listing-is c t l a = rw (states-count c (a .used) t)
 
 -- of rule 21, that the counts are in order

@@ -5,11 +5,9 @@ use Prim.Native.Nat.{ℕ}
 use lib.IntN.{ℤ}
 use lib.ListN.{set}
 use Rattle.semantics.specs.Lists.{each}
-use Rattle.semantics.specs.Text.{bytes, decimal, line-of}
-use Rattle.semantics.specs.Chart.{Chart}
-use Rattle.semantics.specs.Constants.{AbstractState}
+use Rattle.semantics.specs.Text.{decimal}
 use Rattle.semantics.specs.Encoding.{val}
-use Rattle.semantics.specs.Listing.{mode-text, order-text, verdict-text, loc-text, val-text, mark}
+use Rattle.semantics.specs.Listing.{mode-text, order-text, verdict-text, val-text}
 use Rattle.semantics.specs.declared.Analysis.{Analysis}
 
 -- a field that is not a line's first
@@ -27,18 +25,6 @@ words-text a = tabbed (mode-text (a .settings .merge)) ++ (tabbed (mode-text (a 
 -- of the first line, the counts: "rounds, used slots, alarm edge or 0"
 unfoldable pub counts-text : Analysis → List ℕ
 counts-text a = tabbed (decimal (a .iterations)) ++ (tabbed (decimal (a .used)) ++ tabbed (decimal (a .edge .0)))
-
--- the first line, from the record
-unfoldable pub header-text : Analysis → List ℕ
-header-text a =
-    line-of (bytes "walk") (
-    mode-text (a .settings .merge) ∷ mode-text (a .settings .stop) ∷ order-text (a .settings .order) ∷ verdict-text (a .verdict)
-    ∷ decimal (a .iterations) ∷ decimal (a .used) ∷ decimal (a .edge .0) ∷ []
-    )
-
--- a slot's line, by whether the slot waits
-abbrev pub marked-text : Chart → ℕ → AbstractState → Bool → List ℕ
-marked-text c s e b = line-of (decimal s) (loc-text (c .locs) (e .loc) ∷ (map val-text (e .vals) ++ (mark b ∷ [])))
 
 -- the marks, after those of the slots in a list were set
 unfoldable pub marked : List Bool → List ℕ → List Bool

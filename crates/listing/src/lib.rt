@@ -17,11 +17,11 @@ ghost use lib.ListN.{length, set};
 ghost use Rattle.semantics.specs.Text.{decimal};
 ghost use Rattle.semantics.specs.Encoding.{val, decode, well-formed};
 ghost use Rattle.semantics.specs.Memory.{width, state-in, states-in, load, analysis-ok};
-ghost use Rattle.semantics.specs.Listing.{mode-text, order-text, verdict-text, loc-text, val-text, mark, slots-text, listing-text};
+ghost use Rattle.semantics.specs.Listing.{mode-text, order-text, verdict-text, loc-text, val-text, mark, slot-text, slots-text, header-text, listing-text};
 ghost use Rattle.semantics.specs.Outcomes.{refusal, text-of, listing-cases, listing-outcome};
 ghost use Rattle.form.specs.Form.{lent};
 ghost use Rattle.writing.specs.Writing.{Put, limit};
-ghost use Rattle.listing.specs.Pieces.{tabbed, values-text, words-text, counts-text, header-text, marked-text, marked};
+ghost use Rattle.listing.specs.Pieces.{tabbed, values-text, words-text, counts-text, marked};
 
 // A field that is not a line's first: a tab, and its bytes.
 fn put_field(out: &mut [u8], at: usize, field: &[u8]) -> usize
@@ -185,7 +185,7 @@ fn put_slot(
     waiting: bool,
 ) -> usize
     requires { ⌜ T (well-formed (now chart)) × (1 ≤ length (now row)) ⌝ }
-    ensures { λ r. ⌜ Put at (marked-text (decode (now (chart .entry))) (slot .0) (state-in (now (row .entry))) waiting) (now (out .entry)) (now (out .exit)) r ⌝ }
+    ensures { λ r. ⌜ Put at (slot-text (decode (now (chart .entry))) (slot .0) (state-in (now (row .entry))) waiting) (now (out .entry)) (now (out .exit)) r ⌝ }
 {
     let location = rows::location_of(row);
     let name = writing::put_decimal(out, at, slot.0);

@@ -14,12 +14,11 @@ use lib.ListN.{length, take, drop, getD}
 use Rattle.semantics.specs.Lists.{some-of}
 use Rattle.semantics.specs.Encoding.{count, decode}
 use Rattle.semantics.specs.Memory.{width, state-in, states-in}
-use Rattle.semantics.specs.Listing.{slots-text}
+use Rattle.semantics.specs.Listing.{slot-text, slots-text}
 use Rattle.words.proofs.Rows.{span, part-length, row-in}
 use Rattle.semantics.proofs.Decoded.{vars-count}
 use Rattle.writing.specs.Writing.{Put}
 use Rattle.writing.proofs.Written.{put-then, put-same}
-use Rattle.listing.specs.Pieces.{marked-text}
 use Rattle.listing.proofs.Facts.{put-start, slots-turn, marked-from-none}
 use Rattle.listing.proofs.put_slots.Statement.{statement}
 use Rattle.listing.proofs.put_slots.Tie as tie
@@ -90,7 +89,7 @@ loop-again c =
       c .before .before .put-slot .kept .0 ∙ l .inv .2,
       put-same
           (sym (slots-turn k wa (w p) (l .s) (table p)))
-          (put-then (l .inv .3) (put-same (λ j. marked-text k (l .s) (state-in (row j)) (mark-of p j)) (c .before .before .put-slot .ensures))),
+          (put-then (l .inv .3) (put-same (λ j. slot-text k (l .s) (state-in (row j)) (mark-of p j)) (c .before .before .put-slot .ensures))),
     )
 
 returns : tie.Need-returns Inv-loop μ-loop
