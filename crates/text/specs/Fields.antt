@@ -20,6 +20,8 @@ use Rattle.text.specs.declared.NumberRead.{NumberRead}
 use Rattle.text.specs.declared.NumberRead.the-variants as number
 use Rattle.text.specs.declared.Index.{Index}
 use Rattle.text.specs.declared.Index.the-variants as index
+use Rattle.text.specs.declared.LocationRead.{LocationRead}
+use Rattle.text.specs.declared.LocationRead.the-variants as location
 use Rattle.text.specs.declared.Word.{Word}
 use Rattle.text.specs.declared.Word.the-variants as signed
 use Rattle.text.specs.declared.Operand.{Operand}
@@ -72,6 +74,11 @@ number-said (number.Is z) = some z
 unfoldable pub index-res : Index → Res ℕ
 index-res (index.Refused k) = fail k
 index-res (index.Is n) = ok n
+
+-- a location, by the number of its id
+unfoldable pub location-res : LocationRead → Res ℕ
+location-res (location.Refused k) = fail k
+location-res (location.Is l) = ok (l .0)
 
 unfoldable pub word-res : Word → Res ℤ
 word-res (signed.Refused k) = fail k

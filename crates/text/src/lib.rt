@@ -1,4 +1,5 @@
 // Reading pieces of a text: its lines, the fields of a line, and what one field says or by which number it is refused.
+use semantics::LocationId;
 ghost use mathlib.Core.Path.{_≡_};
 ghost use Prim.Native.Nat.{_≤_, min};
 ghost use lib.Dec.{eqb};
@@ -8,7 +9,7 @@ ghost use Rattle.semantics.specs.Text.{same-bytes, fields, name-byte, name-ok, 
 ghost use Rattle.semantics.specs.Chart.{within, known, num, var};
 ghost use Rattle.semantics.specs.Reading.{ok, check, if-ok, nth, none-empty, small-or, number-field, below-or, location-field, target-field, operand-field, init-field, kind-field, rel-field, op-word-field};
 ghost use Rattle.semantics.specs.Reading.{filled as filled-with};
-ghost use Rattle.text.specs.Fields.{Found, natural-read, number-read, natural-said, number-said, index-res, word-res, init-res, operand-res, flag-res, rel-res, op-word-res};
+ghost use Rattle.text.specs.Fields.{Found, natural-read, number-read, natural-said, number-said, index-res, location-res, word-res, init-res, operand-res, flag-res, rel-res, op-word-res};
 
 pub fn same_bytes(a: &[u8], b: &[u8]) -> bool
     ensures { λ r. ⌜ r ≡ same-bytes (now (a .entry)) (now (b .entry)) ⌝ }
@@ -237,10 +238,15 @@ pub fn number(f: &[u8]) -> NumberRead
     unsigned(f)
 }
 
-// What a field says, or the refusal's number. First, a location or a variable by its number.
+// What a field says, or the refusal's number. First, a variable by its number.
 pub enum Index {
     Refused(u32),
     Is(usize),
+}
+
+pub enum LocationRead {
+    Refused(u32),
+    Is(LocationId),
 }
 
 // A number, or the word of an initial value.
@@ -329,11 +335,14 @@ fn below(count: usize, n: NumberRead) -> Index
     }
 }
 
-pub fn location_field(count: usize, f: &[u8]) -> Index
+pub fn location_field(count: usize, f: &[u8]) -> LocationRead
     requires { ⌜ count ≤ 256 ⌝ }
-    ensures { λ r. ⌜ index-res r ≡ location-field count (now (f .entry)) ⌝ }
+    ensures { λ r. ⌜ location-res r ≡ location-field count (now (f .entry)) ⌝ }
 {
-    below(count, number(f))
+    match below(count, number(f)) {
+        Index::Refused(n) => LocationRead::Refused(n),
+        Index::Is(k) => LocationRead::Is(LocationId(k)),
+    }
 }
 
 pub fn target_field(count: usize, f: &[u8]) -> Index
