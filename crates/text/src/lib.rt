@@ -290,19 +290,13 @@ pub enum OpWord {
     Skip,
 }
 
-fn inside(lo: i32, hi: i32, z: i32) -> bool
-    ensures { λ r. ⌜ r ≡ within lo hi z ⌝ }
-{
-    (lo <= z) & (z <= hi)
-}
-
 fn small_word(n: NumberRead) -> Word
     ensures { λ r. ⌜ word-res r ≡ small-or (number-said n) ⌝ }
 {
     match n {
         NumberRead::Malformed => Word::Refused(6),
         NumberRead::Is(z) => {
-            if inside(-32768, 32767, z) {
+            if words::lies_within(-32768, 32767, z) {
                 return Word::Is(z);
             }
             Word::Refused(7)
@@ -403,7 +397,7 @@ fn init_number(lo: i32, hi: i32, f: &[u8]) -> Word
     match number_field(f) {
         Word::Refused(n) => Word::Refused(n),
         Word::Is(z) => {
-            if inside(lo, hi, z) {
+            if words::lies_within(lo, hi, z) {
                 return Word::Is(z);
             }
             Word::Refused(7)
