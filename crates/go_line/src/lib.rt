@@ -154,7 +154,7 @@ fn judged(line: &[u8]) -> Asked
 fn byte_ok(b: u8) -> bool
     ensures { λ r. ⌜ r ≡ line-byte b ⌝ }
 {
-    (b == 9) | ((33 <= b) & (b <= 126))
+    (b == semantics::TAB) | ((33 <= b) & (b <= 126))
 }
 
 fn bytes_ok(line: &[u8]) -> bool

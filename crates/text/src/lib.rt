@@ -45,7 +45,7 @@ fn find(text: &[u8], from: usize, b: u8) -> usize
 pub fn line_end(text: &[u8], from: usize) -> usize
     ensures { λ r. ⌜ Found 10 (now (text .entry)) from r ⌝ }
 {
-    find(text, from, 10)
+    find(text, from, semantics::LF)
 }
 
 // Field k of a line, as a part of it; empty past the last.
@@ -55,7 +55,7 @@ pub fn field(line: &[u8], k: usize) -> &[u8]
     let mut at = 0;
     let mut left = k;
     loop {
-        let end = find(line, at, 9);
+        let end = find(line, at, semantics::TAB);
         if left == 0 {
             return &line[at..end];
         }
@@ -71,7 +71,7 @@ pub fn field(line: &[u8], k: usize) -> &[u8]
 fn parted(b: u8) -> usize
     ensures { λ r. ⌜ r ≡ pick (eqb b 9) 1 0 ⌝ }
 {
-    if b == 9 {
+    if b == semantics::TAB {
         return 1;
     }
     0
@@ -94,7 +94,7 @@ pub fn none_empty(line: &[u8]) -> bool
 {
     let mut at = 0;
     loop {
-        let end = find(line, at, 9);
+        let end = find(line, at, semantics::TAB);
         if end == at {
             return false;
         }
