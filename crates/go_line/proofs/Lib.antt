@@ -1,2 +1,3 @@
 pub mod FirstLine
 pub mod Cut
+pub mod OneField
