@@ -1,4 +1,4 @@
--- One field by its tests: a number below a count, `$k`, an operand, an initial value, one of some words. Assumes nothing.
+-- One field by its tests: a number below a count, `$k`, an operand, an initial value, a word. Assumes nothing.
 use mathlib.Core.Path.{_≡_, refl, sym, ap, subst, _∙_}
 use mathlib.Core.Bool.{Bool, true, false}
 use mathlib.Core.List.{List, [], _∷_}

@@ -1,5 +1,5 @@
--- What the answers of the functions over a field say: each enum as document 01's number or value, and a number cut where no test can
--- tell any more how large it is. Assumes nothing.
+-- What the answers of the functions over a field say: each enum as document 01's number or value, and a number cut
+-- where no test can tell any more how large it is. Assumes nothing.
 use mathlib.Core.Path.{_≡_}
 use mathlib.Core.Bool.{Bool}
 use mathlib.Core.List.{List, [], _∷_}
@@ -48,14 +48,17 @@ pub record Found (s : ℕ) (l : List ℕ) (from r : ℕ) : Type 0 where
 
 -- ---- numbers, of any length, with the magnitude cut at 100,000
 
+-- a number cut so, on either side of 0
 abbrev pub clamp : ℤ → ℤ
 clamp (pos n) = pos (min n 100000)
 clamp (negsuc n) = negsuc (min n 99999)
 
+-- how the code answers a number without sign
 unfoldable pub natural-read : Option ℕ → Natural
 natural-read none = natural.Malformed
 natural-read (some n) = natural.Is (min n 100000)
 
+-- how it answers a number
 unfoldable pub number-read : Option ℤ → NumberRead
 number-read none = number.Malformed
 number-read (some z) = number.Is (clamp z)
@@ -65,12 +68,14 @@ unfoldable pub natural-said : Natural → Option ℕ
 natural-said natural.Malformed = none
 natural-said (natural.Is n) = some n
 
+-- the same of a number
 unfoldable pub number-said : NumberRead → Option ℤ
 number-said number.Malformed = none
 number-said (number.Is z) = some z
 
 -- ---- fields: the refusal's number, or what the field says
 
+-- a variable by its number
 unfoldable pub index-res : Index → Res ℕ
 index-res (index.Refused k) = fail k
 index-res (index.Is n) = ok n
@@ -80,6 +85,7 @@ unfoldable pub location-res : LocationRead → Res ℕ
 location-res (location.Refused k) = fail k
 location-res (location.Is l) = ok (l .0)
 
+-- a number
 unfoldable pub word-res : Word → Res ℤ
 word-res (signed.Refused k) = fail k
 word-res (signed.Is z) = ok z
@@ -89,15 +95,18 @@ unfoldable pub init-res : Word → Res Value
 init-res (signed.Refused k) = fail k
 init-res (signed.Is z) = ok (val z)
 
+-- "An operand is a number or `$k`"
 unfoldable pub operand-res : Operand → Res ChartOperand
 operand-res (operand.Refused k) = fail k
 operand-res (operand.Number z) = ok (num z)
 operand-res (operand.Var k) = ok (var k)
 
+-- whether a location is bad
 unfoldable pub flag-res : Flag → Res Bool
 flag-res (flag.Refused k) = fail k
 flag-res (flag.Is b) = ok b
 
+-- a relation word
 unfoldable pub rel-res : Relation → Res Rel
 rel-res (relation.Refused k) = fail k
 rel-res relation.Eq = ok eq
@@ -107,6 +116,7 @@ rel-res relation.Le = ok le
 rel-res relation.Gt = ok gt
 rel-res relation.Ge = ok ge
 
+-- an operation word
 unfoldable pub op-word-res : OpWord → Res ReadingOpWord
 op-word-res (op-word.Refused k) = fail k
 op-word-res op-word.Set = ok do-set

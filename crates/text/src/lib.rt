@@ -89,6 +89,7 @@ pub fn field_count(line: &[u8]) -> usize
     n
 }
 
+// No field of the line is empty.
 pub fn none_empty(line: &[u8]) -> bool
     ensures { λ r. ⌜ r ≡ none-empty (fields (now (line .entry))) ⌝ }
 {
@@ -112,12 +113,14 @@ pub fn filled(line: &[u8], count: usize) -> bool
     (field_count(line) == count) & none_empty(line)
 }
 
+// A letter, a digit or a hyphen.
 fn name_byte(b: u8) -> bool
     ensures { λ r. ⌜ r ≡ name-byte b ⌝ }
 {
     ((65 <= b) & (b <= 90)) | ((97 <= b) & (b <= 122)) | ((48 <= b) & (b <= 57)) | (b == 45)
 }
 
+// 1 to 16 such bytes.
 pub fn name_ok(f: &[u8]) -> bool
     ensures { λ r. ⌜ r ≡ name-ok (now (f .entry)) ⌝ }
 {
@@ -149,18 +152,21 @@ pub enum NumberRead {
     Is(i32),
 }
 
+// Beyond 100,000 no test tells two numbers apart; cut there, digits of any length never overflow.
 fn cut(n: u32) -> u32
     ensures { λ r. ⌜ r ≡ min n 100000 ⌝ }
 {
     if n < 100000 { n } else { 100000 }
 }
 
+// A byte in 32 bits.
 fn wide(b: u8) -> u32
     ensures { λ r. ⌜ r ≡ b ⌝ }
 {
     b as u32
 }
 
+// The number that digits write; 0 where there are none.
 fn digits_in(f: &[u8]) -> Natural
     ensures { λ r. ⌜ r ≡ natural-read (digits 0 (now (f .entry))) ⌝ }
 {
@@ -180,6 +186,7 @@ fn digits_in(f: &[u8]) -> Natural
     Natural::Is(n)
 }
 
+// 0, or digits that do not begin with 0.
 fn natural_in(f: &[u8]) -> Natural
     ensures { λ r. ⌜ r ≡ natural-read (natural-of (now (f .entry))) ⌝ }
 {
@@ -195,6 +202,7 @@ fn natural_in(f: &[u8]) -> Natural
     Natural::Malformed
 }
 
+// The number that stands after no sign.
 fn plus(n: Natural) -> NumberRead
     ensures { λ r. ⌜ r ≡ number-read (nonnegative (natural-said n)) ⌝ }
 {
@@ -204,6 +212,7 @@ fn plus(n: Natural) -> NumberRead
     }
 }
 
+// The number that stands after `-`; there is no `-0`.
 fn minus(n: Natural) -> NumberRead
     ensures { λ r. ⌜ r ≡ number-read (negative (natural-said n)) ⌝ }
 {
@@ -218,14 +227,14 @@ fn minus(n: Natural) -> NumberRead
     }
 }
 
-// A number without sign.
+// A number, where no `-` may stand.
 fn unsigned(f: &[u8]) -> NumberRead
     ensures { λ r. ⌜ r ≡ number-read (nonnegative (natural-of (now (f .entry)))) ⌝ }
 {
     plus(natural_in(f))
 }
 
-// A number of any length.
+// A number of any length, with or without `-`.
 pub fn number(f: &[u8]) -> NumberRead
     ensures { λ r. ⌜ r ≡ number-read (number-of (now (f .entry))) ⌝ }
 {
@@ -244,6 +253,7 @@ pub enum Index {
     Is(usize),
 }
 
+// A location, by its id.
 pub enum LocationRead {
     Refused(u32),
     Is(LocationId),
@@ -290,6 +300,7 @@ pub enum OpWord {
     Skip,
 }
 
+// 6 in form, 7 outside of -32,768..32,767.
 fn small_word(n: NumberRead) -> Word
     ensures { λ r. ⌜ word-res r ≡ small-or (number-said n) ⌝ }
 {
@@ -310,7 +321,7 @@ pub fn number_field(f: &[u8]) -> Word
     small_word(number(f))
 }
 
-// One of the first `count` numbers.
+// A number from 0 up to, not including, `count`: 6 in form, else 10.
 fn below(count: usize, n: NumberRead) -> Index
     ensures { λ r. ⌜ index-res r ≡ below-or count (number-said n) ⌝ }
 {
@@ -329,6 +340,7 @@ fn below(count: usize, n: NumberRead) -> Index
     }
 }
 
+// One of `count` locations.
 pub fn location_field(count: usize, f: &[u8]) -> LocationRead
     requires { ⌜ count ≤ 256 ⌝ }
     ensures { λ r. ⌜ location-res r ≡ location-field count (now (f .entry)) ⌝ }
@@ -339,6 +351,7 @@ pub fn location_field(count: usize, f: &[u8]) -> LocationRead
     }
 }
 
+// One of `count` variables, as `$k`.
 pub fn target_field(count: usize, f: &[u8]) -> Index
     requires { ⌜ count ≤ 256 ⌝ }
     ensures { λ r. ⌜ index-res r ≡ target-field count (now (f .entry)) ⌝ }
@@ -428,6 +441,7 @@ pub fn kind_field(f: &[u8]) -> Flag
     Flag::Refused(6)
 }
 
+// One of the six relation words.
 pub fn rel_field(f: &[u8]) -> Relation
     ensures { λ r. ⌜ rel-res r ≡ rel-field (now (f .entry)) ⌝ }
 {
@@ -452,6 +466,7 @@ pub fn rel_field(f: &[u8]) -> Relation
     Relation::Refused(6)
 }
 
+// One of the six operation words.
 pub fn op_word_field(f: &[u8]) -> OpWord
     ensures { λ r. ⌜ op-word-res r ≡ op-word-field (now (f .entry)) ⌝ }
 {
