@@ -1,5 +1,5 @@
--- The definition of the go line in the parts that the code judges one after the other, and what its answers say. Document 01, "The
--- walk program and its listing". Assumes nothing.
+-- The definition of the go line in the parts that the code judges one after the other, and what its answers say.
+-- Document 01, "The walk program and its listing". Assumes nothing.
 use mathlib.Core.Path.{_≡_}
 use mathlib.Core.Bool.{_&&_, not}
 use mathlib.Core.List.{List}
@@ -31,17 +31,17 @@ use Rattle.go_line.specs.declared.OrderRead.the-variants as order-read
 
 -- ---- what the answers say
 
--- merge or stop; malformed is 6
+-- a merge or a stop; malformed is 6
 unfoldable pub mode-res : ModeRead → Res Mode
 mode-res mode-read.Malformed = fail 6
 mode-res (mode-read.Is m) = ok m
 
--- order; malformed is 6
+-- an order; malformed is 6
 unfoldable pub order-res : OrderRead → Res Order
 order-res order-read.Malformed = fail 6
 order-res (order-read.Is o) = ok o
 
--- the refusal's number, or what is asked
+-- what a line asks
 unfoldable pub asked-res : Asked → Res Asking
 asked-res (asked.Refused n) = fail n
 asked-res (asked.Is s r a) = ok (record { settings = s; capacity = r; budget = a })
@@ -60,24 +60,24 @@ sized s r a =
 unfoldable pub numbers : Settings → Option ℤ → Option ℤ → Res Asking
 numbers s p q = if-ok (any-number p) λ r. if-ok (any-number q) λ a. sized s r a
 
--- "`go`, merge, stop, order, room, allowance as one tabbed line"
+-- the fields from the order on: "`go`, merge, stop, order, room, allowance as one tabbed line"
 abbrev pub from-order : Mode → Mode → List (List ℕ) → Res Asking
 from-order m s fs = if-ok (order-field (nth fs 3)) λ o. numbers (record { merge = m; stop = s; order = o }) (number-of (nth fs 4)) (number-of (nth fs 5))
 
--- the fields from stop on; m is the merge
+-- the fields from the stop on
 abbrev pub from-stop : Mode → List (List ℕ) → Res Asking
 from-stop m fs = if-ok (mode-field (nth fs 2)) λ s. from-order m s fs
 
--- the fields from merge on
+-- the fields from the merge on
 abbrev pub from-merge : List (List ℕ) → Res Asking
 from-merge fs = if-ok (mode-field (nth fs 1)) λ m. from-stop m fs
 
--- the line's fields, by 5, then from left to right by 6
+-- the line by its fields: "5, 6, 11, 12, 13"
 unfoldable pub line-fields : List (List ℕ) → Res Asking
 line-fields fs = check (filled 6 fs) 5 (check (same-bytes (nth fs 0) (bytes "go")) 6 (from-merge fs))
 
--- the line by the place e of its LF, which is the input's length where there is none: "by 1 (input above 64 bytes with no LF in its
--- first 64), 2, 3 (empty input too), 5, 6, 11, 12, 13"
+-- the line by the place e of its LF, which is the input's length where there is none: "by 1 (input above 64 bytes with
+-- no LF in its first 64), 2, 3 (empty input too), 5, 6, 11, 12, 13"
 unfoldable pub by-end : ℕ → List ℕ → Res Asking
 by-end e input =
     check (not (ltb 64 (length input) && leb 64 e)) 1

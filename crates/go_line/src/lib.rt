@@ -18,6 +18,7 @@ pub struct Go {
     pub chart: usize,
 }
 
+// The refusal's number, or what the go line asks.
 pub enum GoLine {
     Refused(u32),
     Accepted(Go),
@@ -151,10 +152,11 @@ fn judged(line: &[u8]) -> Asked
     from_merge(line)
 }
 
+// A tab, or 0x21..0x7E: what may stand before the LF.
 fn byte_ok(b: u8) -> bool
     ensures { λ r. ⌜ r ≡ line-byte b ⌝ }
 {
-    (b == 9) | ((33 <= b) & (b <= 126))
+    (b == semantics::TAB) | ((33 <= b) & (b <= 126))
 }
 
 fn bytes_ok(line: &[u8]) -> bool

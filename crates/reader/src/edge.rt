@@ -76,12 +76,8 @@ fn with_from(
     ensures { λ r. ⌜ edge-res r ≡ from-after (from .0) (t .locs) (op-read (now (table .entry)) (t .vars) (the-word w) (fields (now (line .entry)))) (fields (now (line .entry))) ⌝ }
 {
     match text::location_field(t.locs, text::field(line, 2)) {
-        text::Index::Refused(k) => EdgeLine::Refused(k),
-        text::Index::Is(to) => with_op(
-            from,
-            semantics::LocationId(to),
-            operation::read(w, t.vars, table, line),
-        ),
+        text::LocationRead::Refused(k) => EdgeLine::Refused(k),
+        text::LocationRead::Is(to) => with_op(from, to, operation::read(w, t.vars, table, line)),
     }
 }
 
@@ -91,8 +87,8 @@ fn judged(w: text::OpWord, t: Tally, table: &[i32], line: &[u8]) -> EdgeLine
     ensures { λ r. ⌜ edge-res r ≡ edge-read (t .locs) (op-read (now (table .entry)) (t .vars) (the-word w) (fields (now (line .entry)))) (fields (now (line .entry))) ⌝ }
 {
     match text::location_field(t.locs, text::field(line, 1)) {
-        text::Index::Refused(k) => EdgeLine::Refused(k),
-        text::Index::Is(from) => with_from(semantics::LocationId(from), w, t, table, line),
+        text::LocationRead::Refused(k) => EdgeLine::Refused(k),
+        text::LocationRead::Is(from) => with_from(from, w, t, table, line),
     }
 }
 

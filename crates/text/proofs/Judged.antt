@@ -1,4 +1,4 @@
--- One field by its tests: a place below a count, a variable after `$`, an operand, an initial value. Assumes nothing.
+-- One field by its tests: a number below a count, `$k`, an operand, an initial value, a word. Assumes nothing.
 use mathlib.Core.Path.{_≡_, refl, sym, ap, subst, _∙_}
 use mathlib.Core.Bool.{Bool, true, false}
 use mathlib.Core.List.{List, [], _∷_}
@@ -11,6 +11,7 @@ use lib.Seq.{take-length}
 use lib.IntN.{ℤ, pos, negsuc, natAbs}
 use lib.Signed.{ltZ}
 use borrow.Author.Tests.{eq-eqb, ne-eqb, lt-ltb, le-ltb, ltb-true}
+use Rattle.semantics.specs.Lists.{pick}
 use Rattle.semantics.specs.Text.{bytes, same-bytes, natural-of, nonnegative, number-of}
 use Rattle.semantics.specs.Chart.{known, top, num, var, small, within}
 use Rattle.semantics.specs.Encoding.{val}
@@ -98,3 +99,16 @@ module _ (lo hi : ℤ) (l : List ℕ) where
     pub init-out : within lo hi z ≡ false → fail 7 ≡ if-ok (number-field l) (λ x. check (within lo hi x) 7 (ok (known x)))
     unfolding if-ok check
     init-out h = rw is (rw h)
+
+-- ---- one of some words
+
+-- the field is compared with one word after the other, and b is what a comparison answered
+module _ {A : Type 0} {b t : Bool} (answer : b ≡ t) (a r : A) where
+  pub word-is : b ≡ true → a ≡ pick t a r
+  word-is h = rw (sym answer ∙ h)
+
+  pub word-not : {x : A} → b ≡ false → x ≡ r → x ≡ pick t a r
+  word-not h e = rw (sym answer ∙ h) e
+
+-- for `search`: past the words that the field is not, to the one that it is
+pub ruleset word-by-word = (word-not, word-is)

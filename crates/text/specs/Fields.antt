@@ -1,5 +1,5 @@
--- What the answers of the functions over a field say: each enum as document 01's number or value, and a number cut where no test can
--- tell any more how large it is. Assumes nothing.
+-- What the answers of the functions over a field say: each enum as document 01's number or value, and a number cut
+-- where no test can tell any more how large it is. Assumes nothing.
 use mathlib.Core.Path.{_≡_}
 use mathlib.Core.Bool.{Bool}
 use mathlib.Core.List.{List, [], _∷_}
@@ -20,6 +20,8 @@ use Rattle.text.specs.declared.NumberRead.{NumberRead}
 use Rattle.text.specs.declared.NumberRead.the-variants as number
 use Rattle.text.specs.declared.Index.{Index}
 use Rattle.text.specs.declared.Index.the-variants as index
+use Rattle.text.specs.declared.LocationRead.{LocationRead}
+use Rattle.text.specs.declared.LocationRead.the-variants as location
 use Rattle.text.specs.declared.Word.{Word}
 use Rattle.text.specs.declared.Word.the-variants as signed
 use Rattle.text.specs.declared.Operand.{Operand}
@@ -46,17 +48,17 @@ pub record Found (s : ℕ) (l : List ℕ) (from r : ℕ) : Type 0 where
 
 -- ---- numbers, of any length, with the magnitude cut at 100,000
 
--- the number with its magnitude cut
+-- a number cut so, on either side of 0
 abbrev pub clamp : ℤ → ℤ
 clamp (pos n) = pos (min n 100000)
 clamp (negsuc n) = negsuc (min n 99999)
 
--- the answer for a number without sign
+-- how the code answers a number without sign
 unfoldable pub natural-read : Option ℕ → Natural
 natural-read none = natural.Malformed
 natural-read (some n) = natural.Is (min n 100000)
 
--- the answer for a number
+-- how it answers a number
 unfoldable pub number-read : Option ℤ → NumberRead
 number-read none = number.Malformed
 number-read (some z) = number.Is (clamp z)
@@ -66,19 +68,24 @@ unfoldable pub natural-said : Natural → Option ℕ
 natural-said natural.Malformed = none
 natural-said (natural.Is n) = some n
 
--- the same of a number with a sign
+-- the same of a number
 unfoldable pub number-said : NumberRead → Option ℤ
 number-said number.Malformed = none
 number-said (number.Is z) = some z
 
 -- ---- fields: the refusal's number, or what the field says
 
--- an answer for a location or a variable, by its number
+-- a variable by its number
 unfoldable pub index-res : Index → Res ℕ
 index-res (index.Refused k) = fail k
 index-res (index.Is n) = ok n
 
--- an answer for a number
+-- a location, by the number of its id
+unfoldable pub location-res : LocationRead → Res ℕ
+location-res (location.Refused k) = fail k
+location-res (location.Is l) = ok (l .0)
+
+-- a number
 unfoldable pub word-res : Word → Res ℤ
 word-res (signed.Refused k) = fail k
 word-res (signed.Is z) = ok z
@@ -88,18 +95,18 @@ unfoldable pub init-res : Word → Res Value
 init-res (signed.Refused k) = fail k
 init-res (signed.Is z) = ok (val z)
 
--- an answer for an operand
+-- "An operand is a number or `$k`"
 unfoldable pub operand-res : Operand → Res ChartOperand
 operand-res (operand.Refused k) = fail k
 operand-res (operand.Number z) = ok (num z)
 operand-res (operand.Var k) = ok (var k)
 
--- an answer for a kind: whether it is `e`
+-- whether a location is bad
 unfoldable pub flag-res : Flag → Res Bool
 flag-res (flag.Refused k) = fail k
 flag-res (flag.Is b) = ok b
 
--- an answer for a relation
+-- a relation word
 unfoldable pub rel-res : Relation → Res Rel
 rel-res (relation.Refused k) = fail k
 rel-res relation.Eq = ok eq
@@ -109,7 +116,7 @@ rel-res relation.Le = ok le
 rel-res relation.Gt = ok gt
 rel-res relation.Ge = ok ge
 
--- an answer for an operation's word
+-- an operation word
 unfoldable pub op-word-res : OpWord → Res ReadingOpWord
 op-word-res (op-word.Refused k) = fail k
 op-word-res op-word.Set = ok do-set

@@ -1,4 +1,5 @@
 // Reading pieces of a text: its lines, the fields of a line, and what one field says or by which number it is refused.
+use semantics::LocationId;
 ghost use mathlib.Core.Path.{_≡_};
 ghost use Prim.Native.Nat.{_≤_, min};
 ghost use lib.Dec.{eqb};
@@ -8,7 +9,7 @@ ghost use Rattle.semantics.specs.Text.{same-bytes, fields, name-byte, name-ok, 
 ghost use Rattle.semantics.specs.Chart.{within, known, num, var};
 ghost use Rattle.semantics.specs.Reading.{ok, check, if-ok, nth, none-empty, small-or, number-field, below-or, location-field, target-field, operand-field, init-field, kind-field, rel-field, op-word-field};
 ghost use Rattle.semantics.specs.Reading.{filled as filled-with};
-ghost use Rattle.text.specs.Fields.{Found, natural-read, number-read, natural-said, number-said, index-res, word-res, init-res, operand-res, flag-res, rel-res, op-word-res};
+ghost use Rattle.text.specs.Fields.{Found, natural-read, number-read, natural-said, number-said, index-res, location-res, word-res, init-res, operand-res, flag-res, rel-res, op-word-res};
 
 pub fn same_bytes(a: &[u8], b: &[u8]) -> bool
     ensures { λ r. ⌜ r ≡ same-bytes (now (a .entry)) (now (b .entry)) ⌝ }
@@ -44,7 +45,7 @@ fn find(text: &[u8], from: usize, b: u8) -> usize
 pub fn line_end(text: &[u8], from: usize) -> usize
     ensures { λ r. ⌜ Found 10 (now (text .entry)) from r ⌝ }
 {
-    find(text, from, 10)
+    find(text, from, semantics::LF)
 }
 
 // Field k of a line, as a part of it; empty past the last.
@@ -54,7 +55,7 @@ pub fn field(line: &[u8], k: usize) -> &[u8]
     let mut at = 0;
     let mut left = k;
     loop {
-        let end = find(line, at, 9);
+        let end = find(line, at, semantics::TAB);
         if left == 0 {
             return &line[at..end];
         }
@@ -70,7 +71,7 @@ pub fn field(line: &[u8], k: usize) -> &[u8]
 fn parted(b: u8) -> usize
     ensures { λ r. ⌜ r ≡ pick (eqb b 9) 1 0 ⌝ }
 {
-    if b == 9 {
+    if b == semantics::TAB {
         return 1;
     }
     0
@@ -88,12 +89,13 @@ pub fn field_count(line: &[u8]) -> usize
     n
 }
 
+// No field of the line is empty.
 pub fn none_empty(line: &[u8]) -> bool
     ensures { λ r. ⌜ r ≡ none-empty (fields (now (line .entry))) ⌝ }
 {
     let mut at = 0;
     loop {
-        let end = find(line, at, 9);
+        let end = find(line, at, semantics::TAB);
         if end == at {
             return false;
         }
@@ -111,12 +113,14 @@ pub fn filled(line: &[u8], count: usize) -> bool
     (field_count(line) == count) & none_empty(line)
 }
 
+// A letter, a digit or a hyphen.
 fn name_byte(b: u8) -> bool
     ensures { λ r. ⌜ r ≡ name-byte b ⌝ }
 {
     ((65 <= b) & (b <= 90)) | ((97 <= b) & (b <= 122)) | ((48 <= b) & (b <= 57)) | (b == 45)
 }
 
+// 1 to 16 such bytes.
 pub fn name_ok(f: &[u8]) -> bool
     ensures { λ r. ⌜ r ≡ name-ok (now (f .entry)) ⌝ }
 {
@@ -148,18 +152,21 @@ pub enum NumberRead {
     Is(i32),
 }
 
+// Beyond 100,000 no test tells two numbers apart; cut there, digits of any length never overflow.
 fn cut(n: u32) -> u32
     ensures { λ r. ⌜ r ≡ min n 100000 ⌝ }
 {
     if n < 100000 { n } else { 100000 }
 }
 
+// A byte in 32 bits.
 fn wide(b: u8) -> u32
     ensures { λ r. ⌜ r ≡ b ⌝ }
 {
     b as u32
 }
 
+// The number that digits write; 0 where there are none.
 fn digits_in(f: &[u8]) -> Natural
     ensures { λ r. ⌜ r ≡ natural-read (digits 0 (now (f .entry))) ⌝ }
 {
@@ -179,6 +186,7 @@ fn digits_in(f: &[u8]) -> Natural
     Natural::Is(n)
 }
 
+// 0, or digits that do not begin with 0.
 fn natural_in(f: &[u8]) -> Natural
     ensures { λ r. ⌜ r ≡ natural-read (natural-of (now (f .entry))) ⌝ }
 {
@@ -194,6 +202,7 @@ fn natural_in(f: &[u8]) -> Natural
     Natural::Malformed
 }
 
+// The number that stands after no sign.
 fn plus(n: Natural) -> NumberRead
     ensures { λ r. ⌜ r ≡ number-read (nonnegative (natural-said n)) ⌝ }
 {
@@ -203,6 +212,7 @@ fn plus(n: Natural) -> NumberRead
     }
 }
 
+// The number that stands after `-`; there is no `-0`.
 fn minus(n: Natural) -> NumberRead
     ensures { λ r. ⌜ r ≡ number-read (negative (natural-said n)) ⌝ }
 {
@@ -217,14 +227,14 @@ fn minus(n: Natural) -> NumberRead
     }
 }
 
-// A number without sign.
+// A number, where no `-` may stand.
 fn unsigned(f: &[u8]) -> NumberRead
     ensures { λ r. ⌜ r ≡ number-read (nonnegative (natural-of (now (f .entry)))) ⌝ }
 {
     plus(natural_in(f))
 }
 
-// A number of any length.
+// A number of any length, with or without `-`.
 pub fn number(f: &[u8]) -> NumberRead
     ensures { λ r. ⌜ r ≡ number-read (number-of (now (f .entry))) ⌝ }
 {
@@ -237,10 +247,16 @@ pub fn number(f: &[u8]) -> NumberRead
     unsigned(f)
 }
 
-// What a field says, or the refusal's number. First, a location or a variable by its number.
+// What a field says, or the refusal's number. First, a variable by its number.
 pub enum Index {
     Refused(u32),
     Is(usize),
+}
+
+// A location, by its id.
+pub enum LocationRead {
+    Refused(u32),
+    Is(LocationId),
 }
 
 // A number, or the word of an initial value.
@@ -284,19 +300,14 @@ pub enum OpWord {
     Skip,
 }
 
-fn inside(lo: i32, hi: i32, z: i32) -> bool
-    ensures { λ r. ⌜ r ≡ within lo hi z ⌝ }
-{
-    (lo <= z) & (z <= hi)
-}
-
+// 6 in form, 7 outside of -32,768..32,767.
 fn small_word(n: NumberRead) -> Word
     ensures { λ r. ⌜ word-res r ≡ small-or (number-said n) ⌝ }
 {
     match n {
         NumberRead::Malformed => Word::Refused(6),
         NumberRead::Is(z) => {
-            if inside(-32768, 32767, z) {
+            if words::lies_within(-32768, 32767, z) {
                 return Word::Is(z);
             }
             Word::Refused(7)
@@ -310,7 +321,7 @@ pub fn number_field(f: &[u8]) -> Word
     small_word(number(f))
 }
 
-// One of the first `count` numbers.
+// A number from 0 up to, not including, `count`: 6 in form, else 10.
 fn below(count: usize, n: NumberRead) -> Index
     ensures { λ r. ⌜ index-res r ≡ below-or count (number-said n) ⌝ }
 {
@@ -329,13 +340,18 @@ fn below(count: usize, n: NumberRead) -> Index
     }
 }
 
-pub fn location_field(count: usize, f: &[u8]) -> Index
+// One of `count` locations.
+pub fn location_field(count: usize, f: &[u8]) -> LocationRead
     requires { ⌜ count ≤ 256 ⌝ }
-    ensures { λ r. ⌜ index-res r ≡ location-field count (now (f .entry)) ⌝ }
+    ensures { λ r. ⌜ location-res r ≡ location-field count (now (f .entry)) ⌝ }
 {
-    below(count, number(f))
+    match below(count, number(f)) {
+        Index::Refused(n) => LocationRead::Refused(n),
+        Index::Is(k) => LocationRead::Is(LocationId(k)),
+    }
 }
 
+// One of `count` variables, as `$k`.
 pub fn target_field(count: usize, f: &[u8]) -> Index
     requires { ⌜ count ≤ 256 ⌝ }
     ensures { λ r. ⌜ index-res r ≡ target-field count (now (f .entry)) ⌝ }
@@ -394,7 +410,7 @@ fn init_number(lo: i32, hi: i32, f: &[u8]) -> Word
     match number_field(f) {
         Word::Refused(n) => Word::Refused(n),
         Word::Is(z) => {
-            if inside(lo, hi, z) {
+            if words::lies_within(lo, hi, z) {
                 return Word::Is(z);
             }
             Word::Refused(7)
@@ -425,6 +441,7 @@ pub fn kind_field(f: &[u8]) -> Flag
     Flag::Refused(6)
 }
 
+// One of the six relation words.
 pub fn rel_field(f: &[u8]) -> Relation
     ensures { λ r. ⌜ rel-res r ≡ rel-field (now (f .entry)) ⌝ }
 {
@@ -449,6 +466,7 @@ pub fn rel_field(f: &[u8]) -> Relation
     Relation::Refused(6)
 }
 
+// One of the six operation words.
 pub fn op_word_field(f: &[u8]) -> OpWord
     ensures { λ r. ⌜ op-word-res r ≡ op-word-field (now (f .entry)) ⌝ }
 {

@@ -3,7 +3,6 @@ use borrow.Author.Needs.{needs}
 use mathlib.Core.Path.{sym, _∙_}
 use mir.Syntax.{w32}
 use mir.ValLaws.{toZ-ofZ}
-use Rattle.semantics.specs.Text.{same-bytes}
 use Rattle.text.specs.Fields.{init-res}
 use Rattle.text.proofs.Judged.{init-star, init-other}
 use Rattle.text.proofs.init_field.Statement.{statement}

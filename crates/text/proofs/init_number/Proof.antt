@@ -24,7 +24,7 @@ returns c =
     let lo = toZ-ofZ w32 (s .args .lo) (s .fits .lo) in
     let hi = toZ-ofZ w32 (s .args .hi) (s .fits .hi) in
     let e : number-field f ≡ ok z = sym (a .before .before .number-field .ensures) ∙ ap word-res (a .z .given .1) in
-    let m : within (s .args .lo) (s .args .hi) z ≡ true = simp (lo, hi, q) at (sym (c .before .inside .ensures) ∙ c .if1 .taken) in
+    let m : within (s .args .lo) (s .args .hi) z ≡ true = simp (lo, hi, q) at (sym (c .before .lies-within .ensures) ∙ c .if1 .taken) in
     rw q (init-in (s .args .lo) (s .args .hi) f z e m)
 
 returns-2 : tie.Need-returns-2
@@ -45,7 +45,7 @@ returns-3 c =
     let lo = toZ-ofZ w32 (s .args .lo) (s .fits .lo) in
     let hi = toZ-ofZ w32 (s .args .hi) (s .fits .hi) in
     let e : number-field f ≡ ok z = sym (a .before .before .number-field .ensures) ∙ ap word-res (a .z .given .1) in
-    let m : within (s .args .lo) (s .args .hi) z ≡ false = simp (lo, hi, q) at (sym (c .before .inside .ensures) ∙ c .if1 .left) in
+    let m : within (s .args .lo) (s .args .hi) z ≡ false = simp (lo, hi, q) at (sym (c .before .lies-within .ensures) ∙ c .if1 .left) in
     init-out (s .args .lo) (s .args .hi) f z e m
 
 pub init-number-spec : {M : Type 1} → statement M

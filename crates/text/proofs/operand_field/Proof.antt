@@ -4,7 +4,7 @@ use mathlib.Core.Path.{sym, ap, _∙_}
 use lib.IntN.{ℤ}
 use Prim.Native.Nat.{ℕ}
 use Rattle.semantics.specs.Chart.{num, var}
-use Rattle.semantics.specs.Reading.{Res, ok, if-ok, number-field, target-field}
+use Rattle.semantics.specs.Reading.{Res, ok, if-ok}
 use Rattle.text.proofs.Judged.{operand-var, operand-num}
 use Rattle.text.proofs.operand_field.Statement.{statement}
 use Rattle.text.proofs.operand_field.Tie as tie

@@ -1,107 +1,33 @@
 -- `text::rel_field` meets its contract. Assumes nothing.
 use borrow.Author.Needs.{needs}
-use mathlib.Core.Path.{_≡_, sym, _∙_}
-use mathlib.Core.Bool.{false}
-use denote.Ref.{now}
-use Rattle.semantics.specs.Text.{bytes, same-bytes}
 use Rattle.semantics.specs.Reading.{rel-field}
 use Rattle.text.specs.Fields.{rel-res}
+use Rattle.text.proofs.Judged.{word-not, word-by-word}
 use Rattle.text.proofs.rel_field.Statement.{statement}
 use Rattle.text.proofs.rel_field.Tie as tie
 
--- the words that it is not
-no1 : (c : tie.Else1) → same-bytes (now (c .before .before .before .before .args .f)) (bytes "eq") ≡ false
-no1 c = sym (c .before .same-bytes .ensures) ∙ c .if1 .left
-
-no2 : (c : tie.Else2) → same-bytes (now (c .before .before .before .before .before .before .before .args .f)) (bytes "ne") ≡ false
-no2 c = sym (c .before .same-bytes2 .ensures) ∙ c .if2 .left
-
-no3 : (c : tie.Else3) → same-bytes (now (c .before .before .before .before .before .before .before .before .before .before .args .f)) (bytes "lt") ≡ false
-no3 c = sym (c .before .same-bytes3 .ensures) ∙ c .if3 .left
-
-no4 : (c : tie.Else4) → same-bytes (now (c .before .before .before .before .before .before .before .before .before .before .before .before .before .args .f)) (bytes "le") ≡ false
-no4 c = sym (c .before .same-bytes4 .ensures) ∙ c .if4 .left
-
-no5 : (c : tie.Else5) → same-bytes (now (c .before .before .before .before .before .before .before .before .before .before .before .before .before .before .before .before .args .f)) (bytes "gt") ≡ false
-no5 c = sym (c .before .same-bytes5 .ensures) ∙ c .if5 .left
-
-no6 : (c : tie.Else6) → same-bytes (now (c .before .before .before .before .before .before .before .before .before .before .before .before .before .before .before .before .before .before .before .args .f)) (bytes "ge") ≡ false
-no6 c = sym (c .before .same-bytes6 .ensures) ∙ c .if6 .left
-
-returns : tie.Need-returns
-unfolding rel-field rel-res
-returns c = rw (sym (c .before .same-bytes .ensures) ∙ c .if1 .taken)
-
-returns-2 : tie.Need-returns-2
-unfolding rel-field rel-res
-returns-2 c =
-    let e1 = c .before .before .before in
-    rw (no1 e1, sym (c .before .same-bytes2 .ensures) ∙ c .if2 .taken)
-
-returns-3 : tie.Need-returns-3
-unfolding rel-field rel-res
-returns-3 c =
-    let e2 = c .before .before .before in
-    let e1 = e2 .before .before .before in
-    rw (no1 e1, no2 e2, sym (c .before .same-bytes3 .ensures) ∙ c .if3 .taken)
-
-returns-4 : tie.Need-returns-4
-unfolding rel-field rel-res
-returns-4 c =
-    let e3 = c .before .before .before in
-    let e2 = e3 .before .before .before in
-    let e1 = e2 .before .before .before in
-    rw (no1 e1, no2 e2, no3 e3, sym (c .before .same-bytes4 .ensures) ∙ c .if4 .taken)
-
-returns-5 : tie.Need-returns-5
-unfolding rel-field rel-res
-returns-5 c =
-    let e4 = c .before .before .before in
-    let e3 = e4 .before .before .before in
-    let e2 = e3 .before .before .before in
-    let e1 = e2 .before .before .before in
-    rw (no1 e1, no2 e2, no3 e3, no4 e4, sym (c .before .same-bytes5 .ensures) ∙ c .if5 .taken)
-
-returns-6 : tie.Need-returns-6
-unfolding rel-field rel-res
-returns-6 c =
-    let e5 = c .before .before .before in
-    let e4 = e5 .before .before .before in
-    let e3 = e4 .before .before .before in
-    let e2 = e3 .before .before .before in
-    let e1 = e2 .before .before .before in
-    rw (no1 e1, no2 e2, no3 e3, no4 e4, no5 e5, sym (c .before .same-bytes6 .ensures) ∙ c .if6 .taken)
-
-returns-7 : tie.Need-returns-7
-unfolding rel-field rel-res
-returns-7 c =
-    let e5 = c .before .before .before in
-    let e4 = e5 .before .before .before in
-    let e3 = e4 .before .before .before in
-    let e2 = e3 .before .before .before in
-    let e1 = e2 .before .before .before in
-    rw (no1 e1, no2 e2, no3 e3, no4 e4, no5 e5, no6 c)
-
+-- `search` breaks off at six words, so the last two needs pass the first word by hand
 pub rel-field-spec : {M : Type 1} → statement M
+unfolding rel-field rel-res
 rel-field-spec =
     tie.close
     (tie.spec
     (λ c. search needs)
     (λ c κs. search needs)
-    returns
+    (λ c. search word-by-word)
     (λ c. search needs)
     (λ c κs. search needs)
-    returns-2
+    (λ c. search word-by-word)
     (λ c. search needs)
     (λ c κs. search needs)
-    returns-3
+    (λ c. search word-by-word)
     (λ c. search needs)
     (λ c κs. search needs)
-    returns-4
+    (λ c. search word-by-word)
     (λ c. search needs)
     (λ c κs. search needs)
-    returns-5
+    (λ c. search word-by-word)
     (λ c. search needs)
     (λ c κs. search needs)
-    returns-6
-    returns-7)
+    (λ c. let e = c .before .before .before .before .before .before .before .before .before .before .before .before .before .before .before in word-not (e .before .same-bytes .ensures) _ _ (e .if1 .left) (search word-by-word))
+    (λ c. let e = c .before .before .before .before .before .before .before .before .before .before .before .before .before .before .before in word-not (e .before .same-bytes .ensures) _ _ (e .if1 .left) (search word-by-word)))

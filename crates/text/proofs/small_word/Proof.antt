@@ -16,7 +16,7 @@ returns c =
     let a = c .before .before .before in
     let z = a .n .given .0 .0 in
     let q : toZ w32 (ofZ w32 z) ≡ z = search needs in
-    let m : small z ≡ true = rw q at (sym (c .before .inside .ensures) ∙ c .if1 .taken) in
+    let m : small z ≡ true = rw q at (sym (c .before .lies-within .ensures) ∙ c .if1 .taken) in
     simp (a .n .given .1, q, m)
 
 returns-2 : tie.Need-returns-2
@@ -29,7 +29,7 @@ returns-3 c =
     let a = c .before .before .before in
     let z = a .n .given .0 .0 in
     let q : toZ w32 (ofZ w32 z) ≡ z = search needs in
-    let m : small z ≡ false = rw q at (sym (c .before .inside .ensures) ∙ c .if1 .left) in
+    let m : small z ≡ false = rw q at (sym (c .before .lies-within .ensures) ∙ c .if1 .left) in
     simp (a .n .given .1, m)
 
 pub small-word-spec : {M : Type 1} → statement M
