@@ -55,17 +55,13 @@ target-at c i = count c (i + 3)
 unfoldable pub assign-at : List ℤ → ℕ → List ℤ → Step (List ℤ)
 assign-at c i e = let a = operand-at c (i + 4) e in set-value c (target-at c i) (eqZ a (pos 32768)) a e
 
-unfoldable pub add-at : List ℤ → ℕ → List ℤ → Step (List ℤ)
-add-at c i e =
-    let a = operand-at c (i + 4) e in
-    let b = operand-at c (i + 6) e in
-    set-value c (target-at c i) (eqZ a (pos 32768) || eqZ b (pos 32768)) (a +ℤ b) e
+-- the target becomes z, what an operation makes of the words a and b, or top where one of them is
+unfoldable pub set-result : List ℤ → ℕ → ℤ → ℤ → ℤ → List ℤ → Step (List ℤ)
+set-result c i a b z e = set-value c (target-at c i) (eqZ a (pos 32768) || eqZ b (pos 32768)) z e
 
-unfoldable pub sub-at : List ℤ → ℕ → List ℤ → Step (List ℤ)
-sub-at c i e =
-    let a = operand-at c (i + 4) e in
-    let b = operand-at c (i + 6) e in
-    set-value c (target-at c i) (eqZ a (pos 32768) || eqZ b (pos 32768)) (a -ℤ b) e
+-- a sum or a difference, by the operation
+unfoldable pub both-at : (ℤ → ℤ → ℤ) → List ℤ → ℕ → List ℤ → Step (List ℤ)
+both-at f c i e = let a = operand-at c (i + 4) e in let b = operand-at c (i + 6) e in set-result c i a b (f a b) e
 
 unfoldable pub input-at : List ℤ → ℕ → List ℤ → Step (List ℤ)
 input-at c i e = to (set e (target-at c i + 1) (word-join (getD c (i + 5) (pos 0)) (getD c (i + 7) (pos 0))))
@@ -90,7 +86,7 @@ assume-at c n i e = tested-by c n (target-at c i) (count c (i + 5)) (getD e (tar
 -- the operation of code n
 unfoldable pub op-by : ℕ → List ℤ → ℕ → List ℤ → Step (List ℤ)
 op-by n c i e =
-    pick (eqb n 0) (to e) (pick (eqb n 1) (assign-at c i e) (pick (eqb n 2) (add-at c i e) (pick (eqb n 3) (sub-at c i e) (pick (eqb n 4) (input-at c i e) (assume-at c n i e)))))
+    pick (eqb n 0) (to e) (pick (eqb n 1) (assign-at c i e) (pick (eqb n 2) (both-at _+ℤ_ c i e) (pick (eqb n 3) (both-at _-ℤ_ c i e) (pick (eqb n 4) (input-at c i e) (assume-at c n i e)))))
 
 -- ---- the transfer
 

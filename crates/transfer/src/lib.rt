@@ -8,7 +8,7 @@ ghost use lib.ListN.{length, set};
 ghost use Rattle.semantics.specs.Chart.{within};
 ghost use Rattle.semantics.specs.Encoding.{count};
 ghost use Rattle.semantics.specs.Algorithm.{to};
-ghost use Rattle.transfer.specs.Transfer.{location-word, step-of, operand-by, operand-at, set-ranged, set-value, assign-at, add-at, sub-at, input-at, holds-by, refine-by, assume-at, op-by, post-at, error-row, initial-row};
+ghost use Rattle.transfer.specs.Transfer.{location-word, step-of, operand-by, operand-at, set-ranged, set-value, assign-at, set-result, both-at, input-at, holds-by, refine-by, assume-at, op-by, post-at, error-row, initial-row};
 
 // ---- values
 
@@ -124,36 +124,31 @@ fn assign(chart: &[i32], edge: Edge, row: &mut [i32]) -> bool
     put_value(chart, k, a == words::TOP, words::wide(a), row)
 }
 
-fn add(chart: &[i32], edge: Edge, row: &mut [i32]) -> bool
+// The target becomes z, what an operation makes of a and b, or top where one of them is.
+fn put_result(chart: &[i32], edge: Edge, a: i32, b: i32, z: i64, row: &mut [i32]) -> bool
     requires { ⌜ edge .at < 4294967296 ⌝ }
-    ensures { λ r. ⌜ step-of r (now (row .exit)) ≡ add-at (now (chart .entry)) (edge .at) (now (row .entry)) ⌝ }
+    ensures { λ r. ⌜ step-of r (now (row .exit)) ≡ set-result (now (chart .entry)) (edge .at) a b z (now (row .entry)) ⌝ }
 {
     let k = encoded::edge_target(chart, edge);
+    put_value(chart, k, (a == words::TOP) | (b == words::TOP), z, row)
+}
+
+fn add(chart: &[i32], edge: Edge, row: &mut [i32]) -> bool
+    requires { ⌜ edge .at < 4294967296 ⌝ }
+    ensures { λ r. ⌜ step-of r (now (row .exit)) ≡ both-at _+ℤ_ (now (chart .entry)) (edge .at) (now (row .entry)) ⌝ }
+{
     let a = first_operand(chart, edge, row);
     let b = second_operand(chart, edge, row);
-    put_value(
-        chart,
-        k,
-        (a == words::TOP) | (b == words::TOP),
-        sum(a, b),
-        row,
-    )
+    put_result(chart, edge, a, b, sum(a, b), row)
 }
 
 fn sub(chart: &[i32], edge: Edge, row: &mut [i32]) -> bool
     requires { ⌜ edge .at < 4294967296 ⌝ }
-    ensures { λ r. ⌜ step-of r (now (row .exit)) ≡ sub-at (now (chart .entry)) (edge .at) (now (row .entry)) ⌝ }
+    ensures { λ r. ⌜ step-of r (now (row .exit)) ≡ both-at _-ℤ_ (now (chart .entry)) (edge .at) (now (row .entry)) ⌝ }
 {
-    let k = encoded::edge_target(chart, edge);
     let a = first_operand(chart, edge, row);
     let b = second_operand(chart, edge, row);
-    put_value(
-        chart,
-        k,
-        (a == words::TOP) | (b == words::TOP),
-        difference(a, b),
-        row,
-    )
+    put_result(chart, edge, a, b, difference(a, b), row)
 }
 
 fn input(chart: &[i32], edge: Edge, row: &mut [i32]) -> bool
