@@ -35,10 +35,6 @@ edges-from g (suc n) = g ∷ edges-from (suc g) n
 abbrev pub operand-by : ℤ → ℤ → List ℤ → ℤ
 operand-by tag z e = pick (eqZ tag (pos 0)) z (getD e (natAbs z + 1) (pos 0))
 
--- an operand at i, a tag and what it holds
-abbrev pub operand-at : List ℤ → ℕ → List ℤ → ℤ
-operand-at c i e = operand-by (getD c i (pos 0)) (getD c (i + 1) (pos 0)) e
-
 -- variable k becomes z if that lies in its range
 unfoldable pub set-ranged : List ℤ → ℕ → ℤ → List ℤ → Step (List ℤ)
 set-ranged c k z e = step-of (within (getD c (3 + 3 * k) (pos 0)) (getD c (3 + 3 * k + 1) (pos 0)) z) (set e (k + 1) z)
@@ -49,11 +45,21 @@ set-value c k top z e = pick top (to (set e (k + 1) (pos 32768))) (set-ranged c 
 
 -- ---- the operations of the edge at i: its target, and its operands
 
+-- the number of the variable that it sets or tests
 abbrev pub target-at : List ℤ → ℕ → ℕ
 target-at c i = count c (i + 3)
 
+-- the word of its first operand
+abbrev pub first-at : List ℤ → ℕ → List ℤ → ℤ
+first-at c i e = operand-by (getD c (i + 4) (pos 0)) (getD c (i + 5) (pos 0)) e
+
+-- and of its second
+abbrev pub second-at : List ℤ → ℕ → List ℤ → ℤ
+second-at c i e = operand-by (getD c (i + 6) (pos 0)) (getD c (i + 7) (pos 0)) e
+
+-- the target becomes the operand
 unfoldable pub assign-at : List ℤ → ℕ → List ℤ → Step (List ℤ)
-assign-at c i e = let a = operand-at c (i + 4) e in set-value c (target-at c i) (eqZ a (pos 32768)) a e
+assign-at c i e = let a = first-at c i e in set-value c (target-at c i) (eqZ a (pos 32768)) a e
 
 -- the target becomes z, what an operation makes of the words a and b, or top where one of them is
 unfoldable pub set-result : List ℤ → ℕ → ℤ → ℤ → ℤ → List ℤ → Step (List ℤ)
@@ -61,8 +67,9 @@ set-result c i a b z e = set-value c (target-at c i) (eqZ a (pos 32768) || eqZ b
 
 -- a sum or a difference, by the operation
 unfoldable pub both-at : (ℤ → ℤ → ℤ) → List ℤ → ℕ → List ℤ → Step (List ℤ)
-both-at f c i e = let a = operand-at c (i + 4) e in let b = operand-at c (i + 6) e in set-result c i a b (f a b) e
+both-at f c i e = let a = first-at c i e in let b = second-at c i e in set-result c i a b (f a b) e
 
+-- the target becomes a value from the one number up to the other: known where they are the same
 unfoldable pub input-at : List ℤ → ℕ → List ℤ → Step (List ℤ)
 input-at c i e = to (set e (target-at c i + 1) (word-join (getD c (i + 5) (pos 0)) (getD c (i + 7) (pos 0))))
 
@@ -80,8 +87,9 @@ unfoldable pub tested-by : List ℤ → ℕ → ℕ → ℕ → ℤ → ℤ → 
 tested-by c n k j x y e =
     pick (eqZ x (pos 32768)) (refine-by c n k y e) (pick (eqZ y (pos 32768)) (refine-by c n j x e) (step-of (holds-by n x y) e))
 
+-- the test of code n, of the target and the operand
 unfoldable pub assume-at : List ℤ → ℕ → ℕ → List ℤ → Step (List ℤ)
-assume-at c n i e = tested-by c n (target-at c i) (count c (i + 5)) (getD e (target-at c i + 1) (pos 0)) (operand-at c (i + 4) e) e
+assume-at c n i e = tested-by c n (target-at c i) (count c (i + 5)) (getD e (target-at c i + 1) (pos 0)) (first-at c i e) e
 
 -- the operation of code n
 unfoldable pub op-by : ℕ → List ℤ → ℕ → List ℤ → Step (List ℤ)
@@ -98,6 +106,7 @@ location-word n = pick (ltb n 2147483648) (pos n) (pos 0)
 unfoldable pub post-at : List ℤ → ℕ → List ℤ → Step (List ℤ)
 post-at c i e = pick (eqb (count c i) (count e 0)) (op-by (count c (i + 2)) c i (set e 0 (location-word (count c (i + 1))))) halt
 
+-- by edge g, edges from 0
 unfoldable pub post-words : List ℤ → ℕ → List ℤ → Step (List ℤ)
 post-words c g e = post-at c (edge-at c g) e
 
@@ -112,5 +121,6 @@ abbrev pub initial-words : List ℤ → ℕ → ℕ → List ℤ
 initial-words c i zero = []
 initial-words c i (suc n) = getD c i (pos 0) ∷ initial-words c (i + 3) n
 
+-- location 0, and each variable's initial word
 unfoldable pub initial-row : List ℤ → List ℤ
 initial-row c = pos 0 ∷ initial-words c 5 (count c 0)
