@@ -10,7 +10,7 @@ ghost use Prim.Native.Nat.{_*_, _<_, _≤_};
 ghost use lib.Dec.{eqb};
 ghost use lib.IntN.{pos};
 ghost use lib.ListN.{length, drop};
-ghost use Rattle.semantics.specs.Lists.{some-of, all, all-pairs, all-of};
+ghost use Rattle.semantics.specs.Lists.{all, all-pairs, all-of};
 ghost use Rattle.semantics.specs.Chart.{eqZ, within};
 ghost use Rattle.semantics.specs.Algorithm.{allowed};
 ghost use Rattle.semantics.specs.Encoding.{several, var-in, decode};
@@ -197,7 +197,7 @@ pub fn is_allowed(merge: Mode, stop: Mode) -> bool
 fn edge_ok(edge: EdgeId, v: Verdict) -> bool
     ensures { λ r. ⌜ r ≡ (eqb (edge .0) 0 || is-alarm v) ⌝ }
 {
-    (edge.0 == 0) | is_alarm(v)
+    semantics::is_no_edge(edge) | is_alarm(v)
 }
 
 // The tests of a record alone, for a chart of so many edges.
@@ -209,7 +209,7 @@ fn record_ok(a: Analysis, edges: usize) -> bool
     let stop = settings.stop;
     let verdict = a.verdict;
     let edge = a.edge;
-    let counts = (a.iterations <= 60000) & (edge.0 <= edges);
+    let counts = (a.iterations <= semantics::MOST_ITERATIONS) & semantics::is_edge_of(edges, edge);
     let rest = ((1 <= a.capacity) & (a.capacity <= 256)) & is_allowed(merge, stop);
     counts & edge_ok(edge, verdict) & rest & empty_if_safe(verdict, a.waiting)
 }
@@ -225,7 +225,7 @@ pub fn capacity_ok(capacity: i32) -> bool
 pub fn budget_ok(budget: i32) -> bool
     ensures { λ r. ⌜ r ≡ budget-ok budget ⌝ }
 {
-    (0 <= budget) & (budget <= 60000)
+    (0 <= budget) & (budget <= semantics::MOST_ITERATIONS as i32)
 }
 
 // Fewer words are lent than the capacity takes (14).
