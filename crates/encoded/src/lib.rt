@@ -9,9 +9,8 @@ ghost use lib.IntN.{pos, natAbs};
 ghost use lib.ListN.{length, getD};
 ghost use Rattle.semantics.specs.Lists.{all};
 ghost use Rattle.semantics.specs.Text.{same-bytes};
-ghost use Rattle.semantics.specs.Chart.{eqZ, within, small};
+ghost use Rattle.semantics.specs.Chart.{eqZ, small};
 ghost use Rattle.semantics.specs.Encoding.{val, init-ok, var-in, var-ok, loc-in, several, distinct-names, count, decode, well-formed};
-ghost use Rattle.semantics.specs.Memory.{below};
 ghost use Rattle.semantics.specs.Listing.{loc-text};
 ghost use Rattle.encoded.specs.Encoded.{rows, at-most, name-word, counts-fine, locations-at, edges-at, location-fine, operand-fine, ranged, two-fine, one-fine, input-fine, operands-fine, operation-fine, edge-fine, rows-fine, byte-of};
 
