@@ -23,7 +23,7 @@ iff false true f g = absurd (g tt)
 iff false false f g = refl
 
 pub interchange : (a b c d : Bool) → (a && b) && (c && d) ≡ (a && c) && (b && d)
-interchange a b c d = iff _ _ (λ (t : T ((a && b) && (c && d))). search (and-left, and-right, both-true)) (λ (t : T ((a && c) && (b && d))). search (and-left, and-right, both-true))
+interchange a b c d = iff _ _ (λ h. search (and-left, and-right, both-true)) (λ h. search (and-left, and-right, both-true))
 
 pub begins-append : (xs ys ws : List ℤ) → begins-with (xs ++ ys) ws ≡ begins-with xs ws && begins-with ys (drop (length xs) ws)
 begins-append [] ys ws = refl

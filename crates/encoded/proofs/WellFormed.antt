@@ -57,16 +57,10 @@ no-room ws h =
 
 shuffle-chart : (x y z p a b c d v n s g : Bool) → (x && (y && (z && p))) && (a && (b && c) && d && v && n && s && g)
     ≡ ((x && a) && (y && c) && b && (z && d)) && (p && (v && n && s && g))
-shuffle-chart x y z p a b c d v n s g =
-    iff _ _
-    (λ (h : T ((x && (y && (z && p))) && (a && (b && c) && d && v && n && s && g))). search (and-left, and-right, both-true) depth 12)
-    (λ (h : T (((x && a) && (y && c) && b && (z && d)) && (p && (v && n && s && g)))). search (and-left, and-right, both-true) depth 12)
+shuffle-chart x y z p a b c d v n s g = iff _ _ (λ h. search (and-left, and-right, both-true) depth 12) (λ h. search (and-left, and-right, both-true) depth 12)
 
 shuffle-rows : (p q v n s g : Bool) → (p && q) && (v && n && s && g) ≡ v && (p && n) && s && (q && g)
-shuffle-rows p q v n s g =
-    iff _ _
-    (λ (h : T ((p && q) && (v && n && s && g))). search (and-left, and-right, both-true) depth 9)
-    (λ (h : T (v && (p && n) && s && (q && g))). search (and-left, and-right, both-true) depth 9)
+shuffle-rows p q v n s g = iff _ _ (λ h. search (and-left, and-right, both-true) depth 9) (λ h. search (and-left, and-right, both-true) depth 9)
 
 begins-three : (ws : List ℤ) → 3 ≤ length ws → (x y z : ℤ) (xs : List ℤ) → begins-with (x ∷ y ∷ z ∷ xs) ws ≡ eqZ x (getD ws 0 (pos 0)) && (eqZ y (getD ws 1 (pos 0)) && (eqZ z (getD ws 2 (pos 0)) && begins-with xs (drop 3 ws)))
 begins-three [] h x y z xs = absurd (omega arith)
