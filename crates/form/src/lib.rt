@@ -146,10 +146,7 @@ fn lent_ok(
     let w = encoded::width(chart);
     let from = used * w;
     let to = capacity * w;
-    if !words::all_zero(&table[from..to]) {
-        return false;
-    }
-    words::all_zero(&list[waiting..capacity])
+    words::all_zero(&table[from..to]) & words::all_zero(&list[waiting..capacity])
 }
 
 // ---- the record

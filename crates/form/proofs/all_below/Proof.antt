@@ -22,9 +22,6 @@ Inv-loop list n i₀ i = (i ≤ length list) × (all (below n) list ≡ all (bel
 abbrev μ-loop : tie.MeasureT-loop
 μ-loop list n i₀ i = length list - i
 
-loop-holds : tie.Need-loop-holds Inv-loop μ-loop
-loop-holds c = (omega arith, refl)
-
 module _ (c : tie.After-is-below Inv-loop μ-loop) where
   abbrev list : List ℤ
   list = c .before .before .before .before .args .list .now
@@ -60,7 +57,7 @@ all-below-spec =
     (tie.spec
     Inv-loop
     μ-loop
-    loop-holds
+    (λ c. (omega arith, refl))
     (λ c. omega arith)
     (λ c. omega arith)
     (λ c κs. search needs)

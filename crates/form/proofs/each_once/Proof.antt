@@ -23,9 +23,6 @@ Inv-loop list i₀ i = (i ≤ length list) × (each-once list ≡ each-once (dro
 abbrev μ-loop : tie.MeasureT-loop
 μ-loop list i₀ i = length list - i
 
-loop-holds : tie.Need-loop-holds Inv-loop μ-loop
-loop-holds c = (omega arith, refl)
-
 module _ (c : tie.After-contains Inv-loop μ-loop) where
   abbrev list : List ℤ
   list = c .before .before .before .before .before .args .list .now
@@ -59,7 +56,7 @@ each-once-spec =
     (tie.spec
     Inv-loop
     μ-loop
-    loop-holds
+    (λ c. (omega arith, refl))
     (λ c. omega arith)
     (λ c. omega arith)
     (λ c. omega arith)
