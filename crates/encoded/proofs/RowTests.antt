@@ -1,4 +1,5 @@
--- One row: the test of its words is that it is what its decoding encodes to, and that this is what reading can produce. Assumes nothing.
+-- One row: the test of its words is that it is what its decoding encodes to, and that this is what reading can produce.
+-- Assumes nothing.
 use mathlib.Core.Path.{_≡_, refl, sym, ap, _∙_}
 use mathlib.Core.Bool.{Bool, true, false, _&&_, _||_}
 use mathlib.Core.List.{List, [], _∷_, _++_, map}

@@ -1,4 +1,5 @@
--- The words begin with the encoding of what they decode to: row by row, each row with the words after it. Assumes nothing.
+-- The words begin with the encoding of what they decode to: row by row, each row with the words after it.
+-- Assumes nothing.
 use mathlib.Core.Path.{_≡_, refl, sym, ap, _∙_}
 use mathlib.Core.Bool.{Bool, true, false, _&&_}
 use mathlib.Core.List.{List, [], _∷_, _++_, append-assoc}

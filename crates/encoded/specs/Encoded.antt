@@ -42,13 +42,13 @@ counts-fine ws =
 abbrev pub locations-at : List ℤ → ℕ
 locations-at ws = 3 + 3 * count ws 0
 
--- and the edges'
+-- where the edges' words begin
 abbrev pub edges-at : List ℤ → ℕ
 edges-at ws = locations-at ws + 17 * count ws 1
 
--- ---- a location
+-- ---- a location: its kind is 0 or 1; bytes of a name, and 0 after them
 
--- its kind is 0 or 1; bytes of a name, and 0 after them
+-- one location; n is the length of its name
 unfoldable pub location-fine : List ℤ → Bool
 location-fine ws =
     let n = length (loc-in ws .name) in
@@ -65,15 +65,15 @@ operand-fine v tag z = pick (eqZ tag (pos 0)) (small z) (eqZ tag (pos 1) && belo
 unfoldable pub ranged : List ℤ → ℕ → ℤ → Bool
 ranged vars k z = within (word-at vars (3 * k)) (word-at vars (3 * k + 1)) z
 
--- two operands
+-- `add` and `sub`: two operands
 unfoldable pub two-fine : ℕ → List ℤ → Bool
 two-fine v ws = operand-fine v (word-at ws 4) (word-at ws 5) && operand-fine v (word-at ws 6) (word-at ws 7)
 
--- one operand, and 0 for the second
+-- `set` and `if`: one operand, and 0 for a second
 unfoldable pub one-fine : ℕ → List ℤ → Bool
 one-fine v ws = operand-fine v (word-at ws 4) (word-at ws 5) && eqZ (word-at ws 6) (pos 0) && eqZ (word-at ws 7) (pos 0)
 
--- two numbers in the target's range, the second not below the first
+-- `in`: two numbers p ≤ q in the range of the target, each with a tag of 0
 unfoldable pub input-fine : List ℤ → List ℤ → Bool
 input-fine vars ws =
     eqZ (word-at ws 4) (pos 0) && eqZ (word-at ws 6) (pos 0)
@@ -81,23 +81,23 @@ input-fine vars ws =
     && small (word-at ws 7) && ranged vars (count ws 3) (word-at ws 7)
     && leZ (word-at ws 5) (word-at ws 7)
 
--- the operands, by the operation's code n
+-- by the operation's code n
 unfoldable pub operands-fine : ℕ → List ℤ → ℕ → List ℤ → Bool
 operands-fine n vars v ws = pick (eqb n 2) (two-fine v ws) (pick (eqb n 3) (two-fine v ws) (pick (eqb n 4) (input-fine vars ws) (one-fine v ws)))
 
--- the operation: nothing but 0 for skip, else a target and operands
+-- `skip` is all 0; any other operation has a target, one of v variables
 unfoldable pub operation-fine : List ℤ → ℕ → List ℤ → Bool
 operation-fine vars v ws =
     pick (eqb (count ws 2) 0) (zeros (take 5 (drop 3 ws))) (below v (word-at ws 3) && operands-fine (count ws 2) vars v ws)
 
--- the edge: two of l locations, a code, and the operation
+-- one edge; v variables, l locations
 unfoldable pub edge-fine : List ℤ → ℕ → ℕ → List ℤ → Bool
 edge-fine vars v l ws =
     below l (word-at ws 0) && below l (word-at ws 1) && at-most 10 (word-at ws 2) && operation-fine vars v ws
 
 -- ---- all rows
 
--- variables, locations, that the names differ, edges
+-- each variable, location and edge, and no two locations of one name
 unfoldable pub rows-fine : List ℤ → Bool
 rows-fine ws =
     let vars = drop 3 ws in

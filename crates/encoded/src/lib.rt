@@ -1,4 +1,5 @@
-// The encoded chart: its check, and what stands where in its words. Crates that use a chart ask here, and read no word by place.
+// The encoded chart: its check, and what stands where in its words. Crates that use a chart ask here, and read no word
+// by place.
 use semantics::EdgeId;
 use semantics::LocationId;
 ghost use mathlib.Core.Path.{_≡_};

@@ -1,4 +1,5 @@
--- Facts behind the form check: the loops' turns, parts of lists, the two parts of rule 21, and what 14 asks. Assumes nothing.
+-- Facts behind the form check: the loops' turns, parts of lists, the two parts of rule 21, and what 14 asks.
+-- Assumes nothing.
 use mathlib.Core.Path.{_≡_, refl, ap, sym, subst, _∙_}
 use mathlib.Core.Bool.{Bool, true, false, _&&_, _||_, not}
 use mathlib.Core.List.{List, [], _∷_, _++_}

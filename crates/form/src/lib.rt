@@ -1,5 +1,5 @@
-// The tests of 11 to 14, and form rule 21: whether lent words and a record are an analysis of a chart. Leaves look at one row or one part of the words and are total;
-// the counts are tested first, since they bound what is read after.
+// The tests of 11 to 14, and form rule 21: whether lent words and a record are an analysis of a chart. Leaves look at
+// one row or one part of the words and are total; the counts are tested first, since they bound what is read after.
 use semantics::Analysis;
 use semantics::EdgeId;
 use semantics::Mode;

@@ -45,7 +45,7 @@ set-value c k top z e = pick top (to (set e (k + 1) (pos 32768))) (set-ranged c 
 
 -- ---- the operations of the edge at i: its target, and its operands
 
--- the number of the variable that it sets or tests
+-- v, the variable that the edge sets or tests
 abbrev pub target-at : List ℤ → ℕ → ℕ
 target-at c i = count c (i + 3)
 
@@ -57,19 +57,19 @@ first-at c i e = operand-by (getD c (i + 4) (pos 0)) (getD c (i + 5) (pos 0)) e
 abbrev pub second-at : List ℤ → ℕ → List ℤ → ℤ
 second-at c i e = operand-by (getD c (i + 6) (pos 0)) (getD c (i + 7) (pos 0)) e
 
--- the target becomes the operand
+-- "`set v a`: v becomes a"
 unfoldable pub assign-at : List ℤ → ℕ → List ℤ → Step (List ℤ)
 assign-at c i e = let a = first-at c i e in set-value c (target-at c i) (eqZ a (pos 32768)) a e
 
--- the target becomes z, what an operation makes of the words a and b, or top where one of them is
+-- v becomes z, what an operation makes of the words a and b; "any unknown operand makes v unspecific"
 unfoldable pub set-result : List ℤ → ℕ → ℤ → ℤ → ℤ → List ℤ → Step (List ℤ)
 set-result c i a b z e = set-value c (target-at c i) (eqZ a (pos 32768) || eqZ b (pos 32768)) z e
 
--- a sum or a difference, by the operation
+-- "`add v a b`: a + b", "`sub v a b`: a − b", by the operation f
 unfoldable pub both-at : (ℤ → ℤ → ℤ) → List ℤ → ℕ → List ℤ → Step (List ℤ)
 both-at f c i e = let a = first-at c i e in let b = second-at c i e in set-result c i a b (f a b) e
 
--- the target becomes a value from the one number up to the other: known where they are the same
+-- `in v p q`: "known if p = q, else unspecific"
 unfoldable pub input-at : List ℤ → ℕ → List ℤ → Step (List ℤ)
 input-at c i e = to (set e (target-at c i + 1) (word-join (getD c (i + 5) (pos 0)) (getD c (i + 7) (pos 0))))
 
@@ -87,7 +87,7 @@ unfoldable pub tested-by : List ℤ → ℕ → ℕ → ℕ → ℤ → ℤ → 
 tested-by c n k j x y e =
     pick (eqZ x (pos 32768)) (refine-by c n k y e) (pick (eqZ y (pos 32768)) (refine-by c n j x e) (step-of (holds-by n x y) e))
 
--- the test of code n, of the target and the operand
+-- `if v rel a`, the relation of code n
 unfoldable pub assume-at : List ℤ → ℕ → ℕ → List ℤ → Step (List ℤ)
 assume-at c n i e = tested-by c n (target-at c i) (count c (i + 5)) (getD e (target-at c i + 1) (pos 0)) (first-at c i e) e
 
@@ -121,6 +121,6 @@ abbrev pub initial-words : List ℤ → ℕ → ℕ → List ℤ
 initial-words c i zero = []
 initial-words c i (suc n) = getD c i (pos 0) ∷ initial-words c (i + 3) n
 
--- location 0, and each variable's initial word
+-- "start location, each init"; the first init stands at word 5
 unfoldable pub initial-row : List ℤ → List ℤ
 initial-row c = pos 0 ∷ initial-words c 5 (count c 0)

@@ -41,12 +41,12 @@ abbrev pub wait-unless : Bool → ℕ → List ℕ → List ℕ
 wait-unless true k wa = wa
 wait-unless false k wa = wait k wa
 
--- where the next word that is kept goes, after one that is left out or kept at j
+-- where the next word is kept: at j too if the Bool says that the word for j is dropped
 abbrev pub next-place : Bool → ℕ → ℕ
 next-place true j = j
 next-place false j = j + 1
 
--- the words once x is left out, or kept at j
+-- x kept at place j, unless the Bool says that it is dropped
 abbrev pub kept-at : Bool → List ℤ → ℕ → ℤ → List ℤ
 kept-at true l j x = l
 kept-at false l j x = set l j x

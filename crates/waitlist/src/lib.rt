@@ -1,6 +1,6 @@
-// The waitlist in lent words: its slot numbers, longest waiting first, then zeros. Each function is given the count of slots
-// that wait. A function that puts a slot on the list or takes a named one off returns the count after it; the take of the
-// next slot returns that slot, and leaves one fewer.
+// The waitlist in lent words: its slot numbers, longest waiting first, then zeros. Each function is given the count of
+// slots that wait. A function that puts a slot on the list or takes a named one off returns the count after it; the
+// take of the next slot returns that slot, and leaves one fewer.
 use semantics::Order;
 use semantics::SlotId;
 ghost use mathlib.Core.Path.{_≡_};

@@ -1,4 +1,5 @@
--- `form::all_below` meets its contract. The invariant: the list passes exactly when what is left passes. Assumes nothing.
+-- `form::all_below` meets its contract. The invariant: the list passes exactly when what is left passes.
+-- Assumes nothing.
 use mathlib.Core.Path.{_≡_, refl, sym, ap, _∙_}
 use mathlib.Core.Bool.{Bool, true, false, _&&_}
 use mathlib.Core.List.{List}

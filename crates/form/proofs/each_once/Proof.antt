@@ -1,4 +1,5 @@
--- `form::each_once` meets its contract. The invariant: no word stands twice exactly when none does in what is left. Assumes nothing.
+-- `form::each_once` meets its contract. The invariant: no word stands twice exactly when none does in what is left.
+-- Assumes nothing.
 use mathlib.Core.Path.{_≡_, refl, sym, ap, _∙_}
 use mathlib.Core.Bool.{Bool, true, false, _&&_, not}
 use mathlib.Core.List.{List}

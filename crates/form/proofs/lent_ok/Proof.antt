@@ -1,4 +1,5 @@
--- `form::lent_ok` meets its contract: after each test that passed, what is left of them says the whole. Assumes nothing.
+-- `form::lent_ok` meets its contract: after each test that passed, what is left of them says the whole.
+-- Assumes nothing.
 use mathlib.Core.Path.{_≡_, refl, sym, ap, subst, _∙_}
 use mathlib.Core.Bool.{Bool, _&&_}
 use mathlib.Core.List.{List}

@@ -1,5 +1,5 @@
--- `form::rows_ok` meets its contract. The invariant: `from` is the first word of slot s, and the slots in use pass exactly when those from s on
--- do. Assumes nothing.
+-- `form::rows_ok` meets its contract. The invariant: `from` is the first word of slot s, and the slots in use pass
+-- exactly when those from s on do. Assumes nothing.
 use mathlib.Core.Path.{_≡_, sym, ap, subst, _∙_}
 use mathlib.Core.Bool.{Bool, true, false, _&&_}
 use mathlib.Core.List.{List}

@@ -20,9 +20,6 @@ Inv-loop s₀ x carry₀ i₀ s carry i = (i ≤ length s) × (length s ≡ leng
 abbrev μ-loop : tie.MeasureT-loop
 μ-loop s₀ x carry₀ i₀ s carry i = length s₀ - i
 
-loop-holds : tie.Need-loop-holds Inv-loop μ-loop
-loop-holds c = (omega arith, refl, refl)
-
 loop-again : tie.Need-loop-again Inv-loop μ-loop
 loop-again c =
     let b = c .before .before in
@@ -41,7 +38,7 @@ push-front-spec =
     (tie.spec
     Inv-loop
     μ-loop
-    loop-holds
+    (λ c. (omega arith, refl, refl))
     (λ c. search needs)
     (λ c. search needs)
     (λ c. search needs)
