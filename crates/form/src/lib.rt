@@ -213,12 +213,14 @@ fn record_ok(a: Analysis, edges: usize) -> bool
 
 // ---- the tests of 11, 13, 14 and 21, for other crates
 
+// A capacity that 11 lets pass.
 pub fn capacity_ok(capacity: i32) -> bool
     ensures { λ r. ⌜ r ≡ capacity-ok capacity ⌝ }
 {
     (1 <= capacity) & (capacity <= 256)
 }
 
+// A budget that 13 lets pass.
 pub fn budget_ok(budget: i32) -> bool
     ensures { λ r. ⌜ r ≡ budget-ok budget ⌝ }
 {
