@@ -1,26 +1,34 @@
 -- The start, the turn and the end of a loop over rows. Assumes nothing.
-use mathlib.Core.Path.{_≡_}
-use mathlib.Core.Bool.{Bool, _&&_}
+use mathlib.Core.Path.{_≡_, sym, ap, _∙_}
+use mathlib.Core.Bool.{Bool, true, _&&_}
 use mathlib.Core.List.{List}
-use Prim.Native.Nat.{ℕ, suc, _+_, _-_, _≤_, _<_}
-use native.Mathlib.Nat.{sub-zero}
+use Prim.Native.Nat.{ℕ, suc, _+_, _-_, _*_, _≤_, _<_}
+use native.Mathlib.Nat.{sub-zero, mul-zero, mul-suc}
+use native.Mathlib.Numerals.{add-one}
 use native.Mathlib.Omega.{arith}
 use lib.IntN.{ℤ}
-use lib.ListN.{drop}
+use lib.ListN.{length, take, drop}
 use lib.Seq.{drop-drop}
 use Rattle.semantics.specs.Lists.{all}
 use Rattle.semantics.specs.Encoding.{several}
 use Rattle.semantics.proofs.Values.{and-true, and-assoc}
+use Rattle.words.proofs.Rows.{tail}
 
--- a test of n rows of k words: the rows passed, the row at hand, the rows left
-module _ {A : Type 0} (p : A → Bool) (g : List ℤ → A) (k n : ℕ) (ws : List ℤ) (ok : Bool) (i at : ℕ) where
-  pub rows-start : all p (several g k n ws) ≡ all p (several g k (n - 0) ws)
-  rows-start = rw (sub-zero n)
+-- a test of n rows of k words: ok is what the i rows passed say, and the rows left begin at `at`
+abbrev pub Passed : {A : Type 0} → (A → Bool) → (List ℤ → A) → ℕ → ℕ → List ℤ → Bool → ℕ → ℕ → Type 0
+Passed p g k n ws ok i at = (i ≤ n) × (at ≡ k * i) × (all p (several g k n ws) ≡ ok && all p (several g k (n - i) (drop at ws)))
 
-  pub rows-turn : (b : Bool) → b ≡ p (g (drop at ws)) → i < n → ok && all p (several g k (n - i) (drop at ws)) ≡ ok && b && all p (several g k (n - (i + 1)) (drop (at + k) ws))
-  rows-turn b e h =
+module _ {A : Type 0} (p : A → Bool) (g : List ℤ → A) (k n : ℕ) (ws : List ℤ) where
+  pub rows-start : Passed p g k n ws true 0 0
+  rows-start = (omega arith, sym (mul-zero k), rw (sub-zero n))
+
+  -- b is what the row at hand says
+  pub rows-turn : (ok : Bool) (i at : ℕ) → Passed p g k n ws ok i at → i < n → (b : Bool) → b ≡ p (g (take (length ws - at) (drop at ws))) → Passed p g k n ws (ok && b) (i + 1) (at + k)
+  rows-turn ok i at s h b e =
       let m : n - i ≡ suc (n - (i + 1)) = omega arith in
-      rw (m, drop-drop k at ws, e) (and-assoc ok (p (g (drop at ws))) (all p (several g k (n - (i + 1)) (drop (at + k) ws))))
+      let r = e ∙ ap (λ (l : List ℤ). p (g l)) (tail ws at) in
+      let place : at + k ≡ k * (i + 1) = rw (add-one i, mul-suc k i, s .1) (omega arith) in
+      (omega arith, place, s .2 ∙ rw (m, drop-drop k at ws, r) (and-assoc ok (p (g (drop at ws))) (all p (several g k (n - (i + 1)) (drop (at + k) ws)))))
 
-  pub rows-end : n ≤ i → ok && all p (several g k (n - i) (drop at ws)) ≡ ok
-  rows-end h = let m : n - i ≡ 0 = omega arith in rw m (and-true ok)
+  pub rows-end : (ok : Bool) (i at : ℕ) → Passed p g k n ws ok i at → n ≤ i → all p (several g k n ws) ≡ ok
+  rows-end ok i at s h = let m : n - i ≡ 0 = omega arith in s .2 ∙ rw m (and-true ok)

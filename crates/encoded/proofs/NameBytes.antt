@@ -1,4 +1,5 @@
--- The name of a location, as its words have it, and that its numbers are bytes where the words are in form. Assumes nothing.
+-- The name of a location, as its words have it, and that its numbers are bytes where the words are in form.
+-- Assumes nothing.
 use mathlib.Core.Path.{_≡_, refl, ap, _∙_}
 use mathlib.Core.Bool.{Bool, true, false, _||_}
 use mathlib.Core.List.{List, [], _∷_, map}

@@ -1,4 +1,5 @@
--- One row: the test of its words is that it is what its decoding encodes to, and that this is what reading can produce. Assumes nothing.
+-- One row: the test of its words is that it is what its decoding encodes to, and that this is what reading can produce.
+-- Assumes nothing.
 use mathlib.Core.Path.{_≡_, refl, sym, ap, _∙_}
 use mathlib.Core.Bool.{Bool, true, false, _&&_, _||_}
 use mathlib.Core.List.{List, [], _∷_, _++_, map}
@@ -104,28 +105,16 @@ sure : T true
 sure = tt
 
 shuffle-one : (t a x b y l o : Bool) → (t && (a && (x && (b && (y && true))))) && (l && o) ≡ (t && l) && (((a && x) && o) && b && y)
-shuffle-one t a x b y l o =
-    iff _ _
-    (λ (h : T ((t && (a && (x && (b && (y && true))))) && (l && o))). search (and-left, and-right, both-true) depth 9)
-    (λ (h : T ((t && l) && (((a && x) && o) && b && y))). search (and-left, and-right, both-true, sure) depth 9)
+shuffle-one t a x b y l o = iff _ _ (λ h. search (and-left, and-right, both-true) depth 9) (λ h. search (and-left, and-right, both-true, sure) depth 9)
 
 shuffle-two : (t a x b y l o p : Bool) → (t && (a && (x && (b && (y && true))))) && (l && o && p) ≡ (t && l) && (((a && x) && o) && ((b && y) && p))
-shuffle-two t a x b y l o p =
-    iff _ _
-    (λ (h : T ((t && (a && (x && (b && (y && true))))) && (l && o && p))). search (and-left, and-right, both-true) depth 9)
-    (λ (h : T ((t && l) && (((a && x) && o) && ((b && y) && p)))). search (and-left, and-right, both-true, sure) depth 9)
+shuffle-two t a x b y l o p = iff _ _ (λ h. search (and-left, and-right, both-true) depth 9) (λ h. search (and-left, and-right, both-true, sure) depth 9)
 
 shuffle-input : (t a b l s u v w z : Bool) → (t && (a && (true && (b && (true && true))))) && (l && s && u && v && w && z) ≡ (t && l) && (a && b && s && u && v && w && z)
-shuffle-input t a b l s u v w z =
-    iff _ _
-    (λ (h : T ((t && (a && (true && (b && (true && true))))) && (l && s && u && v && w && z))). search (and-left, and-right, both-true) depth 12)
-    (λ (h : T ((t && l) && (a && b && s && u && v && w && z))). search (and-left, and-right, both-true, sure) depth 12)
+shuffle-input t a b l s u v w z = iff _ _ (λ h. search (and-left, and-right, both-true) depth 12) (λ h. search (and-left, and-right, both-true, sure) depth 12)
 
 shuffle-edge : (f t b l m o : Bool) → (f && (t && b)) && (l && m && o) ≡ ((f && l) && (t && m)) && (b && o)
-shuffle-edge f t b l m o =
-    iff _ _
-    (λ (h : T ((f && (t && b)) && (l && m && o))). search (and-left, and-right, both-true) depth 9)
-    (λ (h : T (((f && l) && (t && m)) && (b && o))). search (and-left, and-right, both-true) depth 9)
+shuffle-edge f t b l m o = iff _ _ (λ h. search (and-left, and-right, both-true) depth 9) (λ h. search (and-left, and-right, both-true) depth 9)
 
 -- what is tested after l may lean on it
 guarded : (e l p q : Bool) → (T l → p ≡ q) → (e && l) && p ≡ (e && l) && q

@@ -1,4 +1,5 @@
--- The words begin with the encoding of what they decode to: row by row, each row with the words after it. Assumes nothing.
+-- The words begin with the encoding of what they decode to: row by row, each row with the words after it.
+-- Assumes nothing.
 use mathlib.Core.Path.{_≡_, refl, sym, ap, _∙_}
 use mathlib.Core.Bool.{Bool, true, false, _&&_}
 use mathlib.Core.List.{List, [], _∷_, _++_, append-assoc}
@@ -23,7 +24,7 @@ iff false true f g = absurd (g tt)
 iff false false f g = refl
 
 pub interchange : (a b c d : Bool) → (a && b) && (c && d) ≡ (a && c) && (b && d)
-interchange a b c d = iff _ _ (λ (t : T ((a && b) && (c && d))). search (and-left, and-right, both-true)) (λ (t : T ((a && c) && (b && d))). search (and-left, and-right, both-true))
+interchange a b c d = iff _ _ (λ h. search (and-left, and-right, both-true)) (λ h. search (and-left, and-right, both-true))
 
 pub begins-append : (xs ys ws : List ℤ) → begins-with (xs ++ ys) ws ≡ begins-with xs ws && begins-with ys (drop (length xs) ws)
 begins-append [] ys ws = refl

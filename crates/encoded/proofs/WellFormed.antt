@@ -57,16 +57,10 @@ no-room ws h =
 
 shuffle-chart : (x y z p a b c d v n s g : Bool) → (x && (y && (z && p))) && (a && (b && c) && d && v && n && s && g)
     ≡ ((x && a) && (y && c) && b && (z && d)) && (p && (v && n && s && g))
-shuffle-chart x y z p a b c d v n s g =
-    iff _ _
-    (λ (h : T ((x && (y && (z && p))) && (a && (b && c) && d && v && n && s && g))). search (and-left, and-right, both-true) depth 12)
-    (λ (h : T (((x && a) && (y && c) && b && (z && d)) && (p && (v && n && s && g)))). search (and-left, and-right, both-true) depth 12)
+shuffle-chart x y z p a b c d v n s g = iff _ _ (λ h. search (and-left, and-right, both-true) depth 12) (λ h. search (and-left, and-right, both-true) depth 12)
 
 shuffle-rows : (p q v n s g : Bool) → (p && q) && (v && n && s && g) ≡ v && (p && n) && s && (q && g)
-shuffle-rows p q v n s g =
-    iff _ _
-    (λ (h : T ((p && q) && (v && n && s && g))). search (and-left, and-right, both-true) depth 9)
-    (λ (h : T (v && (p && n) && s && (q && g))). search (and-left, and-right, both-true) depth 9)
+shuffle-rows p q v n s g = iff _ _ (λ h. search (and-left, and-right, both-true) depth 9) (λ h. search (and-left, and-right, both-true) depth 9)
 
 begins-three : (ws : List ℤ) → 3 ≤ length ws → (x y z : ℤ) (xs : List ℤ) → begins-with (x ∷ y ∷ z ∷ xs) ws ≡ eqZ x (getD ws 0 (pos 0)) && (eqZ y (getD ws 1 (pos 0)) && (eqZ z (getD ws 2 (pos 0)) && begins-with xs (drop 3 ws)))
 begins-three [] h x y z xs = absurd (omega arith)
@@ -83,6 +77,10 @@ range-words (suc n) (suc k) ws z h =
     let b : 3 + (3 * k + 1) ≡ 3 * suc k + 1 = omega arith in
     range-words n k (drop 3 ws) z (omega arith) ∙ rw (getD-drop 3 ws (3 * k) (pos 0), getD-drop 3 ws (3 * k + 1) (pos 0), a, b)
 
+-- a row begins with what its decoding encodes to
+abbrev exact : {A : Type 0} → (A → List ℤ) → (List ℤ → A) → List ℤ → Bool
+exact f g r = begins-with (f (g r)) r
+
 module _ (ws : List ℤ) where
   abbrev v-rows : List ℤ
   v-rows = drop 3 ws
@@ -94,11 +92,17 @@ module _ (ws : List ℤ) where
   e-rows = past 17 (count ws 1) l-rows
 
   -- each row is what its decoding encodes to; and that is what reading can produce
+  abbrev exact-vars : Bool
+  exact-vars = all (exact var-words var-in) (rows 3 (count ws 0) v-rows)
+
+  abbrev exact-locs : Bool
+  exact-locs = all (exact loc-words loc-in) (rows 17 (count ws 1) l-rows)
+
+  abbrev exact-edges : Bool
+  exact-edges = all (exact edge-words edge-in) (rows 8 (count ws 2) e-rows)
+
   abbrev exact-rows : Bool
-  exact-rows =
-      all (λ r. begins-with (var-words (var-in r)) r) (rows 3 (count ws 0) v-rows)
-      && (all (λ r. begins-with (loc-words (loc-in r)) r) (rows 17 (count ws 1) l-rows)
-      && all (λ r. begins-with (edge-words (edge-in r)) r) (rows 8 (count ws 2) e-rows))
+  exact-rows = exact-vars && (exact-locs && exact-edges)
 
   abbrev ok-rows : Bool
   ok-rows =
@@ -117,12 +121,12 @@ module _ (ws : List ℤ) where
       ∙ begins-three ws h (pos (count ws 0)) (pos (count ws 1)) (pos (count ws 2)) (vs ++ (ls ++ es))
       ∙ ap (λ (b : Bool). eqZ (pos (count ws 0)) (getD ws 0 (pos 0)) && (eqZ (pos (count ws 1)) (getD ws 1 (pos 0)) && (eqZ (pos (count ws 2)) (getD ws 2 (pos 0)) && b)))
       (begins-rows var-in 3 var-words (λ r. refl) (count ws 0) (ls ++ es) v-rows
-      ∙ ap (λ (b : Bool). all (λ r. begins-with (var-words (var-in r)) r) (rows 3 (count ws 0) v-rows) && b)
+      ∙ ap (λ (b : Bool). exact-vars && b)
       (begins-rows loc-in 17 loc-words loc-wide (count ws 1) es l-rows
-      ∙ ap (λ (b : Bool). all (λ r. begins-with (loc-words (loc-in r)) r) (rows 17 (count ws 1) l-rows) && b)
+      ∙ ap (λ (b : Bool). exact-locs && b)
       (ap (λ (x : List ℤ). begins-with x e-rows) (sym (append-nil es))
       ∙ begins-rows edge-in 8 edge-words edge-wide (count ws 2) [] e-rows
-      ∙ and-true (all (λ r. begins-with (edge-words (edge-in r)) r) (rows 8 (count ws 2) e-rows)))))
+      ∙ and-true exact-edges)))
 
   -- the counts, the rows' form, and what the rows say
   parts : 3 ≤ length ws → well-formed ws ≡ counts-fine ws && (exact-rows && ok-rows)
@@ -163,24 +167,24 @@ module _ (ws : List ℤ) (room : edges-at ws + 8 * count ws 2 ≤ length ws) whe
   e-at : e-rows ws ≡ drop (edges-at ws) ws
   e-at = past-drop 17 (count ws 1) (l-rows ws) ∙ ap (drop (17 * count ws 1)) l-at ∙ drop-drop (17 * count ws 1) (locations-at ws) ws
 
-  vars-exact : all (λ r. begins-with (var-words (var-in r)) r) (rows 3 (count ws 0) (v-rows ws)) ≡ true
-  vars-exact = rows-same (λ r. begins-with (var-words (var-in r)) r) (λ r. true) 3 var-row (count ws 0) (v-rows ws) (simp length-drop (omega arith)) ∙ every-true (rows 3 (count ws 0) (v-rows ws))
+  vars-exact : exact-vars ws ≡ true
+  vars-exact = rows-same (exact var-words var-in) (λ r. true) 3 var-row (count ws 0) (v-rows ws) (simp length-drop (omega arith)) ∙ every-true (rows 3 (count ws 0) (v-rows ws))
 
-  locations-are : all (λ r. begins-with (loc-words (loc-in r)) r) (rows 17 (count ws 1) (l-rows ws)) && all (λ l. name-ok (l .name)) (several loc-in 17 (count ws 1) (l-rows ws)) ≡ all location-fine (rows 17 (count ws 1) (l-rows ws))
+  locations-are : exact-locs ws && all (λ l. name-ok (l .name)) (several loc-in 17 (count ws 1) (l-rows ws)) ≡ all location-fine (rows 17 (count ws 1) (l-rows ws))
   locations-are =
       rw (all-rows loc-in 17 (λ l. name-ok (l .name)) (count ws 1) (l-rows ws))
-      (all-and (λ r. begins-with (loc-words (loc-in r)) r) (λ r. name-ok (loc-in r .name)) (rows 17 (count ws 1) (l-rows ws))
-      ∙ rows-same (λ r. begins-with (loc-words (loc-in r)) r && name-ok (loc-in r .name)) location-fine 17 location-row (count ws 1) (l-rows ws) (rw l-at (simp length-drop (omega arith))))
+      (all-and (exact loc-words loc-in) (λ r. name-ok (loc-in r .name)) (rows 17 (count ws 1) (l-rows ws))
+      ∙ rows-same (λ r. exact loc-words loc-in r && name-ok (loc-in r .name)) location-fine 17 location-row (count ws 1) (l-rows ws) (rw l-at (simp length-drop (omega arith))))
 
-  edges-are : all (λ r. begins-with (edge-words (edge-in r)) r) (rows 8 (count ws 2) (e-rows ws)) && all (edge-ok (decode ws)) (several edge-in 8 (count ws 2) (e-rows ws))
+  edges-are : exact-edges ws && all (edge-ok (decode ws)) (several edge-in 8 (count ws 2) (e-rows ws))
       ≡ all (edge-fine (v-rows ws) (count ws 0) (count ws 1)) (rows 8 (count ws 2) (e-rows ws))
   unfolding decode
   edges-are =
       let c = decode ws in
       let row = edge-row c (v-rows ws) (λ k z h. range-words (count ws 0) k (v-rows ws) z (rw (vars-count ws) at h)) in
       rw (all-rows edge-in 8 (edge-ok c) (count ws 2) (e-rows ws))
-      (all-and (λ r. begins-with (edge-words (edge-in r)) r) (λ r. edge-ok c (edge-in r)) (rows 8 (count ws 2) (e-rows ws))
-      ∙ rows-same (λ r. begins-with (edge-words (edge-in r)) r && edge-ok c (edge-in r)) (edge-fine (v-rows ws) (length (c .vars)) (length (c .locs))) 8 row (count ws 2) (e-rows ws) (rw e-at (simp length-drop (omega arith)))
+      (all-and (exact edge-words edge-in) (λ r. edge-ok c (edge-in r)) (rows 8 (count ws 2) (e-rows ws))
+      ∙ rows-same (λ r. exact edge-words edge-in r && edge-ok c (edge-in r)) (edge-fine (v-rows ws) (length (c .vars)) (length (c .locs))) 8 row (count ws 2) (e-rows ws) (rw e-at (simp length-drop (omega arith)))
       ∙ rw (vars-count ws, locs-count ws))
 
   pub by-rows : counts-fine ws ≡ true → well-formed ws ≡ rows-fine ws
@@ -189,5 +193,5 @@ module _ (ws : List ℤ) (room : edges-at ws + 8 * count ws 2 ≤ length ws) whe
       let c = decode ws in
       parts ws (omega arith)
       ∙ rw (e, vars-exact)
-      (shuffle-rows (all (λ r. begins-with (loc-words (loc-in r)) r) (rows 17 (count ws 1) (l-rows ws))) (all (λ r. begins-with (edge-words (edge-in r)) r) (rows 8 (count ws 2) (e-rows ws))) (all var-ok (c .vars)) (all (λ l. name-ok (l .name)) (c .locs)) (distinct-names (c .locs)) (all (edge-ok c) (c .edges))
+      (shuffle-rows (exact-locs ws) (exact-edges ws) (all var-ok (c .vars)) (all (λ l. name-ok (l .name)) (c .locs)) (distinct-names (c .locs)) (all (edge-ok c) (c .edges))
       ∙ rw (locations-are, edges-are, e-at, l-at))

@@ -1,4 +1,5 @@
-// The encoded chart: its check, and what stands where in its words. Crates that use a chart ask here, and read no word by place.
+// The encoded chart: its check, and what stands where in its words. Crates that use a chart ask here, and read no word
+// by place.
 use semantics::EdgeId;
 use semantics::LocationId;
 ghost use mathlib.Core.Path.{_≡_};
@@ -9,20 +10,21 @@ ghost use lib.IntN.{pos, natAbs};
 ghost use lib.ListN.{length, getD};
 ghost use Rattle.semantics.specs.Lists.{all};
 ghost use Rattle.semantics.specs.Text.{same-bytes};
-ghost use Rattle.semantics.specs.Chart.{eqZ, within, small};
+ghost use Rattle.semantics.specs.Chart.{eqZ, small};
 ghost use Rattle.semantics.specs.Encoding.{val, init-ok, var-in, var-ok, loc-in, several, distinct-names, count, decode, well-formed};
-ghost use Rattle.semantics.specs.Memory.{below};
 ghost use Rattle.semantics.specs.Listing.{loc-text};
 ghost use Rattle.encoded.specs.Encoded.{rows, at-most, name-word, counts-fine, locations-at, edges-at, location-fine, operand-fine, ranged, two-fine, one-fine, input-fine, operands-fine, operation-fine, edge-fine, rows-fine, byte-of};
 
 // ---- one word
 
+// A number of a chart: document 01 has them from −32,768 to 32,767.
 fn is_small(w: i32) -> bool
     ensures { λ r. ⌜ r ≡ small w ⌝ }
 {
     (-32768 <= w) & (w <= 32767)
 }
 
+// A number from 0 up to n.
 fn is_at_most(n: usize, w: i32) -> bool
     ensures { λ r. ⌜ r ≡ at-most n w ⌝ }
 {
@@ -85,6 +87,7 @@ fn end_of(chart: &[i32]) -> usize
     edges_at(chart) + 8 * words::number_at(chart, 2)
 }
 
+// Whether there are 0 to 8 variables, 1 to 64 locations and 0 to 256 edges.
 fn counts_ok(chart: &[i32]) -> bool
     ensures { λ r. ⌜ r ≡ counts-fine (now (chart .entry)) ⌝ }
 {
@@ -106,6 +109,7 @@ fn init_word_ok(lo: i32, hi: i32, init: i32) -> bool
     is_small(init) & words::lies_within(lo, hi, init)
 }
 
+// A variable's words: its range, and its initial value.
 fn var_row_ok(row: &[i32]) -> bool
     ensures { λ r. ⌜ r ≡ var-ok (var-in (now (row .entry))) ⌝ }
 {
@@ -115,6 +119,7 @@ fn var_row_ok(row: &[i32]) -> bool
     is_small(lo) & is_small(hi) & (lo <= hi) & init_word_ok(lo, hi, init)
 }
 
+// The words of n variables.
 fn vars_ok(vars: &[i32], n: usize) -> bool
     requires { ⌜ 3 * n ≤ length (now vars) ⌝ }
     ensures { λ r. ⌜ r ≡ all var-ok (several var-in 3 n (now (vars .entry))) ⌝ }
@@ -160,6 +165,7 @@ fn name_bytes_ok(name: &[i32]) -> bool
     ok
 }
 
+// A location's words: its kind, the bytes of its name, and 0 after them.
 fn location_row_ok(row: &[i32]) -> bool
     requires { ⌜ 17 ≤ length (now row) ⌝ }
     ensures { λ r. ⌜ r ≡ location-fine (now (row .entry)) ⌝ }
@@ -173,6 +179,7 @@ fn location_row_ok(row: &[i32]) -> bool
         & words::all_zero(&row[end..17])
 }
 
+// The words of n locations.
 fn locations_ok(locations: &[i32], n: usize) -> bool
     requires { ⌜ 17 * n ≤ length (now locations) ⌝ }
     ensures { λ r. ⌜ r ≡ all location-fine (rows 17 n (now (locations .entry))) ⌝ }
@@ -223,6 +230,7 @@ fn name_is_new(row: &[i32], locations: &[i32], n: usize) -> bool
     ok
 }
 
+// Whether no two of n locations have one name.
 fn names_differ(locations: &[i32], n: usize) -> bool
     requires { ⌜ 17 * n ≤ length (now locations) ⌝ }
     ensures { λ r. ⌜ r ≡ distinct-names (several loc-in 17 n (now (locations .entry))) ⌝ }
@@ -260,6 +268,7 @@ fn in_var_range(vars: &[i32], k: usize, w: i32) -> bool
     words::lies_within(words::word_at(vars, at), words::word_at(vars, at + 1), w)
 }
 
+// The operands of `add` and `sub`.
 fn two_operands_ok(v: usize, row: &[i32]) -> bool
     ensures { λ r. ⌜ r ≡ two-fine v (now (row .entry)) ⌝ }
 {
@@ -267,6 +276,7 @@ fn two_operands_ok(v: usize, row: &[i32]) -> bool
         & operand_ok(v, words::word_at(row, 6), words::word_at(row, 7))
 }
 
+// The operand of an assignment or a test; the second's words are 0.
 fn one_operand_ok(v: usize, row: &[i32]) -> bool
     ensures { λ r. ⌜ r ≡ one-fine v (now (row .entry)) ⌝ }
 {
@@ -275,7 +285,7 @@ fn one_operand_ok(v: usize, row: &[i32]) -> bool
         & (words::word_at(row, 7) == 0)
 }
 
-// The two numbers of `in`.
+// The two numbers of `in`; the operands' tags are 0.
 fn input_ok(vars: &[i32], row: &[i32]) -> bool
     ensures { λ r. ⌜ r ≡ input-fine (now (vars .entry)) (now (row .entry)) ⌝ }
 {
@@ -291,6 +301,7 @@ fn input_ok(vars: &[i32], row: &[i32]) -> bool
         & (p <= q)
 }
 
+// The operands, by the operation's code n.
 fn operands_ok(n: usize, vars: &[i32], v: usize, row: &[i32]) -> bool
     ensures { λ r. ⌜ r ≡ operands-fine n (now (vars .entry)) v (now (row .entry)) ⌝ }
 {
@@ -302,6 +313,7 @@ fn operands_ok(n: usize, vars: &[i32], v: usize, row: &[i32]) -> bool
     }
 }
 
+// An edge's operation: its target and its operands; for `skip` all 0.
 fn operation_ok(vars: &[i32], v: usize, row: &[i32]) -> bool
     requires { ⌜ 8 ≤ length (now row) ⌝ }
     ensures { λ r. ⌜ r ≡ operation-fine (now (vars .entry)) v (now (row .entry)) ⌝ }
@@ -313,6 +325,7 @@ fn operation_ok(vars: &[i32], v: usize, row: &[i32]) -> bool
     words::is_below(v, words::word_at(row, 3)) & operands_ok(n, vars, v, row)
 }
 
+// An edge's words, where there are v variables and l locations.
 fn edge_row_ok(vars: &[i32], v: usize, l: usize, row: &[i32]) -> bool
     requires { ⌜ 8 ≤ length (now row) ⌝ }
     ensures { λ r. ⌜ r ≡ edge-fine (now (vars .entry)) v l (now (row .entry)) ⌝ }
@@ -323,6 +336,7 @@ fn edge_row_ok(vars: &[i32], v: usize, l: usize, row: &[i32]) -> bool
         & operation_ok(vars, v, row)
 }
 
+// The words of n edges.
 fn edges_ok(vars: &[i32], v: usize, l: usize, edges: &[i32], n: usize) -> bool
     requires { ⌜ 8 * n ≤ length (now edges) ⌝ }
     ensures { λ r. ⌜ r ≡ all (edge-fine (now (vars .entry)) v l) (rows 8 n (now (edges .entry))) ⌝ }
@@ -340,6 +354,7 @@ fn edges_ok(vars: &[i32], v: usize, l: usize, edges: &[i32], n: usize) -> bool
 
 // ---- the check
 
+// All rows, once the counts are known to be in order.
 fn rows_ok(chart: &[i32]) -> bool
     requires { ⌜ edges-at (now chart) + 8 * count (now chart) 2 ≤ length (now chart) ⌝ }
     ensures { λ r. ⌜ r ≡ rows-fine (now (chart .entry)) ⌝ }
@@ -412,6 +427,7 @@ pub struct Edge {
     pub at: usize,
 }
 
+// Edge 1, whether there is one or not.
 pub fn first_edge(chart: &[i32]) -> Edge
     ensures { λ r. ⌜ (r .id .0 ≡ 1) × (r .at ≡ edges-at (now (chart .entry))) ⌝ }
 {
@@ -433,6 +449,7 @@ pub fn edge_of(first: Edge, id: EdgeId) -> Edge
     }
 }
 
+// The locations that it leaves and goes to, its operation's code, and the variable that it sets or tests.
 pub fn edge_from(chart: &[i32], edge: Edge) -> LocationId
     ensures { λ r. ⌜ (r .0 ≡ count (now (chart .entry)) (edge .at)) × (r .0 < 2147483649) ⌝ }
 {

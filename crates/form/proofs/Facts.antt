@@ -1,17 +1,17 @@
--- Facts behind the form check: the loops' turns, parts of lists, the two parts of rule 21, and what 14 asks. Assumes nothing.
+-- Facts behind the form check: the loops' turns, parts of lists, the two parts of rule 21, and what 14 asks.
+-- Assumes nothing.
 use mathlib.Core.Path.{_≡_, refl, ap, sym, subst, _∙_}
 use mathlib.Core.Bool.{Bool, true, false, _&&_, _||_, not}
 use mathlib.Core.List.{List, [], _∷_, _++_}
-use Prim.Native.Nat.{ℕ, suc, _+_, _-_, _*_, _<_, _≤_}
+use Prim.Native.Nat.{ℕ, suc, _+_, _*_, _<_, _≤_}
 use native.Mathlib.Nat.{add-zero}
 use native.Mathlib.Numerals.{add-one}
 use native.Mathlib.Omega.{arith}
 use lib.Dec.{T, ltb}
-use borrow.Author.Tests.{ltb-true, ltb-false}
-use lib.IntN.{ℤ, pos, negsuc, natAbs}
-use lib.ListN.{length, getD, take, drop, length-drop}
-use lib.Seq.{drop-cons, drop-drop, take-all, getD-drop}
-use lib.Signed.{ltZ}
+use borrow.Author.Tests.{ltb-false}
+use lib.IntN.{ℤ, pos}
+use lib.ListN.{length, getD, take, drop}
+use lib.Seq.{drop-cons, drop-drop, getD-drop}
 use Rattle.semantics.specs.Lists.{some-of, all, all-pairs, all-of}
 use Rattle.semantics.specs.Chart.{Chart, eqZ, within}
 use Rattle.semantics.specs.Encoding.{several, var-in, count, decode}
@@ -92,9 +92,9 @@ lent-grouped true true true true true false l = refl
 lent-grouped true true true true true true false = refl
 lent-grouped true true true true true true true = refl
 
-pub record-grouped : (i n p q : Bool) {e e′ m m′ v v′ : Bool} → e ≡ e′ → m ≡ m′ → v ≡ v′ →
-    (((i && n) && e) && ((p && q) && m)) && v ≡ all-of (i ∷ n ∷ e′ ∷ (p && q) ∷ m′ ∷ v′ ∷ [])
-record-grouped i n p q {e′ = e′} {m′ = m′} {v′ = v′} x y z = (λ j. (((i && n) && x j) && ((p && q) && y j)) && z j) ∙ go i n p q e′ m′ v′ where
+pub record-grouped : (i p q : Bool) {n n′ e e′ m m′ v v′ : Bool} → n ≡ n′ → e ≡ e′ → m ≡ m′ → v ≡ v′ →
+    (((i && n) && e) && ((p && q) && m)) && v ≡ all-of (i ∷ n′ ∷ e′ ∷ (p && q) ∷ m′ ∷ v′ ∷ [])
+record-grouped i p q {n′ = n′} {e′ = e′} {m′ = m′} {v′ = v′} w x y z = (λ j. (((i && w j) && x j) && ((p && q) && y j)) && z j) ∙ go i n′ p q e′ m′ v′ where
   go : (i n p q e m v : Bool) → (((i && n) && e) && ((p && q) && m)) && v ≡ all-of (i ∷ n ∷ e ∷ (p && q) ∷ m ∷ v ∷ [])
   go false n p q e m v = refl
   go true false p q e m v = refl

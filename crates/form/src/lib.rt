@@ -1,5 +1,5 @@
-// The tests of 11 to 14, and form rule 21: whether lent words and a record are an analysis of a chart. Leaves look at one row or one part of the words and are total;
-// the counts are tested first, since they bound what is read after.
+// The tests of 11 to 14, and form rule 21: whether lent words and a record are an analysis of a chart. Leaves look at
+// one row or one part of the words and are total; the counts are tested first, since they bound what is read after.
 use semantics::Analysis;
 use semantics::EdgeId;
 use semantics::Mode;
@@ -10,7 +10,7 @@ ghost use Prim.Native.Nat.{_*_, _<_, _≤_};
 ghost use lib.Dec.{eqb};
 ghost use lib.IntN.{pos};
 ghost use lib.ListN.{length, drop};
-ghost use Rattle.semantics.specs.Lists.{some-of, all, all-pairs, all-of};
+ghost use Rattle.semantics.specs.Lists.{all, all-pairs, all-of};
 ghost use Rattle.semantics.specs.Chart.{eqZ, within};
 ghost use Rattle.semantics.specs.Algorithm.{allowed};
 ghost use Rattle.semantics.specs.Encoding.{several, var-in, decode};
@@ -146,10 +146,7 @@ fn lent_ok(
     let w = encoded::width(chart);
     let from = used * w;
     let to = capacity * w;
-    if !words::all_zero(&table[from..to]) {
-        return false;
-    }
-    words::all_zero(&list[waiting..capacity])
+    words::all_zero(&table[from..to]) & words::all_zero(&list[waiting..capacity])
 }
 
 // ---- the record
@@ -197,7 +194,7 @@ pub fn is_allowed(merge: Mode, stop: Mode) -> bool
 fn edge_ok(edge: EdgeId, v: Verdict) -> bool
     ensures { λ r. ⌜ r ≡ (eqb (edge .0) 0 || is-alarm v) ⌝ }
 {
-    (edge.0 == 0) | is_alarm(v)
+    semantics::is_no_edge(edge) | is_alarm(v)
 }
 
 // The tests of a record alone, for a chart of so many edges.
@@ -209,23 +206,25 @@ fn record_ok(a: Analysis, edges: usize) -> bool
     let stop = settings.stop;
     let verdict = a.verdict;
     let edge = a.edge;
-    let counts = (a.iterations <= 60000) & (edge.0 <= edges);
+    let counts = (a.iterations <= semantics::MOST_ITERATIONS) & semantics::is_edge_of(edges, edge);
     let rest = ((1 <= a.capacity) & (a.capacity <= 256)) & is_allowed(merge, stop);
     counts & edge_ok(edge, verdict) & rest & empty_if_safe(verdict, a.waiting)
 }
 
 // ---- the tests of 11, 13, 14 and 21, for other crates
 
+// A capacity that 11 lets pass.
 pub fn capacity_ok(capacity: i32) -> bool
     ensures { λ r. ⌜ r ≡ capacity-ok capacity ⌝ }
 {
     (1 <= capacity) & (capacity <= 256)
 }
 
+// A budget that 13 lets pass.
 pub fn budget_ok(budget: i32) -> bool
     ensures { λ r. ⌜ r ≡ budget-ok budget ⌝ }
 {
-    (0 <= budget) & (budget <= 60000)
+    (0 <= budget) & (budget <= semantics::MOST_ITERATIONS as i32)
 }
 
 // Fewer words are lent than the capacity takes (14).

@@ -1,7 +1,8 @@
-// The edges that leave a location, chained in file order in lent numbers, so that an iteration looks at the edges of its
-// location and not at every edge. `heads` has for each location the number of the first edge that leaves it, `nexts` for
-// each edge that of the next one that leaves the same location; one more than the count of edges stands for none. Past the
-// end of either a number is 0, which passes over nothing: so nothing is asked of a location or of the count of edges.
+// The edges that leave a location, chained in file order in lent numbers, so that an iteration looks at the edges of
+// its location and not at every edge. `heads` has for each location the number of the first edge that leaves it,
+// `nexts` for each edge that of the next one that leaves the same location; one more than the count of edges stands for
+// none. Past the end of either a number is 0, which passes over nothing: so nothing is asked of a location or of the
+// count of edges.
 use encoded::Edge;
 use semantics::EdgeId;
 use semantics::LocationId;

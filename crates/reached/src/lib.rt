@@ -1,4 +1,5 @@
-// The reached table in lent words, slot after slot, each a row of words. Loops carry the slot and its first word together.
+// The reached table in lent words, slot after slot, each a row of words. Loops carry the slot and its first word
+// together.
 use semantics::SlotId;
 ghost use mathlib.Core.Path.{_≡_};
 ghost use mathlib.Core.List.{_++_};

@@ -13,6 +13,7 @@ pub fn location_of(row: &[i32]) -> LocationId
     LocationId(words::number_at(row, 0))
 }
 
+// Whether the word x lies under y: y is top, or they are equal.
 fn leq_word(x: i32, y: i32) -> bool
     ensures { λ r. ⌜ r ≡ word-leq x y ⌝ }
 {

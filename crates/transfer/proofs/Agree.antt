@@ -1,4 +1,5 @@
--- The rows of words, with the transfer by the encoded chart, agree with the abstract states of the chart. Assumes nothing.
+-- The rows of words, with the transfer by the encoded chart, agree with the abstract states of the chart.
+-- Assumes nothing.
 use mathlib.Core.Path.{_≡_, refl, sym, ap, subst, _∙_}
 use mathlib.Core.Bool.{Bool, true, false, _&&_}
 use mathlib.Core.List.{List, [], _∷_, _++_, map}

@@ -20,7 +20,7 @@ use Rattle.semantics.proofs.StatesOk.{ValOk, ValsOk}
 use Rattle.semantics.proofs.Stored.{not-any}
 use Rattle.words.proofs.Words.{eqZ-true}
 use Rattle.rows.specs.Rows.{word-join}
-use Rattle.transfer.specs.Transfer.{step-of, operand-at, set-ranged, set-value, assign-at, add-at, sub-at, input-at, holds-by, refine-by, tested-by, assume-at, op-by}
+use Rattle.transfer.specs.Transfer.{step-of, operand-by, set-ranged, set-value, assign-at, set-result, both-at, input-at, holds-by, refine-by, tested-by, assume-at, op-by}
 use Rattle.transfer.proofs.Places.{range-is}
 
 -- a value whose word is top's only where it is top
@@ -166,48 +166,41 @@ module _ (c : Chart) (ok : T (chart-ok c)) (rest : List ℤ) (l : ℤ) (xs : Lis
   operand-sided (num z) = tt
   operand-sided (var j) = tt
 
-  module _ (i : ℕ) where
-    operand-is : (a : Operand) → getD ws i (pos 0) ≡ tag a → getD ws (i + 1) (pos 0) ≡ held a → operand-at ws i e ≡ word (operand-value a xs)
-    operand-is (num z) t h = rw (t, h)
-    operand-is (var k) t h = rw (t, h) (get-word k)
+  operand-is : (a : Operand) → operand-by (tag a) (held a) e ≡ word (operand-value a xs)
+  operand-is (num z) = refl
+  operand-is (var k) = get-word k
 
   -- ---- the operations: the edge's words, from i on, are two for its locations and six for its operation
   module _ (i : ℕ) (from goal : ℤ) where
     abbrev pub Reads : Op → Type 0
     Reads o = (j : ℕ) → j < 8 → getD ws (i + j) (pos 0) ≡ getD (from ∷ goal ∷ op-words o) j (pos 0)
 
-    next : (n : ℕ) {z : ℤ} → getD ws (i + suc n) (pos 0) ≡ z → getD ws (i + n + 1) (pos 0) ≡ z
-    next n h = let e : i + n + 1 ≡ i + suc n = omega arith in rw e h
+    -- add and sub, by their code
+    both-effect : (f : ℤ → ℤ → ℤ) (n v : ℕ) (a b : Operand) → T (op-ok (c .vars) (add v a b))
+        → ((j : ℕ) → j < 8 → getD ws (i + j) (pos 0) ≡ getD (from ∷ goal ∷ pos n ∷ pos v ∷ tag a ∷ held a ∷ tag b ∷ held b ∷ []) j (pos 0))
+        → both-at f ws i e ≡ row-step l (assign-value (c .vars) v (both f (operand-value a xs) (operand-value b xs)) xs)
+    unfolding both-at set-result
+    both-effect f n v a b t r =
+        let k : v < length (c .vars) = ltb→lt v (length (c .vars)) (search (and-left, and-right)) in
+        let u : T (operand-ok (c .vars) a) = search (and-left, and-right) in
+        let w : T (operand-ok (c .vars) b) = search (and-left, and-right) in
+        rw (r 3 (omega arith), r 4 (omega arith), r 5 (omega arith), r 6 (omega arith), r 7 (omega arith), operand-is a, operand-is b) (both-is f v (operand-value a xs) (operand-value b xs) k (operand-plain a u) (operand-plain b w))
 
     pub effect-is : (o : Op) → T (op-ok (c .vars) o) → Reads o → op-by (count ws (i + 2)) ws i e ≡ row-step l (effect (c .vars) o xs)
-    unfolding op-by assign-at add-at sub-at input-at assume-at
+    unfolding op-by assign-at input-at assume-at
     effect-is skip t r = rw (r 2 (omega arith))
     effect-is (assign v a) t r =
         let k : v < length (c .vars) = ltb→lt v (length (c .vars)) (search (and-left, and-right)) in
         let u : T (operand-ok (c .vars) a) = search (and-left, and-right) in
-        let p = operand-is (i + 4) a (r 4 (omega arith)) (next 4 (r 5 (omega arith))) in
-        rw (r 2 (omega arith), r 3 (omega arith), p) (assign-is v (operand-value a xs) k (operand-plain a u))
-    effect-is (add v a b) t r =
-        let k : v < length (c .vars) = ltb→lt v (length (c .vars)) (search (and-left, and-right)) in
-        let u : T (operand-ok (c .vars) a) = search (and-left, and-right) in
-        let w : T (operand-ok (c .vars) b) = search (and-left, and-right) in
-        let p = operand-is (i + 4) a (r 4 (omega arith)) (next 4 (r 5 (omega arith))) in
-        let q = operand-is (i + 6) b (r 6 (omega arith)) (next 6 (r 7 (omega arith))) in
-        rw (r 2 (omega arith), r 3 (omega arith), p, q) (both-is _+ℤ_ v (operand-value a xs) (operand-value b xs) k (operand-plain a u) (operand-plain b w))
-    effect-is (sub v a b) t r =
-        let k : v < length (c .vars) = ltb→lt v (length (c .vars)) (search (and-left, and-right)) in
-        let u : T (operand-ok (c .vars) a) = search (and-left, and-right) in
-        let w : T (operand-ok (c .vars) b) = search (and-left, and-right) in
-        let p = operand-is (i + 4) a (r 4 (omega arith)) (next 4 (r 5 (omega arith))) in
-        let q = operand-is (i + 6) b (r 6 (omega arith)) (next 6 (r 7 (omega arith))) in
-        rw (r 2 (omega arith), r 3 (omega arith), p, q) (both-is _-ℤ_ v (operand-value a xs) (operand-value b xs) k (operand-plain a u) (operand-plain b w))
+        rw (r 2 (omega arith), r 3 (omega arith), r 4 (omega arith), r 5 (omega arith), operand-is a) (assign-is v (operand-value a xs) k (operand-plain a u))
+    effect-is (add v a b) t r = rw (r 2 (omega arith)) (both-effect _+ℤ_ 2 v a b t r)
+    effect-is (sub v a b) t r = rw (r 2 (omega arith)) (both-effect _-ℤ_ 3 v a b t r)
     effect-is (input v p q) t r = rw (r 2 (omega arith), r 3 (omega arith), r 5 (omega arith), r 7 (omega arith)) (join-is v p q)
     effect-is (assume v g a) t r =
         let k : v < length (c .vars) = ltb→lt v (length (c .vars)) (search (and-left, and-right)) in
         let u : T (operand-ok (c .vars) a) = search (and-left, and-right) in
-        let p = operand-is (i + 4) a (r 4 (omega arith)) (next 4 (r 5 (omega arith))) in
         coded g (ap natAbs (r 2 (omega arith)))
-        ∙ rw (r 3 (omega arith), r 5 (omega arith), p, get-word v) (tested-is g v a (operand-value (var v) xs) (operand-value a xs) k u (get-plain xs v plain) (operand-plain a u) (operand-sided a))
+        ∙ rw (r 3 (omega arith), r 4 (omega arith), r 5 (omega arith), operand-is a, get-word v) (tested-is g v a (operand-value (var v) xs) (operand-value a xs) k u (get-plain xs v plain) (operand-plain a u) (operand-sided a))
       where
         coded : (g : Rel) → count ws (i + 2) ≡ rel-code g → op-by (count ws (i + 2)) ws i e ≡ assume-at ws (rel-code g) i e
         coded eq h = rw h

@@ -1,4 +1,5 @@
--- Where the words of an encoded chart stand: those of a variable, of a location and of an edge, with any words after. Assumes nothing.
+-- Where the words of an encoded chart stand: those of a variable, of a location and of an edge, with any words after.
+-- Assumes nothing.
 use mathlib.Core.Path.{_≡_, refl, sym, ap, _∙_}
 use mathlib.Core.List.{List, [], _∷_, _++_, map, append-assoc}
 use Prim.Native.Nat.{ℕ, zero, suc, _+_, _*_, _<_}

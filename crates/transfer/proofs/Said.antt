@@ -1,4 +1,5 @@
--- Rows and the abstract states that they say, both ways: rows in form say the states that are read in them. Assumes nothing.
+-- Rows and the abstract states that they say, both ways: rows in form say the states that are read in them.
+-- Assumes nothing.
 use mathlib.Core.Path.{_≡_, refl, sym, ap, _∙_}
 use mathlib.Core.List.{List, [], _∷_, map}
 use Prim.Native.Nat.{ℕ, zero, suc}

@@ -1,5 +1,5 @@
 -- What the tests of the transfer tell, and the turn of the loop that writes the initial row. Assumes nothing.
-use mathlib.Core.Path.{_≡_, ap, _∙_}
+use mathlib.Core.Path.{_≡_}
 use mathlib.Core.Bool.{true}
 use mathlib.Core.List.{List, _++_, append-nil}
 use Prim.Native.Nat.{ℕ, suc, _+_, _-_, _≤_, _<_}
@@ -15,15 +15,11 @@ use Rattle.semantics.specs.Chart.{within}
 use Rattle.semantics.specs.Encoding.{count}
 use Rattle.semantics.proofs.Values.{left-true, right-true}
 use Rattle.words.proofs.Words.{between-fits}
-use Rattle.transfer.specs.Transfer.{operand-by, operand-at, initial-words, initial-row}
+use Rattle.transfer.specs.Transfer.{initial-words, initial-row}
 
 -- what lies between two words is a word
 pub within-fits : (lo hi z : ℤ) → SFits w32 lo → SFits w32 hi → within lo hi z ≡ true → SFits w32 z
 within-fits lo hi z f g e = between-fits z f g (left-true (leZ lo z) (leZ z hi) e) (right-true (leZ lo z) (leZ z hi) e)
-
--- an operand's tag and word, read at i and after it
-pub operand-read : (c e : List ℤ) (i j : ℕ) {t z : ℤ} → t ≡ getD c i (pos 0) → z ≡ getD c j (pos 0) → j ≡ i + 1 → operand-by t z e ≡ operand-at c i e
-operand-read c e i j p q next = let r = q ∙ ap (λ (n : ℕ). getD c n (pos 0)) next in λ k. operand-by (p k) (r k) e
 
 pub initial-start : (c out : List ℤ) (n : ℕ) → 0 < length out → n ≡ count c 0 → initial-row c ≡ take 1 (set out 0 (pos 0)) ++ initial-words c 5 (n + 1 - 1)
 unfolding initial-row

@@ -35,10 +35,6 @@ edges-from g (suc n) = g ∷ edges-from (suc g) n
 abbrev pub operand-by : ℤ → ℤ → List ℤ → ℤ
 operand-by tag z e = pick (eqZ tag (pos 0)) z (getD e (natAbs z + 1) (pos 0))
 
--- an operand at i, a tag and what it holds
-abbrev pub operand-at : List ℤ → ℕ → List ℤ → ℤ
-operand-at c i e = operand-by (getD c i (pos 0)) (getD c (i + 1) (pos 0)) e
-
 -- variable k becomes z if that lies in its range
 unfoldable pub set-ranged : List ℤ → ℕ → ℤ → List ℤ → Step (List ℤ)
 set-ranged c k z e = step-of (within (getD c (3 + 3 * k) (pos 0)) (getD c (3 + 3 * k + 1) (pos 0)) z) (set e (k + 1) z)
@@ -53,23 +49,25 @@ set-value c k top z e = pick top (to (set e (k + 1) (pos 32768))) (set-ranged c 
 abbrev pub target-at : List ℤ → ℕ → ℕ
 target-at c i = count c (i + 3)
 
+-- the word of its first operand
+abbrev pub first-at : List ℤ → ℕ → List ℤ → ℤ
+first-at c i e = operand-by (getD c (i + 4) (pos 0)) (getD c (i + 5) (pos 0)) e
+
+-- and of its second
+abbrev pub second-at : List ℤ → ℕ → List ℤ → ℤ
+second-at c i e = operand-by (getD c (i + 6) (pos 0)) (getD c (i + 7) (pos 0)) e
+
 -- "`set v a`: v becomes a"
 unfoldable pub assign-at : List ℤ → ℕ → List ℤ → Step (List ℤ)
-assign-at c i e = let a = operand-at c (i + 4) e in set-value c (target-at c i) (eqZ a (pos 32768)) a e
+assign-at c i e = let a = first-at c i e in set-value c (target-at c i) (eqZ a (pos 32768)) a e
 
--- "`add v a b`: a + b"; "any unknown operand makes v unspecific"
-unfoldable pub add-at : List ℤ → ℕ → List ℤ → Step (List ℤ)
-add-at c i e =
-    let a = operand-at c (i + 4) e in
-    let b = operand-at c (i + 6) e in
-    set-value c (target-at c i) (eqZ a (pos 32768) || eqZ b (pos 32768)) (a +ℤ b) e
+-- v becomes z, what an operation makes of the words a and b; "any unknown operand makes v unspecific"
+unfoldable pub set-result : List ℤ → ℕ → ℤ → ℤ → ℤ → List ℤ → Step (List ℤ)
+set-result c i a b z e = set-value c (target-at c i) (eqZ a (pos 32768) || eqZ b (pos 32768)) z e
 
--- "`sub v a b`: a − b"; the same of an unknown operand
-unfoldable pub sub-at : List ℤ → ℕ → List ℤ → Step (List ℤ)
-sub-at c i e =
-    let a = operand-at c (i + 4) e in
-    let b = operand-at c (i + 6) e in
-    set-value c (target-at c i) (eqZ a (pos 32768) || eqZ b (pos 32768)) (a -ℤ b) e
+-- "`add v a b`: a + b", "`sub v a b`: a − b", by the operation f
+unfoldable pub both-at : (ℤ → ℤ → ℤ) → List ℤ → ℕ → List ℤ → Step (List ℤ)
+both-at f c i e = let a = first-at c i e in let b = second-at c i e in set-result c i a b (f a b) e
 
 -- `in v p q`: "known if p = q, else unspecific"
 unfoldable pub input-at : List ℤ → ℕ → List ℤ → Step (List ℤ)
@@ -91,12 +89,12 @@ tested-by c n k j x y e =
 
 -- `if v rel a`, the relation of code n
 unfoldable pub assume-at : List ℤ → ℕ → ℕ → List ℤ → Step (List ℤ)
-assume-at c n i e = tested-by c n (target-at c i) (count c (i + 5)) (getD e (target-at c i + 1) (pos 0)) (operand-at c (i + 4) e) e
+assume-at c n i e = tested-by c n (target-at c i) (count c (i + 5)) (getD e (target-at c i + 1) (pos 0)) (first-at c i e) e
 
 -- the operation of code n
 unfoldable pub op-by : ℕ → List ℤ → ℕ → List ℤ → Step (List ℤ)
 op-by n c i e =
-    pick (eqb n 0) (to e) (pick (eqb n 1) (assign-at c i e) (pick (eqb n 2) (add-at c i e) (pick (eqb n 3) (sub-at c i e) (pick (eqb n 4) (input-at c i e) (assume-at c n i e)))))
+    pick (eqb n 0) (to e) (pick (eqb n 1) (assign-at c i e) (pick (eqb n 2) (both-at _+ℤ_ c i e) (pick (eqb n 3) (both-at _-ℤ_ c i e) (pick (eqb n 4) (input-at c i e) (assume-at c n i e)))))
 
 -- ---- the transfer
 

@@ -7,8 +7,7 @@ ghost use lib.IntN.{_+ℤ_, _-ℤ_};
 ghost use lib.ListN.{length, set};
 ghost use Rattle.semantics.specs.Chart.{within};
 ghost use Rattle.semantics.specs.Encoding.{count};
-ghost use Rattle.semantics.specs.Algorithm.{to};
-ghost use Rattle.transfer.specs.Transfer.{location-word, step-of, operand-by, operand-at, set-ranged, set-value, assign-at, add-at, sub-at, input-at, holds-by, refine-by, assume-at, op-by, post-at, error-row, initial-row};
+ghost use Rattle.transfer.specs.Transfer.{location-word, step-of, operand-by, first-at, second-at, set-ranged, set-value, assign-at, set-result, both-at, input-at, holds-by, refine-by, assume-at, op-by, post-at, error-row, initial-row};
 
 // ---- values
 
@@ -59,7 +58,7 @@ fn operand(tag: i32, w: i32, row: &[i32]) -> i32
 // The words of the two operands of an edge.
 fn first_operand(chart: &[i32], edge: Edge, row: &[i32]) -> i32
     requires { ⌜ edge .at < 4294967296 ⌝ }
-    ensures { λ r. ⌜ r ≡ operand-at (now (chart .entry)) (edge .at + 4) (now (row .entry)) ⌝ }
+    ensures { λ r. ⌜ r ≡ first-at (now (chart .entry)) (edge .at) (now (row .entry)) ⌝ }
 {
     let tag = encoded::first_tag(chart, edge);
     let w = encoded::first_value(chart, edge);
@@ -68,7 +67,7 @@ fn first_operand(chart: &[i32], edge: Edge, row: &[i32]) -> i32
 
 fn second_operand(chart: &[i32], edge: Edge, row: &[i32]) -> i32
     requires { ⌜ edge .at < 4294967296 ⌝ }
-    ensures { λ r. ⌜ r ≡ operand-at (now (chart .entry)) (edge .at + 6) (now (row .entry)) ⌝ }
+    ensures { λ r. ⌜ r ≡ second-at (now (chart .entry)) (edge .at) (now (row .entry)) ⌝ }
 {
     let tag = encoded::second_tag(chart, edge);
     let w = encoded::second_value(chart, edge);
@@ -124,38 +123,34 @@ fn assign(chart: &[i32], edge: Edge, row: &mut [i32]) -> bool
     put_value(chart, k, a == words::TOP, words::wide(a), row)
 }
 
-fn add(chart: &[i32], edge: Edge, row: &mut [i32]) -> bool
+// The target becomes z, what an operation makes of a and b, or top where one of them is.
+fn put_result(chart: &[i32], edge: Edge, a: i32, b: i32, z: i64, row: &mut [i32]) -> bool
     requires { ⌜ edge .at < 4294967296 ⌝ }
-    ensures { λ r. ⌜ step-of r (now (row .exit)) ≡ add-at (now (chart .entry)) (edge .at) (now (row .entry)) ⌝ }
+    ensures { λ r. ⌜ step-of r (now (row .exit)) ≡ set-result (now (chart .entry)) (edge .at) a b z (now (row .entry)) ⌝ }
 {
     let k = encoded::edge_target(chart, edge);
+    put_value(chart, k, (a == words::TOP) | (b == words::TOP), z, row)
+}
+
+fn add(chart: &[i32], edge: Edge, row: &mut [i32]) -> bool
+    requires { ⌜ edge .at < 4294967296 ⌝ }
+    ensures { λ r. ⌜ step-of r (now (row .exit)) ≡ both-at _+ℤ_ (now (chart .entry)) (edge .at) (now (row .entry)) ⌝ }
+{
     let a = first_operand(chart, edge, row);
     let b = second_operand(chart, edge, row);
-    put_value(
-        chart,
-        k,
-        (a == words::TOP) | (b == words::TOP),
-        sum(a, b),
-        row,
-    )
+    put_result(chart, edge, a, b, sum(a, b), row)
 }
 
 fn sub(chart: &[i32], edge: Edge, row: &mut [i32]) -> bool
     requires { ⌜ edge .at < 4294967296 ⌝ }
-    ensures { λ r. ⌜ step-of r (now (row .exit)) ≡ sub-at (now (chart .entry)) (edge .at) (now (row .entry)) ⌝ }
+    ensures { λ r. ⌜ step-of r (now (row .exit)) ≡ both-at _-ℤ_ (now (chart .entry)) (edge .at) (now (row .entry)) ⌝ }
 {
-    let k = encoded::edge_target(chart, edge);
     let a = first_operand(chart, edge, row);
     let b = second_operand(chart, edge, row);
-    put_value(
-        chart,
-        k,
-        (a == words::TOP) | (b == words::TOP),
-        difference(a, b),
-        row,
-    )
+    put_result(chart, edge, a, b, difference(a, b), row)
 }
 
+// A value from p up to q: known only where they are the same.
 fn input(chart: &[i32], edge: Edge, row: &mut [i32]) -> bool
     requires { ⌜ edge .at < 4294967296 ⌝ }
     ensures { λ r. ⌜ step-of r (now (row .exit)) ≡ input-at (now (chart .entry)) (edge .at) (now (row .entry)) ⌝ }
@@ -196,6 +191,7 @@ fn refine(chart: &[i32], n: usize, k: usize, x: i32, row: &mut [i32]) -> bool
     true
 }
 
+// The relation of code n between the target and an operand: a test, or what it says of a side at top.
 fn assume(chart: &[i32], n: usize, edge: Edge, row: &mut [i32]) -> bool
     requires { ⌜ edge .at < 4294967296 ⌝ }
     ensures { λ r. ⌜ step-of r (now (row .exit)) ≡ assume-at (now (chart .entry)) n (edge .at) (now (row .entry)) ⌝ }
@@ -213,6 +209,7 @@ fn assume(chart: &[i32], n: usize, edge: Edge, row: &mut [i32]) -> bool
     holds(n, x, y)
 }
 
+// The operation of the edge, by its code.
 fn apply(chart: &[i32], edge: Edge, row: &mut [i32]) -> bool
     requires { ⌜ edge .at < 4294967296 ⌝ }
     ensures { λ r. ⌜ step-of r (now (row .exit)) ≡ op-by (count (now (chart .entry)) (edge .at + 2)) (now (chart .entry)) (edge .at) (now (row .entry)) ⌝ }

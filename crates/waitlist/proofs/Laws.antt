@@ -4,12 +4,11 @@ use mathlib.Core.Logic.{inl, inr}
 use mathlib.Core.Bool.{Bool, true, false}
 use mathlib.Core.List.{List, [], _∷_, _++_, map}
 use Prim.Native.Nat.{ℕ, suc, _+_, _-_, _<_}
-use native.Mathlib.Numerals.{add-one}
 use native.Mathlib.Omega.{arith}
 use lib.Dec.{eqb}
 use lib.IntN.{ℤ, pos, natAbs}
-use lib.ListN.{length, take, drop, getD, set, replicate, length-map, length-append, length-set}
-use lib.Seq.{take-at, drop-at, drop-cons, set-at, append-snoc}
+use lib.ListN.{length, take, drop, set, replicate, length-map, length-append, length-set}
+use lib.Seq.{take-at, drop-at, set-at, append-snoc}
 use Rattle.semantics.specs.Chart.{eqZ}
 use Rattle.semantics.specs.Lists.{In, some-of}
 use Rattle.semantics.specs.Algorithm.{without}
@@ -45,9 +44,6 @@ module _ {l : List ℤ} {n : ℕ} {wa : List ℕ} (p : Stored l n wa) where
     where
       len : length (set l n (pos k)) ≡ length l
       len = simp length-set
-
-      rest : List ℤ
-      rest = replicate (length l - (n + 1)) (pos 0)
 
       split : l ≡ map pos wa ++ pos 0 ∷ replicate (length l - (n + 1)) (pos 0)
       split = let e : length l - n ≡ suc (length l - (n + 1)) = omega arith in p .words ∙ rw e

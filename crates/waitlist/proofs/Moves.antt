@@ -86,12 +86,6 @@ take-first-held [] p h = absurd (omega (arith, p .count))
 take-first-held {l} {n} (k ∷ ws) p h =
     (k, ap (λ (x : List ℤ). getD x 0 (pos 0)) (p .words), record { taken = ap (λ (x : List ℕ). some (record { slot = k; rest = x })) (sym (held put)); kept = kept put })
   where
-    l′ : List ℤ
-    l′ = shifted (take n l) ++ drop n l
-
-    zeros : ℕ
-    zeros = length l - n
-
     form : shifted (take n l) ++ drop n l ≡ map pos ws ++ replicate (suc (length l - n)) (pos 0)
     form =
         ap (λ (x : List ℤ). shifted x ++ drop n l) (front p) ∙ ap (λ (x : List ℤ). x ++ drop n l) (shift-held (pos k) ws)

@@ -1,5 +1,6 @@
-// The waitlist in lent words: its slot numbers, longest waiting first, then zeros. Each function takes and returns the
-// count of slots that wait.
+// The waitlist in lent words: its slot numbers, longest waiting first, then zeros. Each function is given the count of
+// slots that wait. A function that puts a slot on the list or takes a named one off returns the count after it; the
+// take of the next slot returns that slot, and leaves one fewer.
 use semantics::Order;
 use semantics::SlotId;
 ghost use mathlib.Core.Path.{_≡_};
@@ -15,13 +16,21 @@ ghost use Rattle.semantics.specs.Algorithm.{without, put-back, wait};
 ghost use Rattle.semantics.specs.Coverage.{Queue};
 ghost use Rattle.waitlist.specs.Waits.{waits, Stored, pushed, shifted, wait-unless, others, next-place, kept-at, TakenFrom};
 
+// The word that says a slot.
+fn slot_word(slot: SlotId) -> i32
+    requires { ⌜ slot .0 < 65536 ⌝ }
+    ensures { λ r. ⌜ r ≡ pos (slot .0) ⌝ }
+{
+    let n = slot.0;
+    n as i32
+}
+
 // Whether the slot is waiting.
 pub fn contains(list: &[i32], count: usize, slot: SlotId) -> bool
     requires { ⌜ Stored (now list) count (waits count (now list)) × (slot .0 < 65536) ⌝ }
     ensures { λ r. ⌜ r ≡ some-of (eqb (slot .0)) (waits count (now (list .entry))) ⌝ }
 {
-    let n = slot.0;
-    let k = n as i32;
+    let k = slot_word(slot);
     words::contains(&list[..count], k)
 }
 
@@ -30,9 +39,7 @@ pub fn append(list: &mut [i32], count: usize, slot: SlotId) -> usize
     requires { ⌜ Stored (now list) count (waits count (now list)) × (count < length (now list)) × (slot .0 < 65536) ⌝ }
     ensures { λ r. ⌜ Stored (now (list .exit)) r (waits count (now (list .entry)) ++ (slot .0 ∷ [])) ⌝ }
 {
-    let n = slot.0;
-    let k = n as i32;
-    list[count] = k;
+    list[count] = slot_word(slot);
     count + 1
 }
 
@@ -121,9 +128,9 @@ fn take_old(list: &mut [i32], count: usize) -> SlotId
     requires { ⌜ Stored (now list) count (waits count (now list)) × (0 < count) ⌝ }
     ensures { λ r. ⌜ TakenFrom Old (waits count (now (list .entry))) (r .0) (now (list .exit)) (count - 1) ⌝ }
 {
-    let w = list[0];
+    let k = words::number_at(list, 0);
     shift_down(&mut list[..count]);
-    SlotId(w as usize)
+    SlotId(k)
 }
 
 // Takes the slot that joined last.
@@ -132,9 +139,9 @@ fn take_new(list: &mut [i32], count: usize) -> SlotId
     ensures { λ r. ⌜ TakenFrom New (waits count (now (list .entry))) (r .0) (now (list .exit)) (count - 1) ⌝ }
 {
     let at = count - 1;
-    let w = list[at];
+    let k = words::number_at(list, at);
     list[at] = 0;
-    SlotId(w as usize)
+    SlotId(k)
 }
 
 // Takes the slot that is next by the order.
@@ -153,9 +160,7 @@ pub fn remove(list: &mut [i32], count: usize, slot: SlotId) -> usize
     requires { ⌜ Stored (now list) count (waits count (now list)) × (slot .0 < 65536) ⌝ }
     ensures { λ r. ⌜ Stored (now (list .exit)) r (without (slot .0) (waits count (now (list .entry)))) ⌝ }
 {
-    let n = slot.0;
-    let k = n as i32;
-    remove_word(list, count, k)
+    remove_word(list, count, slot_word(slot))
 }
 
 // The slot joins the waitlist at its front.
@@ -163,9 +168,7 @@ pub fn prepend(list: &mut [i32], count: usize, slot: SlotId) -> usize
     requires { ⌜ Stored (now list) count (waits count (now list)) × (count < length (now list)) × (slot .0 < 65536) ⌝ }
     ensures { λ r. ⌜ Stored (now (list .exit)) r (slot .0 ∷ waits count (now (list .entry))) ⌝ }
 {
-    let n = slot.0;
-    let k = n as i32;
-    push_front(list, k);
+    push_front(list, slot_word(slot));
     count + 1
 }
 

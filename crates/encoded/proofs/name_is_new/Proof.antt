@@ -1,47 +1,33 @@
--- `encoded::name_is_new` meets its contract: what is said of the whole is said of the rows passed and of the rows left. Assumes nothing.
-use mathlib.Core.Path.{_≡_, refl, sym, ap, _∙_}
-use mathlib.Core.Bool.{_&&_, true, not}
-use Prim.Native.Nat.{_-_, _*_, _≤_}
+-- `encoded::name_is_new` meets its contract. Assumes nothing.
+use mathlib.Core.Path.{sym, ap}
+use Prim.Native.Nat.{_-_}
 use native.Mathlib.Omega.{arith}
-use mathlib.Core.List.{List}
-use lib.IntN.{ℤ}
+use mathlib.Core.Bool.{not}
 use borrow.Author.Needs.{needs}
-use lib.ListN.{drop}
-use Rattle.semantics.specs.Lists.{all}
-use Rattle.semantics.specs.Text.{same-bytes}
-use Rattle.semantics.specs.Encoding.{loc-in, several}
-use Rattle.words.proofs.Rows.{tail}
-use Rattle.encoded.proofs.Facts.{rows-start, rows-turn, rows-end}
+use Rattle.semantics.specs.Encoding.{loc-in}
+use Rattle.encoded.proofs.Facts.{Passed, rows-start, rows-turn, rows-end}
 use Rattle.encoded.proofs.Names.{other-name}
 use Rattle.encoded.proofs.name_is_new.Statement.{statement}
 use Rattle.encoded.proofs.name_is_new.Tie as tie
 
 abbrev Inv-loop : tie.InvT-loop
-Inv-loop row locations n ok₀ i₀ at₀ ok i at =
-    (i ≤ n) × (at ≡ 17 * i)
-    × (all (other-name row) (several loc-in 17 n locations) ≡ ok && all (other-name row) (several loc-in 17 (n - i) (drop at locations)))
+Inv-loop row locations n ok₀ i₀ at₀ ok i at = Passed (other-name row) loc-in 17 n locations ok i at
 
 abbrev μ-loop : tie.MeasureT-loop
 μ-loop row locations n ok₀ i₀ at₀ ok i at = n - i
-
-loop-holds : tie.Need-loop-holds Inv-loop μ-loop
-loop-holds c =
-    let a = c .args in
-    (omega arith, refl, rows-start (other-name (a .row .now)) loc-in 17 (a .n) (a .locations .now) true 0 0)
 
 loop-again : tie.Need-loop-again Inv-loop μ-loop
 loop-again c =
     let b = c .before .before .before in
     let a = b .before .args in
     let l = b .loop in
-    let e = ap not (c .same-name .ensures ∙ ap (λ (r : List ℤ). same-bytes (loc-in (a .row .now) .name) (loc-in r .name)) (tail (a .locations .now) (l .at))) in
-    (omega arith, omega arith, l .inv .2 ∙ rows-turn (other-name (a .row .now)) loc-in 17 (a .n) (a .locations .now) (l .ok) (l .i) (l .at) (not (c .same-name .result)) e (c .before .before .loop-test .taken))
+    rows-turn (other-name (a .row .now)) loc-in 17 (a .n) (a .locations .now) (l .ok) (l .i) (l .at) (l .inv) (c .before .before .loop-test .taken) (not (c .same-name .result)) (ap not (c .same-name .ensures))
 
 returns : tie.Need-returns Inv-loop μ-loop
 returns c =
     let l = c .before .loop in
     let a = c .before .before .args in
-    sym (l .inv .2 ∙ rows-end (other-name (a .row .now)) loc-in 17 (a .n) (a .locations .now) (l .ok) (l .i) (l .at) (c .loop-test .left))
+    sym (rows-end (other-name (a .row .now)) loc-in 17 (a .n) (a .locations .now) (l .ok) (l .i) (l .at) (l .inv) (c .loop-test .left))
 
 pub name-is-new-spec : {M : Type 1} → statement M
 name-is-new-spec =
@@ -49,7 +35,7 @@ name-is-new-spec =
     (tie.spec
     Inv-loop
     μ-loop
-    loop-holds
+    (λ c. let a = c .args in rows-start (other-name (a .row .now)) loc-in 17 (a .n) (a .locations .now))
     (λ c. omega arith)
     (λ c. omega arith)
     (λ c. omega arith)

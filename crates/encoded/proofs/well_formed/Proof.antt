@@ -10,9 +10,6 @@ use Rattle.encoded.proofs.WellFormed.{no-counts, no-room, by-rows}
 use Rattle.encoded.proofs.well_formed.Statement.{statement}
 use Rattle.encoded.proofs.well_formed.Tie as tie
 
-rows-ok-requires : tie.Need-rows-ok-requires
-rows-ok-requires c κs = omega (arith, c .before .end-of .ensures)
-
 returns : tie.Need-returns
 returns c =
     let b = c .before .before in
@@ -31,4 +28,4 @@ returns-3 c = let k = c .before in sym (no-counts (k .before .args .chart .now) 
 
 pub well-formed-spec : {M : Type 1} → statement M
 well-formed-spec =
-    tie.close (tie.spec (λ c κs. search needs) (λ c κs. search needs) rows-ok-requires returns returns-2 returns-3)
+    tie.close (tie.spec (λ c κs. search needs) (λ c κs. search needs) (λ c κs. omega (arith, c .before .end-of .ensures)) returns returns-2 returns-3)

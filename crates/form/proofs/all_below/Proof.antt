@@ -1,4 +1,5 @@
--- `form::all_below` meets its contract. The invariant: the list passes exactly when what is left passes. Assumes nothing.
+-- `form::all_below` meets its contract. The invariant: the list passes exactly when what is left passes.
+-- Assumes nothing.
 use mathlib.Core.Path.{_≡_, refl, sym, ap, _∙_}
 use mathlib.Core.Bool.{Bool, true, false, _&&_}
 use mathlib.Core.List.{List}
@@ -21,9 +22,6 @@ Inv-loop list n i₀ i = (i ≤ length list) × (all (below n) list ≡ all (bel
 
 abbrev μ-loop : tie.MeasureT-loop
 μ-loop list n i₀ i = length list - i
-
-loop-holds : tie.Need-loop-holds Inv-loop μ-loop
-loop-holds c = (omega arith, refl)
 
 module _ (c : tie.After-is-below Inv-loop μ-loop) where
   abbrev list : List ℤ
@@ -60,7 +58,7 @@ all-below-spec =
     (tie.spec
     Inv-loop
     μ-loop
-    loop-holds
+    (λ c. (omega arith, refl))
     (λ c. omega arith)
     (λ c. omega arith)
     (λ c κs. search needs)

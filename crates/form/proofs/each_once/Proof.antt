@@ -1,4 +1,5 @@
--- `form::each_once` meets its contract. The invariant: no word stands twice exactly when none does in what is left. Assumes nothing.
+-- `form::each_once` meets its contract. The invariant: no word stands twice exactly when none does in what is left.
+-- Assumes nothing.
 use mathlib.Core.Path.{_≡_, refl, sym, ap, _∙_}
 use mathlib.Core.Bool.{Bool, true, false, _&&_, not}
 use mathlib.Core.List.{List}
@@ -22,9 +23,6 @@ Inv-loop list i₀ i = (i ≤ length list) × (each-once list ≡ each-once (dro
 
 abbrev μ-loop : tie.MeasureT-loop
 μ-loop list i₀ i = length list - i
-
-loop-holds : tie.Need-loop-holds Inv-loop μ-loop
-loop-holds c = (omega arith, refl)
 
 module _ (c : tie.After-contains Inv-loop μ-loop) where
   abbrev list : List ℤ
@@ -59,7 +57,7 @@ each-once-spec =
     (tie.spec
     Inv-loop
     μ-loop
-    loop-holds
+    (λ c. (omega arith, refl))
     (λ c. omega arith)
     (λ c. omega arith)
     (λ c. omega arith)

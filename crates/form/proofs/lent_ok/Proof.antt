@@ -1,4 +1,5 @@
--- `form::lent_ok` meets its contract: after each test that passed, what is left of them says the whole. Assumes nothing.
+-- `form::lent_ok` meets its contract: after each test that passed, what is left of them says the whole.
+-- Assumes nothing.
 use mathlib.Core.Path.{_≡_, refl, sym, ap, subst, _∙_}
 use mathlib.Core.Bool.{Bool, _&&_}
 use mathlib.Core.List.{List}
@@ -139,45 +140,17 @@ module _ (c : tie.After-width) where
   room : capacity start * w ≤ length (table start)
   room = subst (λ (n : ℕ). capacity start * n ≤ length (table start)) (sym wide) (start .pre .0)
 
-mul-from : tie.Need-mul-from
-mul-from c = omega (arith, below-room c, room c, start c .good)
-
-mul-to : tie.Need-mul-to
-mul-to c = omega (arith, room c, start c .good)
-
-mul-all-zero : tie.Need-mul-all-zero
-mul-all-zero c = omega (arith, below-room c, room c, start c .good)
-
-sub-all-zero : tie.Need-sub-all-zero
-sub-all-zero c = omega (arith, below-room c)
-
-part-all-zero-start : tie.Need-part-all-zero-start
-part-all-zero-start c = omega (arith, below-room c)
-
-part-all-zero-end : tie.Need-part-all-zero-end
-part-all-zero-end c = omega (arith, below-room c, room c)
-
-slots-tested : (c : tie.After-all-zero) → c .all-zero .result ≡ slots (start (c .before .before))
-slots-tested c =
-    let p = c .before .before in
-    let s = start p in
-    let e = wide p in
-    c .all-zero .ensures ∙ ap zeros (sym (drop-take (used s * w p) (capacity s * w p) (table s)))
-    ∙ (λ j. zeros (drop (used s * e j) (take (capacity s * e j) (table s))))
-
 returns-5 : tie.Need-returns-5
 returns-5 c =
-    let p = c .before in
-    failed (slots-tested p) (not-true (p .all-zero .result) (c .if5 .taken)) (rest (start (p .before .before))) ∙ after-four (p .before .before .before)
-
-returns-6 : tie.Need-returns-6
-returns-6 c =
-    let b = c .before .before in
-    let p = b .before in
-    let s = start (p .before .before) in
-    c .all-zero2 .ensures ∙ ap zeros (sym (drop-take (waiting s) (capacity s) (list s)))
-    ∙ passed (slots-tested p) (not-false (p .all-zero .result) (b .if5 .left)) (rest s)
-    ∙ after-four (p .before .before .before)
+    let z = c .before .before in
+    let p = z .before .before in
+    let s = start p in
+    let e = wide p in
+    let slots-tested =
+    z .all-zero .ensures ∙ ap zeros (sym (drop-take (used s * w p) (capacity s * w p) (table s)))
+    ∙ λ j. zeros (drop (used s * e j) (take (capacity s * e j) (table s))) in
+    let list-tested = c .all-zero2 .ensures ∙ ap zeros (sym (drop-take (waiting s) (capacity s) (list s))) in
+    (λ j. slots-tested j && list-tested j) ∙ after-four (p .before)
 
 pub lent-ok-spec : {M : Type 1} → statement M
 lent-ok-spec =
@@ -191,17 +164,16 @@ lent-ok-spec =
     (λ c κs. search needs)
     returns-4
     (λ c κs. search needs)
-    mul-from
-    mul-to
-    mul-all-zero
-    sub-all-zero
-    part-all-zero-start
-    part-all-zero-end
+    (λ c. omega (arith, below-room c, room c, start c .good))
+    (λ c. omega (arith, room c, start c .good))
+    (λ c. omega (arith, below-room c, room c, start c .good))
+    (λ c. omega (arith, below-room c))
+    (λ c. omega (arith, below-room c))
+    (λ c. omega (arith, below-room c, room c))
     (λ c κs. search needs)
-    returns-5
     (λ c. search needs)
     (λ c. search needs)
     (λ c. search needs)
     (λ c. search needs)
     (λ c κs. search needs)
-    returns-6)
+    returns-5)

@@ -7,16 +7,19 @@ use Rattle.form.proofs.record_ok.Tie as tie
 
 returns : tie.Need-returns
 returns c =
-    let s = c .before .before .before .before .before .before .before .before .before .args in
+    let k = c .before .before in
+    let e = k .before .before .before in
+    let a = e .before .before .before .before .args .a in
     record-grouped
-    (leb (s .a .iterations) 60000)
-    (leb (s .a .edge .0) (s .edges))
-    (leb 1 (s .a .capacity))
-    (leb (s .a .capacity) 256)
+    (leb (a .iterations) 60000)
+    (leb 1 (a .capacity))
+    (leb (a .capacity) 256)
+    (e .is-edge-of .ensures)
     (c .before .edge-ok .ensures)
-    (c .before .before .is-allowed .ensures)
+    (k .is-allowed .ensures)
     (c .empty-if-safe .ensures)
 
 pub record-ok-spec : {M : Type 1} → statement M
 record-ok-spec =
-    tie.close (tie.spec (λ c κs. search needs) (λ c κs. search needs) (λ c κs. search needs) returns)
+    tie.close
+    (tie.spec (λ c κs. search needs) (λ c κs. search needs) (λ c κs. search needs) (λ c κs. search needs) returns)

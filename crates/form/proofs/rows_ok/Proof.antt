@@ -1,5 +1,5 @@
--- `form::rows_ok` meets its contract. The invariant: `from` is the first word of slot s, and the slots in use pass exactly when those from s on
--- do. Assumes nothing.
+-- `form::rows_ok` meets its contract. The invariant: `from` is the first word of slot s, and the slots in use pass
+-- exactly when those from s on do. Assumes nothing.
 use mathlib.Core.Path.{_≡_, sym, ap, subst, _∙_}
 use mathlib.Core.Bool.{Bool, true, false, _&&_}
 use mathlib.Core.List.{List}
@@ -48,15 +48,6 @@ module _ (c : tie.In-loop Inv-loop μ-loop) where
       let all : used * w ≤ length table = subst (λ (n : ℕ). used * n ≤ length table) (sym wide) (c .before .before .before .pre) in
       omega (arith, all, c .before .loop .inv .1, row-in (c .before .loop .s) used w (c .loop-test .taken))
 
-add-to : tie.Need-add-to Inv-loop μ-loop
-add-to c = omega (arith, room c)
-
-mul-row-ok : tie.Need-mul-row-ok Inv-loop μ-loop
-mul-row-ok c = omega (arith, room c)
-
-part-row-ok-end : tie.Need-part-row-ok-end Inv-loop μ-loop
-part-row-ok-end c = room c
-
 row-ok-requires : tie.Need-row-ok-requires Inv-loop μ-loop
 row-ok-requires c κs =
     let p = c .before in
@@ -97,11 +88,11 @@ rows-ok-spec =
     μ-loop
     (λ c κs. search needs)
     loop-holds
-    add-to
-    mul-row-ok
+    (λ c. omega (arith, room c))
+    (λ c. omega (arith, room c))
     (λ c. omega arith)
     (λ c. omega arith)
-    part-row-ok-end
+    (λ c. room c)
     row-ok-requires
     returns
     (λ c. search needs)

@@ -1,4 +1,5 @@
--- `form::values_ok` meets its contract. The invariant: the values pass exactly when what is left passes. Assumes nothing.
+-- `form::values_ok` meets its contract. The invariant: the values pass exactly when what is left passes.
+-- Assumes nothing.
 use mathlib.Core.Path.{_≡_, sym, ap, _∙_}
 use mathlib.Core.Bool.{Bool, true, false, _&&_, _||_}
 use mathlib.Core.List.{List}
@@ -26,9 +27,6 @@ Inv-loop chart values i₀ i =
 
 abbrev μ-loop : tie.MeasureT-loop
 μ-loop chart values i₀ i = length values - i
-
-loop-holds : tie.Need-loop-holds Inv-loop μ-loop
-loop-holds c = (omega arith, rw (sub-zero (length (c .args .values .now))))
 
 module _ (c : tie.After-value-ok Inv-loop μ-loop) where
   abbrev chart : List ℤ
@@ -85,7 +83,7 @@ values-ok-spec =
     (tie.spec
     Inv-loop
     μ-loop
-    loop-holds
+    (λ c. (omega arith, rw (sub-zero (length (c .args .values .now)))))
     (λ c κs. omega arith)
     (λ c κs. omega arith)
     (λ c. omega arith)

@@ -18,9 +18,6 @@ Inv-loop chart edges heads₀ nexts₀ first number₀ heads nexts number =
 abbrev μ-loop : tie.MeasureT-loop
 μ-loop chart edges heads₀ nexts₀ first number₀ heads nexts number = number
 
-loop-holds : tie.Need-loop-holds Inv-loop μ-loop
-loop-holds c = (c .before .before .before .pre .0, omega arith, refl, refl)
-
 loop-again : tie.Need-loop-again Inv-loop μ-loop
 loop-again c =
     let two = c .before .before .put2 in
@@ -52,7 +49,7 @@ chain-spec =
     Inv-loop
     μ-loop
     (λ c κs. search needs)
-    loop-holds
+    (λ c. (c .before .before .before .pre .0, omega arith, refl, refl))
     (λ c κs. search needs)
     (λ c κs. search needs)
     (λ c κs. search needs)

@@ -50,15 +50,6 @@ loop-holds c =
     let n : c .args .used - 0 ≡ c .args .used = omega arith in
     (omega arith, z, rw n)
 
-add-to : tie.Need-add-to Inv-loop μ-loop
-add-to c = omega (arith, room c)
-
-mul-leq-row : tie.Need-mul-leq-row Inv-loop μ-loop
-mul-leq-row c = omega (arith, room c)
-
-part-leq-row-end : tie.Need-part-leq-row-end Inv-loop μ-loop
-part-leq-row-end c = room c
-
 leq-row-requires : tie.Need-leq-row-requires Inv-loop μ-loop
 leq-row-requires c κs =
     let b = c .before .before in
@@ -85,11 +76,11 @@ covered-spec =
     Inv-loop
     μ-loop
     loop-holds
-    add-to
-    mul-leq-row
+    (λ c. omega (arith, room c))
+    (λ c. omega (arith, room c))
     (λ c. omega arith)
     (λ c. omega arith)
-    part-leq-row-end
+    (λ c. room c)
     leq-row-requires
     returns
     (λ c. search needs)

@@ -1,5 +1,4 @@
 -- `reached::get_row` meets its contract. Assumes nothing.
-use Prim.Native.Nat.{_-_}
 use borrow.Author.Needs.{needs}
 use Rattle.words.proofs.Rows.{span}
 use Rattle.reached.proofs.get_row.Statement.{statement}

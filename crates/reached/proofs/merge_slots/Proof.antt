@@ -43,15 +43,6 @@ loop-holds c =
     let n : c .args .used - 0 ≡ c .args .used = omega arith in
     (omega arith, z, refl, rw n, refl, c .pre .1 .0, c .pre .1 .1, rw n)
 
-add-to : tie.Need-add-to Inv-loop μ-loop
-add-to c = omega (arith, room c)
-
-mul-merge-row : tie.Need-mul-merge-row Inv-loop μ-loop
-mul-merge-row c = omega (arith, room c)
-
-part-merge-row-end : tie.Need-part-merge-row-end Inv-loop μ-loop
-part-merge-row-end c = room c
-
 merge-row-requires : tie.Need-merge-row-requires Inv-loop μ-loop
 merge-row-requires c κs =
     let b = c .before .before in
@@ -89,12 +80,6 @@ loop-again c =
       b .loop .inv .7 ∙ rw (k, now-waits, drop-put t (b .loop .from) w ws (room i) len, flag, add-one),
     )
 
-same-length : tie.Need-same-length Inv-loop μ-loop
-same-length c = c .before .loop .inv .2
-
-same-length-2 : tie.Need-same-length-2 Inv-loop μ-loop
-same-length-2 c = c .before .loop .inv .4
-
 returns : tie.Need-returns Inv-loop μ-loop
 returns c =
     let b = c .before in
@@ -108,16 +93,16 @@ merge-slots-spec =
     Inv-loop
     μ-loop
     loop-holds
-    add-to
-    mul-merge-row
+    (λ c. omega (arith, room c))
+    (λ c. omega (arith, room c))
     (λ c. omega arith)
     (λ c. omega arith)
-    part-merge-row-end
+    (λ c. room c)
     merge-row-requires
     wait-unless-requires
     (λ c. search needs)
     (λ c. search needs)
     loop-again
-    same-length
-    same-length-2
+    (λ c. c .before .loop .inv .2)
+    (λ c. c .before .loop .inv .4)
     returns)

@@ -1,5 +1,4 @@
 -- `reached::put_row` meets its contract. Assumes nothing.
-use Prim.Native.Nat.{_-_}
 use borrow.Author.Needs.{needs}
 use Rattle.words.proofs.Rows.{span}
 use Rattle.reached.proofs.put_row.Statement.{statement}

@@ -1,4 +1,5 @@
--- `rows::join_row` meets its contract: the row is what is joined so far, and then what is left to join. Assumes nothing.
+-- `rows::join_row` meets its contract: the row is what is joined so far, and then what is left to join.
+-- Assumes nothing.
 use mathlib.Core.Path.{_≡_, sym, refl, _∙_}
 use mathlib.Core.Bool.{_&&_}
 use mathlib.Core.List.{_++_}
@@ -27,9 +28,6 @@ abbrev μ-loop : tie.MeasureT-loop
 loop-holds : tie.Need-loop-holds Inv-loop μ-loop
 loop-holds c = (omega arith, omega arith, refl, refl, same-start (c .args .e .now) (c .args .s .now) (omega arith))
 
-loop-less : tie.Need-loop-less Inv-loop μ-loop
-loop-less c = simp length-set (omega arith)
-
 loop-again : tie.Need-loop-again Inv-loop μ-loop
 loop-again c =
     let b = c .before .before .before .before in
@@ -51,9 +49,6 @@ loop-again c =
       rw bz (b .loop .inv .3 ∙ join-turn e s i he hs z joined),
       rw (bits-eqb w32 {a = z} {b = y} fz fy, bz) (b .loop .inv .4 ∙ same-turn e s i he hs z joined (b .loop .same)),
     )
-
-same-length : tie.Need-same-length Inv-loop μ-loop
-same-length c = c .before .loop .inv .2
 
 returns : tie.Need-returns Inv-loop μ-loop
 returns c =
@@ -80,7 +75,7 @@ join-row-spec =
     (λ c. omega arith)
     (λ c. omega arith)
     (λ c. omega arith)
-    loop-less
+    (λ c. simp length-set (omega arith))
     loop-again
-    same-length
+    (λ c. c .before .loop .inv .2)
     returns)

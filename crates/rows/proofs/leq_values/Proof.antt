@@ -1,4 +1,5 @@
--- `rows::leq_values` meets its contract: what is said of the whole is said of the words passed and of what is left. Assumes nothing.
+-- `rows::leq_values` meets its contract: what is said of the whole is said of the words passed and of what is left.
+-- Assumes nothing.
 use mathlib.Core.Path.{_≡_, sym, refl, _∙_}
 use mathlib.Core.Bool.{_&&_}
 use Prim.Native.Nat.{_-_, _≤_}
@@ -18,9 +19,6 @@ Inv-loop e s ok₀ i₀ ok i = (1 ≤ i) × (i ≤ length s) × (words-leq (drop
 
 abbrev μ-loop : tie.MeasureT-loop
 μ-loop e s ok₀ i₀ ok i = length s - i
-
-loop-holds : tie.Need-loop-holds Inv-loop μ-loop
-loop-holds c = (omega arith, omega arith, refl)
 
 loop-again : tie.Need-loop-again Inv-loop μ-loop
 loop-again c =
@@ -46,7 +44,7 @@ leq-values-spec =
     (tie.spec
     Inv-loop
     μ-loop
-    loop-holds
+    (λ c. (omega arith, omega arith, refl))
     (λ c. omega arith)
     (λ c. omega arith)
     (λ c. omega arith)

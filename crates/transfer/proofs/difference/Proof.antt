@@ -5,12 +5,6 @@ use Rattle.words.proofs.Words.{widens, widened, diff-fits}
 use Rattle.transfer.proofs.difference.Statement.{statement}
 use Rattle.transfer.proofs.difference.Tie as tie
 
-cast-result : tie.Need-cast-result
-cast-result c = widens (c .fits .a)
-
-cast-result-2 : tie.Need-cast-result-2
-cast-result-2 c = widens (c .fits .b)
-
 sub-result : tie.Need-sub-result
 sub-result c = rw (widened (c .fits .a), widened (c .fits .b)) (diff-fits (c .fits .a) (c .fits .b))
 
@@ -18,4 +12,4 @@ returns : tie.Need-returns
 returns c = rw (widened (c .fits .a), widened (c .fits .b)) (toZ-ofZ w64 _ (diff-fits (c .fits .a) (c .fits .b)))
 
 pub difference-spec : {M : Type 1} → statement M
-difference-spec = tie.close (tie.spec cast-result cast-result-2 sub-result returns)
+difference-spec = tie.close (tie.spec (λ c. widens (c .fits .a)) (λ c. widens (c .fits .b)) sub-result returns)

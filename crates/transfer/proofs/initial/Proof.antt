@@ -26,9 +26,6 @@ loop-holds c =
     let h : 0 < length o = omega arith in
     (omega arith, simp length-set (omega (arith, c .var-count .ensures .0)), initial-start (c .before .args .chart .now) o (c .var-count .result) h (c .var-count .ensures .0))
 
-variable-init-requires : tie.Need-variable-init-requires Inv-loop μ-loop
-variable-init-requires c κs = omega (arith, c .before .before .var-count .ensures .1)
-
 loop-again : tie.Need-loop-again Inv-loop μ-loop
 loop-again c =
     let b = c .before .before in
@@ -71,7 +68,7 @@ initial-spec =
     (λ c κs. search needs)
     (λ c. omega arith)
     loop-holds
-    variable-init-requires
+    (λ c κs. omega (arith, c .before .before .var-count .ensures .1))
     (λ c. omega arith)
     (λ c. omega arith)
     (λ c. omega arith)

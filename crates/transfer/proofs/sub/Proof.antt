@@ -1,47 +1,29 @@
 -- `transfer::sub` meets its contract. Assumes nothing.
 use mathlib.Core.Path.{_∙_}
 use borrow.Author.Needs.{needs, sfits-of}
-use lib.IntN.{pos}
-use mir.Syntax.{w32, w64}
-use mir.Facts.{sfits-lit}
+use mir.Syntax.{w64}
 use mir.ValLaws.{toZ-ofZ}
-use Rattle.words.proofs.Words.{bits-eqb}
-use Rattle.transfer.specs.Transfer.{sub-at}
+use Rattle.words.proofs.Words.{told}
+use Rattle.transfer.specs.Transfer.{both-at}
 use Rattle.transfer.proofs.sub.Statement.{statement}
 use Rattle.transfer.proofs.sub.Tie as tie
 
 returns : tie.Need-returns
-unfolding sub-at
+unfolding both-at
 returns c =
-    let r = c .before .before .before in
-    let q = r .before in
-    let p = q .before .before in
-    let a = p .first-operand .result in
-    let b = q .second-operand .result in
-    let fa = sfits-of {z = a} (p .first-operand .ok) in
-    let fb = sfits-of {z = b} (q .second-operand .ok) in
-    let w = r .difference .result in
-    c .before .put-value .ensures
+    let s = c .before .before .before in
+    let q = s .before .second-operand in
+    let p = s .before .before .before .first-operand in
+    let z = s .difference .result in
+    c .before .put-result .ensures
     ∙ rw (
-      bits-eqb w32 {a = a} {b = pos 32768} fa (sfits-lit tt),
-      bits-eqb w32 {a = b} {b = pos 32768} fb (sfits-lit tt),
-      toZ-ofZ w64 w (sfits-of {z = w} (r .difference .ok)),
-      r .difference .ensures,
-      toZ-ofZ w32 a fa,
-      toZ-ofZ w32 b fb,
-      p .first-operand .ensures,
-      q .second-operand .ensures,
-      p .before .before .edge-target .ensures .0,
+      toZ-ofZ w64 z (sfits-of {z = z} (s .difference .ok)),
+      s .difference .ensures,
+      told (sfits-of {z = p .result} (p .ok)) (p .ensures),
+      told (sfits-of {z = q .result} (q .ok)) (q .ensures),
     )
 
 pub sub-spec : {M : Type 1} → statement M
 sub-spec =
     tie.close
-    (tie.spec
-    (λ c κs. search needs)
-    (λ c κs. search needs)
-    (λ c κs. search needs)
-    (λ c κs. search needs)
-    (λ c κs. search needs)
-    (λ c. search needs)
-    returns)
+    (tie.spec (λ c κs. search needs) (λ c κs. search needs) (λ c κs. search needs) (λ c κs. search needs) (λ c. search needs) returns)

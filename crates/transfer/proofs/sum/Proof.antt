@@ -5,12 +5,6 @@ use Rattle.words.proofs.Words.{widens, widened, sum-fits}
 use Rattle.transfer.proofs.sum.Statement.{statement}
 use Rattle.transfer.proofs.sum.Tie as tie
 
-cast-result : tie.Need-cast-result
-cast-result c = widens (c .fits .a)
-
-cast-result-2 : tie.Need-cast-result-2
-cast-result-2 c = widens (c .fits .b)
-
 add-result : tie.Need-add-result
 add-result c = rw (widened (c .fits .a), widened (c .fits .b)) (sum-fits (c .fits .a) (c .fits .b))
 
@@ -18,4 +12,4 @@ returns : tie.Need-returns
 returns c = rw (widened (c .fits .a), widened (c .fits .b)) (toZ-ofZ w64 _ (sum-fits (c .fits .a) (c .fits .b)))
 
 pub sum-spec : {M : Type 1} → statement M
-sum-spec = tie.close (tie.spec cast-result cast-result-2 add-result returns)
+sum-spec = tie.close (tie.spec (λ c. widens (c .fits .a)) (λ c. widens (c .fits .b)) add-result returns)

@@ -1,15 +1,15 @@
 -- `waitlist::append` meets its contract. Assumes nothing.
-use Prim.Native.Nat.{_-_}
-use native.Mathlib.Omega.{arith}
-use mir.Syntax.{w32}
-use mir.ValLaws.{toZ-pos}
-use borrow.Author.Needs.{needs}
+use borrow.Author.Needs.{needs, sfits-of}
+use Rattle.words.proofs.Words.{told}
 use Rattle.waitlist.proofs.Laws.{put-last}
 use Rattle.waitlist.proofs.append.Statement.{statement}
 use Rattle.waitlist.proofs.append.Tie as tie
 
 returns : tie.Need-returns
-returns c = rw (toZ-pos w32 (c .args .slot .0) (omega arith)) (put-last (c .pre .0) (c .args .slot .0) (c .pre .1))
+returns c =
+    let w = c .slot-word in
+    let s = c .before in
+    rw (told (sfits-of {z = w .result} (w .ok)) (w .ensures)) (put-last (s .pre .0) (s .args .slot .0) (s .pre .1))
 
 pub append-spec : {M : Type 1} → statement M
-append-spec = tie.close (tie.spec (λ c. search needs) (λ c. search needs) (λ c. search needs) (λ c. search needs) (λ c. search needs) returns)
+append-spec = tie.close (tie.spec (λ c κs. search needs) (λ c. search needs) (λ c. search needs) (λ c. search needs) (λ c. search needs) returns)

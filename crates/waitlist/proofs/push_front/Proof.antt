@@ -1,7 +1,7 @@
 -- `waitlist::push_front` meets its contract. Assumes nothing.
 use mathlib.Core.Path.{_≡_, refl, sym, _∙_}
 use mathlib.Core.List.{_++_}
-use Prim.Native.Nat.{_+_, _-_, _≤_}
+use Prim.Native.Nat.{_-_, _≤_}
 use native.Mathlib.Omega.{arith}
 use lib.IntN.{pos}
 use lib.ListN.{length, take, drop, getD, length-set}
@@ -19,9 +19,6 @@ Inv-loop s₀ x carry₀ i₀ s carry i = (i ≤ length s) × (length s ≡ leng
 
 abbrev μ-loop : tie.MeasureT-loop
 μ-loop s₀ x carry₀ i₀ s carry i = length s₀ - i
-
-loop-holds : tie.Need-loop-holds Inv-loop μ-loop
-loop-holds c = (omega arith, refl, refl)
 
 loop-again : tie.Need-loop-again Inv-loop μ-loop
 loop-again c =
@@ -41,7 +38,7 @@ push-front-spec =
     (tie.spec
     Inv-loop
     μ-loop
-    loop-holds
+    (λ c. (omega arith, refl, refl))
     (λ c. search needs)
     (λ c. search needs)
     (λ c. search needs)

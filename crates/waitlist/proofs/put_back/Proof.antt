@@ -1,23 +1,16 @@
 -- `waitlist::put_back` meets its contract. Assumes nothing.
-use Prim.Native.Nat.{_-_}
+use Prim.Native.Nat.{_<_}
 use native.Mathlib.Omega.{arith}
 use lib.ListN.{length}
 use borrow.Author.Needs.{needs}
-use Rattle.waitlist.specs.Waits.{waits}
+use Rattle.waitlist.specs.Waits.{waits, Stored}
 use Rattle.waitlist.proofs.Laws.{held, kept, back-room}
 use Rattle.waitlist.proofs.put_back.Statement.{statement}
 use Rattle.waitlist.proofs.put_back.Tie as tie
 
-prepend-requires : tie.Need-prepend-requires
-prepend-requires c κs =
-    let r = c .before .before .before .before in
-    let s = r .before .before in
-    let m = back-room (length (s .args .list .now)) (s .args .slot .0) (waits (s .args .count) (s .args .list .now)) (s .pre .3) (s .pre .1) in
-    (kept (r .remove .ensures), omega (arith, m, r .remove .ensures .count, r .remove .kept .0), omega arith)
-
-append-requires : tie.Need-append-requires
-append-requires c κs =
-    let r = c .before .before .before .before in
+-- the slot, taken out, finds a place
+ready : (r : tie.After-remove) → Stored (r .remove .last .0) (r .remove .result) (waits (r .remove .result) (r .remove .last .0)) × (r .remove .result < length (r .remove .last .0)) × (r .before .before .args .slot .0 < 65536)
+ready r =
     let s = r .before .before in
     let m = back-room (length (s .args .list .now)) (s .args .slot .0) (waits (s .args .count) (s .args .list .now)) (s .pre .3) (s .pre .1) in
     (kept (r .remove .ensures), omega (arith, m, r .remove .ensures .count, r .remove .kept .0), omega arith)
@@ -38,9 +31,9 @@ put-back-spec =
     (tie.spec
     (λ c κs. search needs)
     (λ c. search needs)
-    prepend-requires
+    (λ c κs. ready (c .before .before .before .before))
     (λ c. search needs)
-    append-requires
+    (λ c κs. ready (c .before .before .before .before))
     (λ c. search needs)
     returns
     (λ c. search needs)

@@ -19,9 +19,6 @@ Inv-loop s₀ last i₀ s i = (i ≤ last) × (length s ≡ length s₀) × (las
 abbrev μ-loop : tie.MeasureT-loop
 μ-loop s₀ last i₀ s i = last - i
 
-loop-holds : tie.Need-loop-holds Inv-loop μ-loop
-loop-holds c = (omega arith, refl, omega arith, refl)
-
 loop-again : tie.Need-loop-again Inv-loop μ-loop
 loop-again c =
     let b = c .before .before in
@@ -41,7 +38,7 @@ shift-down-spec =
     Inv-loop
     μ-loop
     (λ c. search needs)
-    loop-holds
+    (λ c. (omega arith, refl, omega arith, refl))
     (λ c. search needs)
     (λ c. search needs)
     (λ c. search needs)

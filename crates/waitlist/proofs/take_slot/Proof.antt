@@ -1,5 +1,4 @@
 -- `waitlist::take_slot` meets its contract. Assumes nothing.
-use Prim.Native.Nat.{_-_}
 use borrow.Author.Needs.{needs}
 use Rattle.waitlist.proofs.take_slot.Statement.{statement}
 use Rattle.waitlist.proofs.take_slot.Tie as tie

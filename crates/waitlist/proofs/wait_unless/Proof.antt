@@ -1,5 +1,4 @@
 -- `waitlist::wait_unless` meets its contract. Assumes nothing.
-use Prim.Native.Nat.{_-_}
 use borrow.Author.Needs.{needs}
 use Rattle.waitlist.proofs.wait_unless.Statement.{statement}
 use Rattle.waitlist.proofs.wait_unless.Tie as tie

@@ -1,0 +1,27 @@
+-- `transfer::put_result` meets its contract. Assumes nothing.
+use mathlib.Core.Path.{_∙_}
+use borrow.Author.Needs.{needs}
+use lib.IntN.{pos}
+use mir.Syntax.{w32, w64}
+use mir.Facts.{sfits-lit}
+use mir.ValLaws.{toZ-ofZ}
+use Rattle.words.proofs.Words.{bits-eqb}
+use Rattle.transfer.specs.Transfer.{set-result}
+use Rattle.transfer.proofs.put_result.Statement.{statement}
+use Rattle.transfer.proofs.put_result.Tie as tie
+
+returns : tie.Need-returns
+unfolding set-result
+returns c =
+    let t = c .before .before .before in
+    let s = t .before in
+    c .before .put-value .ensures
+    ∙ rw (
+      bits-eqb w32 {b = pos 32768} (s .fits .a) (sfits-lit tt),
+      bits-eqb w32 {b = pos 32768} (s .fits .b) (sfits-lit tt),
+      toZ-ofZ w64 (s .args .z) (s .fits .z),
+      t .edge-target .ensures .0,
+    )
+
+pub put-result-spec : {M : Type 1} → statement M
+put-result-spec = tie.close (tie.spec (λ c κs. search needs) (λ c κs. search needs) (λ c. search needs) returns)
