@@ -7,7 +7,7 @@ ghost use Rattle.semantics.specs.Text.{fields};
 ghost use Rattle.semantics.specs.Chart.{Chart};
 ghost use Rattle.semantics.specs.Encoding.{encode};
 ghost use Rattle.semantics.specs.Reading.{So-far, judge, ended, refused-at, bad-byte-line, open-line};
-ghost use Rattle.semantics.specs.Outcomes.{refused-by, held-unless, held-by, read-outcome};
+ghost use Rattle.semantics.specs.Outcomes.{held-unless, held-by, read-outcome};
 ghost use Rattle.reader.specs.Held.{Few, Rows, Names, Stepped, lines-judged, goes-on, nothing-judged, Came, Ready, Advanced};
 
 mod edge;
@@ -22,17 +22,6 @@ use tally::Step;
 use tally::Tally;
 use tally::used_words;
 
-// A refusal; with 0, what a call that goes through answers.
-fn refused(number: u32, line: usize) -> semantics::Answer
-    ensures { λ r. ⌜ r ≡ refused-by number line ⌝ }
-{
-    semantics::Answer {
-        number: number,
-        line: line,
-        length: 0,
-    }
-}
-
 // The rows to the words lent, after their counts; or 14, where these are too few.
 fn hold(t: Tally, table: &[i32], words: &mut [i32]) -> semantics::Answer
     requires { ⌜ Few t × (length (now table) ≡ 3160) ⌝ }
@@ -41,12 +30,12 @@ fn hold(t: Tally, table: &[i32], words: &mut [i32]) -> semantics::Answer
 {
     let size = used_words(t);
     if words.len() < size + 3 {
-        return refused(14, 0);
+        return semantics::refused(14, 0);
     }
     let counts = [t.vars as i32, t.locs as i32, t.edges as i32];
     store::push_row(words, 0, &counts);
     store::push_row(words, 3, &table[..size]);
-    refused(0, 0)
+    semantics::gone_through(0)
 }
 
 // After the last line.
@@ -56,7 +45,7 @@ fn finish(t: Tally, table: &[i32], words: &mut [i32]) -> semantics::Answer
     ensures { λ _. ⌜ ((c : Chart) → Rows t (now (table .entry)) c → now (words .exit) ≡ held-by (ended (is-empty (c .locs)) c) (now (words .entry)) .words) ⌝ }
 {
     if t.locs == 0 {
-        return refused(8, 0);
+        return semantics::refused(8, 0);
     }
     hold(t, table, words)
 }
@@ -160,7 +149,7 @@ fn read_lines(text: &[u8], words: &mut [i32]) -> semantics::Answer
     let p = go_down(text, &mut table, &mut names);
     let s = p.step;
     match s {
-        Step::Refused(k) => refused(k, p.line),
+        Step::Refused(k) => semantics::refused(k, p.line),
         Step::Go(t) => finish(t, &table, words),
     }
 }
@@ -171,9 +160,9 @@ fn read_text(text: &[u8], words: &mut [i32]) -> semantics::Answer
     ensures { λ _. ⌜ now (words .exit) ≡ held-by (refused-at (bad-byte-line 1 (now (text .entry))) 2 (refused-at (open-line 0 10 (now (text .entry))) 3 (lines-judged (now (text .entry))))) (now (words .entry)) .words ⌝ }
 {
     match scan::bad_byte(text) {
-        scan::Fault::Line(n) => refused(2, n),
+        scan::Fault::Line(n) => semantics::refused(2, n),
         scan::Fault::Nowhere => match scan::open_line(text) {
-            scan::Fault::Line(n) => refused(3, n),
+            scan::Fault::Line(n) => semantics::refused(3, n),
             scan::Fault::Nowhere => read_lines(text, words),
         },
     }
@@ -185,7 +174,7 @@ pub fn read(text: &[u8], words: &mut [i32]) -> semantics::Answer
     ensures { λ _. ⌜ now (words .exit) ≡ read-outcome (now (text .entry)) (now (words .entry)) .words ⌝ }
 {
     if 32768 < text.len() {
-        return refused(1, 0);
+        return semantics::refused(1, 0);
     }
     read_text(text, words)
 }
