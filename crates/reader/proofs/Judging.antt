@@ -1,5 +1,5 @@
 -- A judgement passed or failed, and what follows it. Assumes nothing.
-use mathlib.Core.Path.{_≡_, refl, sym}
+use mathlib.Core.Path.{_≡_, refl, sym, ap, _∙_}
 use mathlib.Core.Bool.{Bool, true, false, not}
 use mathlib.Core.List.{List, [], _∷_}
 use mathlib.Core.Option.{Option, none, some}
@@ -39,6 +39,10 @@ not-no {b = true} e = sym e
 pub not-yes : {b : Bool} → not b ≡ false → b ≡ true
 not-yes {b = true} e = refl
 not-yes {b = false} e = sym e
+
+-- what a function over a field answered, of the field as the line has it
+pub said : {A B : Type 0} (f : List ℕ → B) (v : A → B) {x y : List ℕ} {a b : A} → x ≡ y → v a ≡ f x → a ≡ b → f y ≡ v b
+said f v e n t = ap f (sym e) ∙ sym n ∙ ap v t
 
 -- ---- what passed
 

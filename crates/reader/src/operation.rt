@@ -5,7 +5,7 @@ ghost use Prim.Native.Nat.{_<_, _≤_};
 ghost use lib.IntN.{pos};
 ghost use lib.Signed.{leZ};
 ghost use Rattle.semantics.specs.Text.{fields};
-ghost use Rattle.semantics.specs.Chart.{within, skip};
+ghost use Rattle.semantics.specs.Chart.{skip};
 ghost use Rattle.semantics.specs.Encoding.{rel-code, op-words};
 ghost use Rattle.semantics.specs.Reading.{nth, ok, number-field, operand-field, rel-field};
 ghost use Rattle.reader.specs.Answers.{operand-field-res, op-res, the-word, the-rel};
@@ -96,19 +96,13 @@ fn two_operands(code: i32, v: usize, vars: usize, line: &[u8]) -> OpLine
     }
 }
 
-fn between(lo: i32, hi: i32, z: i32) -> bool
-    ensures { λ r. ⌜ r ≡ within lo hi z ⌝ }
-{
-    (lo <= z) & (z <= hi)
-}
-
 // Whether the number lies in the range of variable v.
 fn in_range(table: &[i32], v: usize, z: i32) -> bool
     requires { ⌜ v < 1000 ⌝ }
     ensures { λ r. ⌜ r ≡ in-table (now (table .entry)) v z ⌝ }
 {
     let at = 3 * v;
-    between(words::word_at(table, at), words::word_at(table, at + 1), z)
+    words::lies_within(words::word_at(table, at), words::word_at(table, at + 1), z)
 }
 
 // Whether p..q ends in the range of variable v.

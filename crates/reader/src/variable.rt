@@ -3,7 +3,6 @@ ghost use mathlib.Core.Path.{_≡_};
 ghost use mathlib.Core.Bool.{true};
 ghost use Prim.Native.Nat.{_<_};
 ghost use lib.ListN.{length};
-ghost use lib.Signed.{leZ};
 ghost use Rattle.semantics.specs.Text.{fields, name-ok};
 ghost use Rattle.semantics.specs.Reading.{So-far, var-line};
 ghost use Rattle.reader.specs.Answers.{var-of, var-res};
@@ -37,19 +36,13 @@ fn init(lo: i32, hi: i32, f: &[u8]) -> VarLine
     }
 }
 
-fn at_most(a: i32, b: i32) -> bool
-    ensures { λ r. ⌜ r ≡ leZ a b ⌝ }
-{
-    a <= b
-}
-
 fn high(lo: i32, line: &[u8]) -> VarLine
     ensures { λ r. ⌜ var-res r ≡ var-high lo (fields (now (line .entry))) ⌝ }
 {
     match text::number_field(text::field(line, 3)) {
         text::Word::Refused(k) => VarLine::Refused(k),
         text::Word::Is(hi) => {
-            if at_most(lo, hi) {
+            if lo <= hi {
                 return init(lo, hi, text::field(line, 4));
             }
             VarLine::Refused(7)

@@ -11,7 +11,7 @@ returns c = let b = c .before .before in
     let p : toZ w32 (ofZ w32 (b .word-at .result)) ≡ b .word-at .result = search needs in
     let q : toZ w32 (ofZ w32 (c .before .word-at2 .result)) ≡ c .before .word-at2 .result = search needs in
     let r : toZ w32 (ofZ w32 (c .before .before .before .args .z)) ≡ c .before .before .before .args .z = search needs in
-    c .between .ensures ∙ rw (p, q, r, b .word-at .ensures, c .before .word-at2 .ensures)
+    c .lies-within .ensures ∙ rw (p, q, r, b .word-at .ensures, c .before .word-at2 .ensures)
 
 pub in-range-spec : {M : Type 1} → statement M
 in-range-spec =
