@@ -19,6 +19,7 @@ use super::operation;
 use super::operation::OpLine;
 use super::operation::OpRow;
 use super::store;
+use super::tally::MOST_EDGES;
 use super::tally::Step;
 use super::tally::Tally;
 use super::tally::used_words;
@@ -148,7 +149,7 @@ pub fn read_line(t: Tally, table: &mut [i32], line: &[u8]) -> Step
     requires { ⌜ Few t × (length (now table) ≡ 3160) ⌝ }
     ensures { λ r. ⌜ ((s : So-far) (names : List ℤ) → Rows t (now (table .entry)) (s .chart) → Names (t .vars) names (s .names) → Stepped r (edge-line s (fields (now (line .entry)))) (now (table .exit)) names) ⌝ }
 {
-    if 256 <= t.edges {
+    if MOST_EDGES <= t.edges {
         return Step::Refused(8);
     }
     if !enough(line) {

@@ -18,9 +18,14 @@ mod store;
 mod tally;
 mod variable;
 
+use tally::NAMES_WORDS;
 use tally::Step;
+use tally::TABLE_WORDS;
 use tally::Tally;
 use tally::used_words;
+
+// Refusal 1: the most bytes of a chart file.
+const MOST_BYTES: usize = 32768;
 
 // The rows to the words lent, after their counts; or 14, where these are too few.
 fn hold(t: Tally, table: &[i32], words: &mut [i32]) -> semantics::Answer
@@ -138,14 +143,13 @@ fn go_down(text: &[u8], table: &mut [i32], names: &mut [i32]) -> Descent
     p
 }
 
-// All the lines. The rows are held apart until the last line is judged, so that a refusal has written nothing; they are those of
-// 8 variables, 64 locations and 256 edges at most.
+// All the lines. The rows are held apart until the last line is judged, so that a refusal has written nothing.
 fn read_lines(text: &[u8], words: &mut [i32]) -> semantics::Answer
     ensures { λ r. ⌜ r ≡ held-by (lines-judged (now (text .entry))) (now (words .entry)) .answer ⌝ }
     ensures { λ _. ⌜ now (words .exit) ≡ held-by (lines-judged (now (text .entry))) (now (words .entry)) .words ⌝ }
 {
-    let mut table = [0i32; 3160];
-    let mut names = [0i32; 128];
+    let mut table = [0i32; TABLE_WORDS];
+    let mut names = [0i32; NAMES_WORDS];
     let p = go_down(text, &mut table, &mut names);
     let s = p.step;
     match s {
@@ -173,7 +177,7 @@ pub fn read(text: &[u8], words: &mut [i32]) -> semantics::Answer
     ensures { λ r. ⌜ r ≡ read-outcome (now (text .entry)) (now (words .entry)) .answer ⌝ }
     ensures { λ _. ⌜ now (words .exit) ≡ read-outcome (now (text .entry)) (now (words .entry)) .words ⌝ }
 {
-    if 32768 < text.len() {
+    if MOST_BYTES < text.len() {
         return semantics::refused(1, 0);
     }
     read_text(text, words)

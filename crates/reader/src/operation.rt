@@ -11,6 +11,7 @@ ghost use Rattle.semantics.specs.Reading.{nth, ok, number-field, operand-field,
 ghost use Rattle.reader.specs.Answers.{operand-field-res, op-res, the-word, the-rel};
 ghost use Rattle.reader.specs.Lines.{in-table, operand-read, one-read, second-read, two-read, input-high-read, input-read, assume-read, op-read};
 ghost use Rattle.reader.specs.Lines.{targeted as targeted-read, after-target as after-target-read};
+use super::tally::VARIABLE_WORDS;
 
 // An operand's tag and value.
 enum OperandField {
@@ -101,7 +102,7 @@ fn in_range(table: &[i32], v: usize, z: i32) -> bool
     requires { ⌜ v < 1000 ⌝ }
     ensures { λ r. ⌜ r ≡ in-table (now (table .entry)) v z ⌝ }
 {
-    let at = 3 * v;
+    let at = VARIABLE_WORDS * v;
     words::lies_within(words::word_at(table, at), words::word_at(table, at + 1), z)
 }
 

@@ -9,8 +9,11 @@ ghost use Rattle.reader.specs.Answers.{var-of, var-res};
 ghost use Rattle.reader.specs.Lines.{var-init, var-high, var-low, var-fields, var-named};
 ghost use Rattle.reader.specs.Held.{Few, Rows, Names, Stepped};
 use super::store;
+use super::tally::MOST_VARIABLES;
+use super::tally::NAME_WORDS;
 use super::tally::Step;
 use super::tally::Tally;
+use super::tally::VARIABLE_WORDS;
 
 struct VarRow {
     lo: i32,
@@ -76,12 +79,12 @@ fn named(t: Tally, table: &mut [i32], names: &mut [i32], v: VarRow, name: &[u8])
     requires { ⌜ (t .vars < 8) × (t .locs ≡ 0) × (t .edges ≡ 0) × (length (now table) ≡ 3160) × (length (now names) ≡ 128) ⌝ }
     ensures { λ r. ⌜ ((s : So-far) → Rows t (now (table .entry)) (s .chart) → Names (t .vars) (now (names .entry)) (s .names) → name-ok (now (name .entry)) ≡ true → Stepped r (var-named s (now (name .entry)) (var-of v)) (now (table .exit)) (now (names .exit))) ⌝ }
 {
-    if store::name_seen(names, 0, 16, t.vars, name) {
+    if store::name_seen(names, 0, NAME_WORDS, t.vars, name) {
         return Step::Refused(9);
     }
     let row = [v.lo, v.hi, v.init];
-    store::push_row(table, 3 * t.vars, &row);
-    store::push_name(names, 16 * t.vars, name);
+    store::push_row(table, VARIABLE_WORDS * t.vars, &row);
+    store::push_name(names, NAME_WORDS * t.vars, name);
     Step::Go(Tally {
         vars: t.vars + 1,
         locs: 0,
@@ -99,7 +102,7 @@ pub fn read_line(t: Tally, table: &mut [i32], names: &mut [i32], line: &[u8]) ->
     if t.edges != 0 {
         return Step::Refused(4);
     }
-    if 8 <= t.vars {
+    if MOST_VARIABLES <= t.vars {
         return Step::Refused(8);
     }
     match judged(line) {
