@@ -1,4 +1,6 @@
-// Reading a chart file: from its bytes to the words of the encoded chart, or the refusal's number and line.
+// Reading a chart file: from its bytes to the words of the encoded chart, or the refusal's number and line. In this
+// crate `table` is the table of the chart's rows, that is the encoded chart but for its three counts; and `names` that
+// of the variables' names, which are looked for and not encoded.
 ghost use mathlib.Core.Path.{_≡_};
 ghost use lib.ListN.{length};
 ghost use lib.Dec.{ltb};
@@ -43,7 +45,7 @@ fn hold(t: Tally, table: &[i32], words: &mut [i32]) -> semantics::Answer
     semantics::gone_through(0)
 }
 
-// After the last line.
+// After the last line: 8, where there is no location.
 fn finish(t: Tally, table: &[i32], words: &mut [i32]) -> semantics::Answer
     requires { ⌜ Few t × (length (now table) ≡ 3160) ⌝ }
     ensures { λ r. ⌜ ((c : Chart) → Rows t (now (table .entry)) c → r ≡ held-by (ended (is-empty (c .locs)) c) (now (words .entry)) .answer) ⌝ }
@@ -80,6 +82,7 @@ struct Descent {
     step: Step,
 }
 
+// Whether reading goes on after a line.
 fn goes(s: Step) -> bool
     ensures { λ r. ⌜ r ≡ goes-on s ⌝ }
 {

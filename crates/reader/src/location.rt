@@ -18,6 +18,7 @@ use super::tally::Tally;
 use super::tally::VARIABLE_WORDS;
 use super::tally::used_words;
 
+// All the fields: their count, then the name, then the kind, which is the answer.
 fn judged(line: &[u8]) -> text::Flag
     ensures { λ r. ⌜ flag-res r ≡ loc-fields (fields (now (line .entry))) ⌝ }
 {
@@ -53,6 +54,7 @@ fn named(t: Tally, table: &mut [i32], error: bool, name: &[u8]) -> Step
     })
 }
 
+// An L line, which stands before every E.
 pub fn read_line(t: Tally, table: &mut [i32], line: &[u8]) -> Step
     requires { ⌜ Few t × (length (now table) ≡ 3160) ⌝ }
     ensures { λ r. ⌜ ((s : So-far) (names : List ℤ) → Rows t (now (table .entry)) (s .chart) → Names (t .vars) names (s .names) → Stepped r (loc-line s (fields (now (line .entry)))) (now (table .exit)) names) ⌝ }

@@ -12,6 +12,7 @@ pub enum Fault {
     Line(usize),
 }
 
+// Tab, LF, or one of 0x21..0x7E.
 fn byte_ok(b: u8) -> bool
     ensures { λ r. ⌜ r ≡ byte-ok b ⌝ }
 {

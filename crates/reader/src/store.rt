@@ -79,6 +79,7 @@ pub fn push_name(table: &mut [i32], at: usize, name: &[u8])
     fill_name(&mut table[at..end], name);
 }
 
+// A location's kind: 1 where it is bad.
 fn kind_word(error: bool) -> i32
     ensures { λ r. ⌜ r ≡ kind-word error ⌝ }
 {

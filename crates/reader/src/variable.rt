@@ -15,17 +15,20 @@ use super::tally::Step;
 use super::tally::Tally;
 use super::tally::VARIABLE_WORDS;
 
+// The three words of a variable's row.
 struct VarRow {
     lo: i32,
     hi: i32,
     init: i32,
 }
 
+// What the fields of a V line come to: a refusal's number, or the row.
 enum VarLine {
     Refused(u32),
     Is(VarRow),
 }
 
+// The last field, after lo and hi.
 fn init(lo: i32, hi: i32, f: &[u8]) -> VarLine
     ensures { λ r. ⌜ var-res r ≡ var-init lo hi (now (f .entry)) ⌝ }
 {
@@ -39,6 +42,7 @@ fn init(lo: i32, hi: i32, f: &[u8]) -> VarLine
     }
 }
 
+// The fields from `hi` on, which is not below lo.
 fn high(lo: i32, line: &[u8]) -> VarLine
     ensures { λ r. ⌜ var-res r ≡ var-high lo (fields (now (line .entry))) ⌝ }
 {
@@ -53,6 +57,7 @@ fn high(lo: i32, line: &[u8]) -> VarLine
     }
 }
 
+// The fields from `lo` on.
 fn low(line: &[u8]) -> VarLine
     ensures { λ r. ⌜ var-res r ≡ var-low (fields (now (line .entry))) ⌝ }
 {
@@ -62,6 +67,7 @@ fn low(line: &[u8]) -> VarLine
     }
 }
 
+// All the fields: their count, then the name, then the numbers.
 fn judged(line: &[u8]) -> VarLine
     ensures { λ r. ⌜ var-res r ≡ var-fields (fields (now (line .entry))) ⌝ }
 {
@@ -92,6 +98,7 @@ fn named(t: Tally, table: &mut [i32], names: &mut [i32], v: VarRow, name: &[u8])
     })
 }
 
+// A V line, which stands before every L and E.
 pub fn read_line(t: Tally, table: &mut [i32], names: &mut [i32], line: &[u8]) -> Step
     requires { ⌜ Few t × (length (now table) ≡ 3160) × (length (now names) ≡ 128) ⌝ }
     ensures { λ r. ⌜ ((s : So-far) → Rows t (now (table .entry)) (s .chart) → Names (t .vars) (now (names .entry)) (s .names) → Stepped r (var-line s (fields (now (line .entry)))) (now (table .exit)) (now (names .exit))) ⌝ }
