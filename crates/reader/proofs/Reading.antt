@@ -14,7 +14,7 @@ use Rattle.semantics.specs.Text.{name-ok}
 use Rattle.semantics.specs.Chart.{Value, Var, Operand, Rel, Op, assign, add, sub, input, assume, Edge, Chart, in-range}
 use Rattle.semantics.specs.Encoding.{tag, held, op-words, edge-words}
 use Rattle.semantics.specs.Reading.{Res, fail, ok, check, if-ok, nth, none-empty, number-field, location-field, target-field, operand-field, init-field, kind-field, rel-field, op-word-field, OpWord, do-set, do-add, do-sub, do-in, do-if, do-skip, field-count, op-fields-read, So-far, with-edge, var-line, loc-line, edge-line, filled}
-use Rattle.reader.specs.Lines.{in-table, operand-read, one-read, second-read, two-read, input-read, input-high-read, assume-read, after-target, op-read, edge-read, var-low, var-fields, var-named, loc-fields, loc-named, edge-fields, edge-worded}
+use Rattle.reader.specs.Lines.{in-table, operand-read, one-read, second-read, two-read, input-read, input-high-read, assume-read, op-read, edge-read, var-low, var-fields, var-named, loc-fields, loc-named, edge-fields, edge-worded}
 use Rattle.reader.specs.Held.{Rows}
 use Rattle.reader.specs.declared.tally.Tally.{Tally}
 use Rattle.reader.proofs.Growing.{range-held}
@@ -23,17 +23,17 @@ use Rattle.reader.proofs.Judging.{check-no, check-yes, then-fail, then-
 -- ---- operands
 
 one-via : (code : ℤ) (v : ℕ) (r : Res Operand) → one-read code v r ≡ if-ok (operand-read r) (λ ws. ok (code ∷ pos v ∷ (ws ++ (pos 0 ∷ pos 0 ∷ []))))
-unfolding if-ok operand-read
+unfolding if-ok
 one-via code v (fail n) = refl
 one-via code v (ok a) = refl
 
 second-via : (code : ℤ) (v : ℕ) (t x : ℤ) (r : Res Operand) → second-read code v t x r ≡ if-ok (operand-read r) (λ ws. ok (code ∷ pos v ∷ t ∷ x ∷ ws))
-unfolding if-ok operand-read
+unfolding if-ok
 second-via code v t x (fail n) = refl
 second-via code v t x (ok a) = refl
 
 two-via : (code : ℤ) (v : ℕ) (r q : Res Operand) → two-read code v r q ≡ if-ok (operand-read r) (λ ws. second-read code v (getD ws 0 (pos 0)) (getD ws 1 (pos 0)) q)
-unfolding if-ok operand-read
+unfolding if-ok
 two-via code v (fail n) q = refl
 two-via code v (ok a) q = refl
 
@@ -101,7 +101,7 @@ module _ (table : List ℤ) (vars : List Var) (ranges : (k : ℕ) (z : ℤ) → 
 -- the operation's words
 pub op-held : (table : List ℤ) (c : Chart) → ((k : ℕ) (z : ℤ) → k < length (c .vars) → in-table table k z ≡ in-range (c .vars) k z) → (w : OpWord) (fs : List (List ℕ))
     → op-read table (length (c .vars)) w fs ≡ if-ok (op-fields-read c w fs) (λ o. ok (op-words o))
-unfolding op-read op-fields-read after-target
+unfolding op-fields-read
 op-held table c ranges do-skip fs = sym (then-ok (λ o. ok (op-words o)) refl)
 op-held table c ranges do-set fs = one-held (pos 1) assign (λ v a. refl) (target-field (length (c .vars)) (nth fs 4)) (operand-field (length (c .vars)) (nth fs 5))
 op-held table c ranges do-add fs =
@@ -199,7 +199,7 @@ module _ (s : So-far) (fs : List (List ℕ)) where
     loc-full h = check-yes _ _ early ∙ check-no _ _ (le-ltb _ _ h)
 
     pub loc-read : length (s .chart .locs) < 64 → loc-line s fs ≡ if-ok (loc-fields fs) (λ k. loc-named s (nth fs 1) k)
-    unfolding loc-line loc-fields
+    unfolding loc-line
     loc-read h =
         check-yes _ _ early ∙ check-yes _ _ (lt-ltb _ _ h)
         ∙ sym (check-then (filled 3 fs) 5 (check (name-ok (nth fs 1)) 6 (kind-field (nth fs 2))) (λ k. loc-named s (nth fs 1) k)
@@ -216,7 +216,7 @@ module _ (s : So-far) (fs : List (List ℕ)) where
     var-full h = check-yes _ _ early ∙ check-no _ _ (le-ltb _ _ h)
 
     pub var-read : length (s .chart .vars) < 8 → var-line s fs ≡ if-ok (var-fields fs) (λ v. var-named s (nth fs 1) v)
-    unfolding var-line var-fields
+    unfolding var-line
     var-read h =
         check-yes _ _ early ∙ check-yes _ _ (lt-ltb _ _ h)
         ∙ sym (check-then (filled 5 fs) 5 (check (name-ok (nth fs 1)) 6 low) g
@@ -228,11 +228,9 @@ module _ (s : So-far) (fs : List (List ℕ)) where
           g v = var-named s (nth fs 1) v
 
 pub var-name-ok : (fs : List (List ℕ)) {v : Var} → var-fields fs ≡ ok v → name-ok (nth fs 1) ≡ true
-unfolding var-fields
 var-name-ok fs e = check-passed (name-ok (nth fs 1)) _ _ (check-passed (filled 5 fs) _ _ e .1) .0
 
 pub loc-name-ok : (fs : List (List ℕ)) {k : Bool} → loc-fields fs ≡ ok k → name-ok (nth fs 1) ≡ true
-unfolding loc-fields
 loc-name-ok fs e = check-passed (name-ok (nth fs 1)) _ _ (check-passed (filled 3 fs) _ _ e .1) .0
 
 -- by the counts and the table that hold the chart

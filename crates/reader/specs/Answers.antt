@@ -24,7 +24,7 @@ use Rattle.reader.specs.declared.operation.OperandField.the-variants as 
 use Rattle.reader.specs.declared.operation.OpLine.the-variants as op-line
 use Rattle.reader.specs.declared.edge.EdgeLine.the-variants as edge-line
 
-unfoldable pub fault-line : Fault → Option ℕ
+abbrev pub fault-line : Fault → Option ℕ
 fault-line fault.Nowhere = none
 fault-line (fault.Line n) = some n
 
@@ -32,12 +32,12 @@ fault-line (fault.Line n) = some n
 abbrev pub var-of : VarRow → Var
 var-of v = record { lo = v .lo; hi = v .hi; init = val (v .init) }
 
-unfoldable pub var-res : VarLine → Res Var
+abbrev pub var-res : VarLine → Res Var
 var-res (var-line.Refused k) = fail k
 var-res (var-line.Is v) = ok (var-of v)
 
 -- an operand's two words
-unfoldable pub operand-field-res : OperandField → Res (List ℤ)
+abbrev pub operand-field-res : OperandField → Res (List ℤ)
 operand-field-res (operand.Refused k) = fail k
 operand-field-res (operand.Is t x) = ok (t ∷ x ∷ [])
 
@@ -45,7 +45,7 @@ operand-field-res (operand.Is t x) = ok (t ∷ x ∷ [])
 abbrev pub op-row : OpRow → List ℤ
 op-row o = o .code ∷ o .target ∷ o .tag1 ∷ o .value1 ∷ o .tag2 ∷ o .value2 ∷ []
 
-unfoldable pub op-res : OpLine → Res (List ℤ)
+abbrev pub op-res : OpLine → Res (List ℤ)
 op-res (op-line.Refused k) = fail k
 op-res (op-line.Is o) = ok (op-row o)
 
@@ -53,12 +53,12 @@ op-res (op-line.Is o) = ok (op-row o)
 abbrev pub edge-row : EdgeRow → List ℤ
 edge-row g = g .from ∷ g .to ∷ op-row (g .op)
 
-unfoldable pub edge-res : EdgeLine → Res (List ℤ)
+abbrev pub edge-res : EdgeLine → Res (List ℤ)
 edge-res (edge-line.Refused k) = fail k
 edge-res (edge-line.Is g) = ok (edge-row g)
 
 -- the word that an answer names; a refused one stands for none
-unfoldable pub the-word : Said → OpWord
+abbrev pub the-word : Said → OpWord
 the-word (said.Refused k) = do-skip
 the-word said.Set = do-set
 the-word said.Add = do-add
@@ -67,7 +67,7 @@ the-word said.In = do-in
 the-word said.If = do-if
 the-word said.Skip = do-skip
 
-unfoldable pub the-rel : Relation → Rel
+abbrev pub the-rel : Relation → Rel
 the-rel (relation.Refused k) = ge
 the-rel relation.Eq = eq
 the-rel relation.Ne = ne

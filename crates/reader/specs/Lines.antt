@@ -23,7 +23,7 @@ var-high lo fs = if-ok (number-field (nth fs 3)) λ hi. check (leZ lo hi) 7 (var
 abbrev pub var-low : List (List ℕ) → Res Var
 var-low fs = if-ok (number-field (nth fs 2)) λ lo. var-high lo fs
 
-unfoldable pub var-fields : List (List ℕ) → Res Var
+abbrev pub var-fields : List (List ℕ) → Res Var
 var-fields fs = check (filled 5 fs) 5 (check (name-ok (nth fs 1)) 6 (var-low fs))
 
 -- the name is looked for last
@@ -32,7 +32,7 @@ var-named s name v = check (all (λ m. not (same-bytes m name)) (s .names)) 9 (o
 
 -- ---- `L name kind`
 
-unfoldable pub loc-fields : List (List ℕ) → Res Bool
+abbrev pub loc-fields : List (List ℕ) → Res Bool
 loc-fields fs = check (filled 3 fs) 5 (check (name-ok (nth fs 1)) 6 (kind-field (nth fs 2)))
 
 abbrev pub loc-named : So-far → List ℕ → Bool → Res So-far
@@ -47,7 +47,7 @@ in-table table v z = within (getD table (3 * v) (pos 0)) (getD table (3 * v + 1)
 abbrev pub operand-words : Operand → List ℤ
 operand-words a = tag a ∷ held a ∷ []
 
-unfoldable pub operand-read : Res Operand → Res (List ℤ)
+abbrev pub operand-read : Res Operand → Res (List ℤ)
 operand-read r = if-ok r λ a. ok (operand-words a)
 
 -- an operation by its code and target, with one operand
@@ -71,7 +71,7 @@ abbrev pub assume-read : ℕ → Res Rel → Res Operand → Res (List ℤ)
 assume-read v r q = if-ok r λ x. one-read (pos (rel-code x)) v q
 
 -- the fields after the target v, with n variables
-unfoldable pub after-target : List ℤ → ℕ → OpWord → ℕ → List (List ℕ) → Res (List ℤ)
+abbrev pub after-target : List ℤ → ℕ → OpWord → ℕ → List (List ℕ) → Res (List ℤ)
 after-target table n do-skip v fs = ok (op-words skip)
 after-target table n do-set v fs = one-read (pos 1) v (operand-field n (nth fs 5))
 after-target table n do-add v fs = two-read (pos 2) v (operand-field n (nth fs 5)) (operand-field n (nth fs 6))
@@ -83,7 +83,7 @@ abbrev pub targeted : List ℤ → ℕ → OpWord → List (List ℕ) → Res (L
 targeted table n w fs = if-ok (target-field n (nth fs 4)) λ v. after-target table n w v fs
 
 -- the operation's words
-unfoldable pub op-read : List ℤ → ℕ → OpWord → List (List ℕ) → Res (List ℤ)
+abbrev pub op-read : List ℤ → ℕ → OpWord → List (List ℕ) → Res (List ℤ)
 op-read table n do-skip fs = ok (op-words skip)
 op-read table n do-set fs = targeted table n do-set fs
 op-read table n do-add fs = targeted table n do-add fs

@@ -15,13 +15,11 @@ returns : tie.Need-returns
 returns c = λ s names h g. check-no _ _ (ne-eqb _ _ (λ e. c .if1 .taken (c .before .before .field-count .ensures ∙ e ∙ sym (c .before .field-count2 .ensures))))
 
 returns-2 : tie.Need-returns-2
-unfolding edge-res
 returns-2 c = λ s names h g.
     check-yes _ _ (eq-eqb _ _ (sym (c .before .before .before .before .before .before .before .field-count .ensures) ∙ c .before .before .before .before .before .if1 .left ∙ c .before .before .before .before .before .before .field-count2 .ensures))
     ∙ then-fail _ (edge-fail _ (sym (edges-held h _ _) ∙ sym (c .before .before .before .judged .ensures) ∙ ap edge-res (c .before .k .given .1)))
 
 returns-3 : tie.Need-returns-3
-unfolding edge-res
 returns-3 c = λ s names h g.
     let r = edge-ok _ _ (sym (edges-held h _ _) ∙ sym (c .before .before .before .before .before .before .before .judged .ensures) ∙ ap edge-res (c .before .before .before .before .before .g .given .1)) in
     record {

@@ -5,14 +5,13 @@ use mir.Val.{toZ, ofZ}
 use borrow.Author.Needs.{needs}
 use Rattle.semantics.specs.Reading.{rel-field}
 use Rattle.text.specs.Fields.{rel-res}
-use Rattle.reader.specs.Answers.{op-res}
 use Rattle.reader.proofs.Wording.{rel-said}
 use Rattle.reader.proofs.Judging.{then-fail, then-ok}
 use Rattle.reader.proofs.operation.assume.Statement.{statement}
 use Rattle.reader.proofs.operation.assume.Tie as tie
 
 returns : tie.Need-returns
-unfolding op-res rel-res
+unfolding rel-res
 returns c = sym (then-fail _ (ap rel-field (sym (c .before .before .before .before .field .ensures)) ∙ sym (c .before .before .before .rel-field .ensures) ∙ ap rel-res (c .before .r .given .1)))
 
 returns-2 : tie.Need-returns-2

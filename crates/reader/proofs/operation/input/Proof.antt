@@ -5,7 +5,6 @@ use mir.Val.{toZ, ofZ}
 use borrow.Author.Needs.{needs}
 use Rattle.semantics.specs.Reading.{number-field}
 use Rattle.text.specs.Fields.{word-res}
-use Rattle.reader.specs.Answers.{op-res}
 use Rattle.reader.proofs.Judging.{then-fail, then-ok, check-no, check-yes}
 use Rattle.reader.proofs.operation.input.Statement.{statement}
 use Rattle.reader.proofs.operation.input.Tie as tie
@@ -18,11 +17,11 @@ returns c = let z = c .before .before .before .before .before .p .given .0 .0 in
     c .input-high .ensures ∙ rw (q, c .before .field2 .ensures) (sym (then-ok _ e ∙ check-yes _ _ (sym (rw q at (c .before .before .before .in-range .ensures)) ∙ c .before .before .if1 .taken)))
 
 returns-2 : tie.Need-returns-2
-unfolding op-res word-res
+unfolding word-res
 returns-2 c = sym (then-fail _ (ap number-field (sym (c .before .before .before .before .field .ensures)) ∙ sym (c .before .before .before .number-field .ensures) ∙ ap word-res (c .before .k .given .1)))
 
 returns-3 : tie.Need-returns-3
-unfolding op-res word-res
+unfolding word-res
 returns-3 c = let z = c .before .before .before .p .given .0 .0 in
     let q : toZ w32 (ofZ w32 z) ≡ z = search needs in
     let e = ap number-field (sym (c .before .before .before .before .before .before .field .ensures)) ∙ sym (c .before .before .before .before .before .number-field .ensures) ∙ ap word-res (c .before .before .before .p .given .1) in

@@ -4,13 +4,12 @@ use mir.Syntax.{w32}
 use mir.Val.{toZ, ofZ}
 use borrow.Author.Needs.{needs}
 use Rattle.text.specs.Fields.{word-res}
-use Rattle.reader.specs.Answers.{op-res}
 use Rattle.reader.proofs.Judging.{then-fail, then-ok, check-no, check-yes}
 use Rattle.reader.proofs.operation.input_high.Statement.{statement}
 use Rattle.reader.proofs.operation.input_high.Tie as tie
 
 returns : tie.Need-returns
-unfolding op-res word-res
+unfolding word-res
 returns c = let a = c .before .before .before .before .before .before .before .before .args in
     let z = c .before .before .before .before .q .given .0 .0 in
     let p : toZ w32 (ofZ w32 (a .p)) ≡ a .p = search needs in
@@ -19,11 +18,11 @@ returns c = let a = c .before .before .before .before .before .before .before .b
     rw (p, q, r, c .index-word .ensures) (sym (then-ok _ (sym (c .before .before .before .before .before .before .number-field .ensures) ∙ ap word-res (c .before .before .before .before .q .given .1)) ∙ check-yes _ _ (sym (rw (p, q) at (c .before .before .up-to .ensures)) ∙ c .before .if1 .taken)))
 
 returns-2 : tie.Need-returns-2
-unfolding op-res word-res
+unfolding word-res
 returns-2 c = sym (then-fail _ (sym (c .before .before .before .number-field .ensures) ∙ ap word-res (c .before .k .given .1)))
 
 returns-3 : tie.Need-returns-3
-unfolding op-res word-res
+unfolding word-res
 returns-3 c = let a = c .before .before .before .before .before .before .before .args in
     let z = c .before .before .before .q .given .0 .0 in
     let p : toZ w32 (ofZ w32 (a .p)) ≡ a .p = search needs in

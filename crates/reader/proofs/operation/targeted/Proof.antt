@@ -6,7 +6,6 @@ use denote.Ref.{now}
 use borrow.Author.Needs.{needs}
 use Rattle.semantics.specs.Reading.{target-field}
 use Rattle.text.specs.Fields.{index-res}
-use Rattle.reader.specs.Answers.{op-res}
 use Rattle.reader.proofs.Judging.{then-fail, then-ok, target-below}
 use Rattle.reader.proofs.operation.targeted.Statement.{statement}
 use Rattle.reader.proofs.operation.targeted.Tie as tie
@@ -19,7 +18,7 @@ after-target-requires c κs = let a = c .before .before .before .before .before 
     g
 
 returns : tie.Need-returns
-unfolding op-res index-res
+unfolding index-res
 returns c = sym (then-fail _ (ap (target-field (c .before .before .before .before .before .before .args .vars)) (sym (c .before .before .before .before .field .ensures)) ∙ sym (c .before .before .before .target-field .ensures) ∙ ap index-res (c .before .k .given .1)))
 
 returns-2 : tie.Need-returns-2

@@ -7,7 +7,6 @@ use mir.Val.{toZ, ofZ}
 use borrow.Author.Needs.{needs}
 use Rattle.semantics.specs.Reading.{number-field}
 use Rattle.text.specs.Fields.{word-res}
-use Rattle.reader.specs.Answers.{var-res}
 use Rattle.reader.proofs.Judging.{then-fail, then-ok, check-no, check-yes, said}
 use Rattle.reader.proofs.variable.high.Statement.{statement}
 use Rattle.reader.proofs.variable.high.Tie as tie
@@ -24,11 +23,11 @@ returns c = let k = c .before .before .before .before in
     c .init .ensures ∙ rw (p, q, c .before .field2 .ensures) (sym (then-ok _ e ∙ check-yes _ _ (rw (p, q) at t)))
 
 returns-2 : tie.Need-returns-2
-unfolding var-res word-res
+unfolding word-res
 returns-2 c = sym (then-fail _ (said number-field word-res (c .before .before .before .before .field .ensures) (c .before .before .before .number-field .ensures) (c .before .k .given .1)))
 
 returns-3 : tie.Need-returns-3
-unfolding var-res word-res
+unfolding word-res
 returns-3 c = let k = c .before .before in
     let lo = k .before .before .before .before .before .args .lo in
     let hi = k .hi .given .0 .0 in

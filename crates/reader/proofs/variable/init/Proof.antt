@@ -4,20 +4,19 @@ use mir.Syntax.{w32}
 use mir.Val.{toZ, ofZ}
 use borrow.Author.Needs.{needs}
 use Rattle.text.specs.Fields.{init-res}
-use Rattle.reader.specs.Answers.{var-res}
 use Rattle.reader.proofs.Judging.{then-fail, then-ok}
 use Rattle.reader.proofs.variable.init.Statement.{statement}
 use Rattle.reader.proofs.variable.init.Tie as tie
 
 returns : tie.Need-returns
-unfolding var-res init-res
+unfolding init-res
 returns c = let a = c .before .before .before .before .before .args in
     let p : toZ w32 (ofZ w32 (a .lo)) ≡ a .lo = search needs in
     let q : toZ w32 (ofZ w32 (a .hi)) ≡ a .hi = search needs in
     sym (then-fail _ (sym (rw (p, q) at (c .before .before .before .init-field .ensures)) ∙ ap init-res (c .before .k .given .1)))
 
 returns-2 : tie.Need-returns-2
-unfolding var-res init-res
+unfolding init-res
 returns-2 c = let a = c .before .before .before .before .before .args in
     let p : toZ w32 (ofZ w32 (a .lo)) ≡ a .lo = search needs in
     let q : toZ w32 (ofZ w32 (a .hi)) ≡ a .hi = search needs in

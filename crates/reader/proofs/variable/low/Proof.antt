@@ -5,13 +5,12 @@ use mir.Val.{toZ, ofZ}
 use borrow.Author.Needs.{needs}
 use Rattle.semantics.specs.Reading.{number-field}
 use Rattle.text.specs.Fields.{word-res}
-use Rattle.reader.specs.Answers.{var-res}
 use Rattle.reader.proofs.Judging.{then-fail, then-ok}
 use Rattle.reader.proofs.variable.low.Statement.{statement}
 use Rattle.reader.proofs.variable.low.Tie as tie
 
 returns : tie.Need-returns
-unfolding var-res word-res
+unfolding word-res
 returns c = sym (then-fail _ (ap number-field (sym (c .before .before .before .before .field .ensures)) ∙ sym (c .before .before .before .number-field .ensures) ∙ ap word-res (c .before .k .given .1)))
 
 returns-2 : tie.Need-returns-2

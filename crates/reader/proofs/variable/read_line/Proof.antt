@@ -21,13 +21,11 @@ returns-3 : tie.Need-returns-3
 returns-3 c = λ s h g. var-full s _ (rw (none-empty-list (s .chart .locs) (omega (arith, h .locs, c .before .before .before .before .if1 .left)), none-empty-list (s .chart .edges) (omega (arith, h .edges, c .before .before .if2 .left)))) (omega (arith, h .vars, c .if3 .taken))
 
 returns-4 : tie.Need-returns-4
-unfolding var-res
 returns-4 c = λ s h g.
     var-read s _ (rw (none-empty-list (s .chart .locs) (omega (arith, h .locs, c .before .before .before .before .before .before .before .before .if1 .left)), none-empty-list (s .chart .edges) (omega (arith, h .edges, c .before .before .before .before .before .before .if2 .left)))) (omega (arith, h .vars, c .before .before .before .before .if3 .left))
     ∙ then-fail _ (sym (c .before .before .before .judged .ensures) ∙ ap var-res (c .before .k .given .1))
 
 returns-5 : tie.Need-returns-5
-unfolding var-res
 returns-5 c = λ s h g.
     let fs = fields (now (c .before .before .before .before .before .before .before .before .before .before .before .before .before .before .before .before .before .args .line)) in
     let e = sym (c .before .before .before .before .before .before .before .before .before .judged .ensures) ∙ ap var-res (c .before .before .before .before .before .before .before .v .given .1) in
