@@ -40,9 +40,9 @@ pub not-yes : {b : Bool} → not b ≡ false → b ≡ true
 not-yes {b = true} e = refl
 not-yes {b = false} e = sym e
 
--- what a function over a field answered, of the field as the line has it
-pub said : {A B : Type 0} (f : List ℕ → B) (v : A → B) {x y : List ℕ} {a b : A} → x ≡ y → v a ≡ f x → a ≡ b → f y ≡ v b
-said f v e n t = ap f (sym e) ∙ sym n ∙ ap v t
+-- what a call answered of a field, and so of the field as the line has it
+pub said : {B : Type 0} (f : List ℕ → B) {x y : List ℕ} {r b : B} → x ≡ y → r ≡ f x → r ≡ b → f y ≡ b
+said f e n t = ap f (sym e) ∙ sym n ∙ t
 
 -- ---- what passed
 

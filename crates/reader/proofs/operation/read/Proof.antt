@@ -7,12 +7,6 @@ use Rattle.reader.proofs.Wording.{target-said}
 use Rattle.reader.proofs.operation.read.Statement.{statement}
 use Rattle.reader.proofs.operation.read.Tie as tie
 
-returns : tie.Need-returns
-returns c = rw (c .before .enum-told .given .1) (c .unchanged .ensures)
-
-returns-2 : tie.Need-returns-2
-returns-2 c = rw (c .before .enum-told2 .given .1) (c .unchanged2 .ensures)
-
 returns-3 : tie.Need-returns-3
 returns-3 c = let a = c .before .before .before .args in
     c .targeted .ensures ∙ sym (target-said (a .w) (c .before .match .keys3) (now (a .table)) (a .vars) (fields (now (a .line))))
@@ -26,6 +20,6 @@ read-spec =
     (λ c. search needs)
     (λ c κs. search needs)
     (λ c κs. search needs)
-    returns
-    returns-2
+    (λ c. search needs)
+    (λ c. search needs)
     returns-3)

@@ -1,6 +1,6 @@
 -- `reader::variable::high` meets its contract. Assumes nothing.
 use mathlib.Core.Bool.{true, false}
-use mathlib.Core.Path.{_≡_, sym, _∙_}
+use mathlib.Core.Path.{_≡_, sym, ap, _∙_}
 use lib.Signed.{leZ}
 use mir.Syntax.{w32}
 use mir.Val.{toZ, ofZ}
@@ -19,12 +19,12 @@ returns c = let k = c .before .before .before .before in
     let p : toZ w32 (ofZ w32 lo) ≡ lo = search needs in
     let q : toZ w32 (ofZ w32 hi) ≡ hi = search needs in
     let t : leZ (toZ w32 (ofZ w32 lo)) (toZ w32 (ofZ w32 hi)) ≡ true = c .before .before .if1 .taken in
-    let e = said number-field word-res (k .before .before .before .field .ensures) (k .before .before .number-field .ensures) (k .hi .given .1) in
+    let e = said number-field (k .before .before .before .field .ensures) (k .before .before .number-field .ensures) (ap word-res (k .hi .given .1)) in
     c .init .ensures ∙ rw (p, q, c .before .field2 .ensures) (sym (then-ok _ e ∙ check-yes _ _ (rw (p, q) at t)))
 
 returns-2 : tie.Need-returns-2
 unfolding word-res
-returns-2 c = sym (then-fail _ (said number-field word-res (c .before .before .before .before .field .ensures) (c .before .before .before .number-field .ensures) (c .before .k .given .1)))
+returns-2 c = sym (then-fail _ (said number-field (c .before .before .before .before .field .ensures) (c .before .before .before .number-field .ensures) (ap word-res (c .before .k .given .1))))
 
 returns-3 : tie.Need-returns-3
 unfolding word-res
@@ -34,7 +34,7 @@ returns-3 c = let k = c .before .before in
     let p : toZ w32 (ofZ w32 lo) ≡ lo = search needs in
     let q : toZ w32 (ofZ w32 hi) ≡ hi = search needs in
     let t : leZ (toZ w32 (ofZ w32 lo)) (toZ w32 (ofZ w32 hi)) ≡ false = c .if1 .left in
-    let e = said number-field word-res (k .before .before .before .field .ensures) (k .before .before .number-field .ensures) (k .hi .given .1) in
+    let e = said number-field (k .before .before .before .field .ensures) (k .before .before .number-field .ensures) (ap word-res (k .hi .given .1)) in
     sym (then-ok _ e ∙ check-no _ _ (rw (p, q) at t))
 
 pub high-spec : {M : Type 1} → statement M
