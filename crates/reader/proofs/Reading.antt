@@ -18,6 +18,7 @@ use Rattle.reader.specs.Lines.{in-table, operand-read, one-read, second-
 use Rattle.reader.specs.Held.{Rows}
 use Rattle.reader.specs.declared.tally.Tally.{Tally}
 use Rattle.reader.proofs.Growing.{range-held}
+use Rattle.reader.proofs.Holding.{none-empty-list, some-list}
 use Rattle.reader.proofs.Judging.{check-no, check-yes, then-fail, then-ok, check-then, then-map, check-passed, fail-ok, target-below}
 
 -- ---- operands
@@ -188,52 +189,69 @@ module _ (s : So-far) (fs : List (List ℕ)) where
           check-yes _ _ (lt-ltb _ _ few) ∙ check-yes _ _ enough ∙ then-ok _ e
           ∙ ap (check (eqb (length fs) (field-count w)) 5) (sym (edge-tail s (location-field (length (s .chart .locs)) (nth fs 1)) (location-field (length (s .chart .locs)) (nth fs 2)) (op-fields-read (s .chart) w fs)))
 
-  -- a location
-  pub loc-late : is-empty (s .chart .edges) ≡ false → loc-line s fs ≡ fail 4
-  unfolding loc-line
-  loc-late e = check-no _ _ e
-
-  module _ (early : is-empty (s .chart .edges) ≡ true) where
-    pub loc-full : 64 ≤ length (s .chart .locs) → loc-line s fs ≡ fail 8
-    unfolding loc-line
-    loc-full h = check-yes _ _ early ∙ check-no _ _ (le-ltb _ _ h)
-
-    pub loc-read : length (s .chart .locs) < 64 → loc-line s fs ≡ if-ok (loc-fields fs) (λ k. loc-named s (nth fs 1) k)
-    unfolding loc-line
-    loc-read h =
-        check-yes _ _ early ∙ check-yes _ _ (lt-ltb _ _ h)
-        ∙ sym (check-then (filled 3 fs) 5 (check (name-ok (nth fs 1)) 6 (kind-field (nth fs 2))) (λ k. loc-named s (nth fs 1) k)
-        ∙ ap (check (filled 3 fs) 5) (check-then (name-ok (nth fs 1)) 6 (kind-field (nth fs 2)) (λ k. loc-named s (nth fs 1) k)))
-
-  -- a variable
-  pub var-late : (is-empty (s .chart .locs) && is-empty (s .chart .edges)) ≡ false → var-line s fs ≡ fail 4
-  unfolding var-line
-  var-late e = check-no _ _ e
-
-  module _ (early : (is-empty (s .chart .locs) && is-empty (s .chart .edges)) ≡ true) where
-    pub var-full : 8 ≤ length (s .chart .vars) → var-line s fs ≡ fail 8
-    unfolding var-line
-    var-full h = check-yes _ _ early ∙ check-no _ _ (le-ltb _ _ h)
-
-    pub var-read : length (s .chart .vars) < 8 → var-line s fs ≡ if-ok (var-fields fs) (λ v. var-named s (nth fs 1) v)
-    unfolding var-line
-    var-read h =
-        check-yes _ _ early ∙ check-yes _ _ (lt-ltb _ _ h)
-        ∙ sym (check-then (filled 5 fs) 5 (check (name-ok (nth fs 1)) 6 low) g
-        ∙ ap (check (filled 5 fs) 5) (check-then (name-ok (nth fs 1)) 6 low g ∙ ap (check (name-ok (nth fs 1)) 6) (var-tail (number-field (nth fs 2)) (number-field (nth fs 3)) (λ lo hi. init-field lo hi (nth fs 4)) g))) where
-          low : Res Var
-          low = var-low fs
-
-          g : Var → Res So-far
-          g v = var-named s (nth fs 1) v
-
 pub var-name-ok : (fs : List (List ℕ)) {v : Var} → var-fields fs ≡ ok v → name-ok (nth fs 1) ≡ true
 var-name-ok fs e = check-passed (name-ok (nth fs 1)) _ _ (check-passed (filled 5 fs) _ _ e .1) .0
 
 pub loc-name-ok : (fs : List (List ℕ)) {k : Bool} → loc-fields fs ≡ ok k → name-ok (nth fs 1) ≡ true
 loc-name-ok fs e = check-passed (name-ok (nth fs 1)) _ _ (check-passed (filled 3 fs) _ _ e .1) .0
 
--- by the counts and the table that hold the chart
+-- ---- by the counts and the table that hold the chart
+
+module _ (s : So-far) (fs : List (List ℕ)) {t : Tally} {table : List ℤ} (h : Rows t table (s .chart)) where
+  -- a location
+  pub loc-late : (t .edges ≡ 0 → ⊥) → loc-line s fs ≡ fail 4
+  unfolding loc-line
+  loc-late n = check-no _ _ (some-list (s .chart .edges) (omega (arith, h .edges, n)))
+
+  module _ (e : t .edges ≡ 0) where
+    no-edges : is-empty (s .chart .edges) ≡ true
+    no-edges = none-empty-list (s .chart .edges) (omega (arith, h .edges, e))
+
+    pub loc-full : 64 ≤ t .locs → loc-line s fs ≡ fail 8
+    unfolding loc-line
+    loc-full n = check-yes _ _ no-edges ∙ check-no _ _ (le-ltb (length (s .chart .locs)) 64 (omega (arith, h .locs, n)))
+
+    pub loc-read : t .locs < 64 → loc-line s fs ≡ if-ok (loc-fields fs) (λ k. loc-named s (nth fs 1) k)
+    unfolding loc-line
+    loc-read n =
+        check-yes _ _ no-edges ∙ check-yes _ _ (lt-ltb (length (s .chart .locs)) 64 (omega (arith, h .locs, n)))
+        ∙ sym (check-then (filled 3 fs) 5 (check (name-ok (nth fs 1)) 6 (kind-field (nth fs 2))) (λ k. loc-named s (nth fs 1) k)
+        ∙ ap (check (filled 3 fs) 5) (check-then (name-ok (nth fs 1)) 6 (kind-field (nth fs 2)) (λ k. loc-named s (nth fs 1) k)))
+
+  -- a variable
+  pub var-after-loc : (t .locs ≡ 0 → ⊥) → var-line s fs ≡ fail 4
+  unfolding var-line
+  var-after-loc n = check-no _ _ (rw (some-list (s .chart .locs) (omega (arith, h .locs, n))))
+
+  module _ (l : t .locs ≡ 0) where
+    no-locs : is-empty (s .chart .locs) ≡ true
+    no-locs = none-empty-list (s .chart .locs) (omega (arith, h .locs, l))
+
+    pub var-after-edge : (t .edges ≡ 0 → ⊥) → var-line s fs ≡ fail 4
+    unfolding var-line
+    var-after-edge n = check-no _ _ (rw (no-locs, some-list (s .chart .edges) (omega (arith, h .edges, n))))
+
+    module _ (e : t .edges ≡ 0) where
+      early : (is-empty (s .chart .locs) && is-empty (s .chart .edges)) ≡ true
+      early = rw (no-locs, no-edges e)
+
+      pub var-full : 8 ≤ t .vars → var-line s fs ≡ fail 8
+      unfolding var-line
+      var-full n = check-yes _ _ early ∙ check-no _ _ (le-ltb (length (s .chart .vars)) 8 (omega (arith, h .vars, n)))
+
+      pub var-read : t .vars < 8 → var-line s fs ≡ if-ok (var-fields fs) (λ v. var-named s (nth fs 1) v)
+      unfolding var-line
+      var-read n =
+          check-yes _ _ early ∙ check-yes _ _ (lt-ltb (length (s .chart .vars)) 8 (omega (arith, h .vars, n)))
+          ∙ sym (check-then (filled 5 fs) 5 (check (name-ok (nth fs 1)) 6 low) g
+          ∙ ap (check (filled 5 fs) 5) (check-then (name-ok (nth fs 1)) 6 low g ∙ ap (check (name-ok (nth fs 1)) 6) (var-tail (number-field (nth fs 2)) (number-field (nth fs 3)) (λ lo hi. init-field lo hi (nth fs 4)) g))) where
+            low : Res Var
+            low = var-low fs
+
+            g : Var → Res So-far
+            g v = var-named s (nth fs 1) v
+
+-- an edge
 pub edges-held : {t : Tally} {table : List ℤ} {c : Chart} → Rows t table c → (w : OpWord) (fs : List (List ℕ))
     → edge-read (t .locs) (op-read table (t .vars) w fs) fs ≡ if-ok (edge-fields c w fs) (λ g. ok (edge-words g))
 edges-held {t} {table} {c} h w fs = rw (h .vars, h .locs) (edge-held table c (λ k z l. range-held h k z (omega (arith, h .vars))) w fs)
