@@ -11,15 +11,10 @@ use mir.Val.{toZ}
 use mir.Facts.{toZ-pos}
 use mir.Syntax.{w32}
 use borrow.Author.Needs.{needs}
-use Rattle.semantics.specs.Chart.{Chart}
-use Rattle.semantics.specs.Encoding.{encode}
-use Rattle.reader.specs.Held.{Rows}
-use Rattle.reader.proofs.Holding.{encode-length, held-words, too-few, enough}
+use Rattle.reader.specs.Held.{used-words}
+use Rattle.reader.proofs.Holding.{held-words, too-few, enough}
 use Rattle.reader.proofs.hold.Statement.{statement}
 use Rattle.reader.proofs.hold.Tie as tie
-
-encoded : (u : tie.After-used-words) {d : Chart} → Rows (u .before .args .t) (now (u .before .args .table)) d → length (encode d) ≡ u .used-words .result + 3
-encoded u h = omega (arith, u .used-words .ensures, encode-length h (omega (arith, u .before .pre)))
 
 -- where the rows are stored, after the counts
 module _ (c : tie.After-push-row-arg3) where
@@ -32,33 +27,31 @@ module _ (c : tie.After-push-row-arg3) where
   rows-length : length rows ≡ sized .used-words .result
   rows-length = length-take-le _ (now (sized .before .args .table)) (omega (arith, sized .used-words .ensures, sized .before .pre))
 
-  room : sized .used-words .result + 3 ≤ length (now (sized .before .args .words))
-  room = c .before .before .before .before .before .before .before .before .before .if1 .left
-
 returns : tie.Need-returns
 returns c = let u = c .before .before in
     let ws = now (u .before .args .words) in (
-      λ d h. rw (too-few d ws (omega (arith, encoded u h, c .before .if1 .taken))) (c .refused .ensures),
-      λ d h. rw (too-few d ws (omega (arith, encoded u h, c .before .if1 .taken))),
+      λ d h. rw (too-few h (omega (arith, u .before .pre)) ws (omega (arith, u .used-words .ensures, c .before .if1 .taken))) (c .refused .ensures),
+      λ d h. rw (too-few h (omega (arith, u .before .pre)) ws (omega (arith, u .used-words .ensures, c .before .if1 .taken))),
     )
 
 push-row-requires-2 : tie.Need-push-row-requires-2
 push-row-requires-2 c κs = let p = c .before .before .before .push-row in
-    let g : 3 + length (rows c) ≤ length (p .last .0) = omega (arith, rows-length c, room c, p .kept .0) in
+    let g : 3 + length (rows c) ≤ length (p .last .0) = omega (arith, rows-length c, c .before .before .before .before .before .before .before .before .before .if1 .left, p .kept .0) in
     g
 
 returns-2 : tie.Need-returns-2
 returns-2 c = let p = c .before .before .before in
     let u = sized p in
-    let ws = now (u .before .args .words) in
-    let t = u .before .args .t in
+    let a = u .before .args in
+    let t = a .t in
     let v : toZ w32 (t .vars) ≡ pos (t .vars) = toZ-pos w32 (omega (arith, u .before .pre)) in
     let l : toZ w32 (t .locs) ≡ pos (t .locs) = toZ-pos w32 (omega (arith, u .before .pre)) in
-    let e : toZ w32 (t .edges) ≡ pos (t .edges) = toZ-pos w32 (omega (arith, u .before .pre)) in (
-      λ d h. rw (enough d ws (omega (arith, encoded u h, room p))) (search needs),
-      λ d h. rw (enough d ws (omega (arith, encoded u h, room p)))
-          (c .before .before .push-row2 .ensures ∙ rw (p .before .before .before .push-row .ensures, u .used-words .ensures, v, l, e)
-          (held-words h (omega (arith, u .before .pre)) ws (omega (arith, u .used-words .ensures, room p)))),
+    let e : toZ w32 (t .edges) ≡ pos (t .edges) = toZ-pos w32 (omega (arith, u .before .pre)) in
+    let i : used-words t ≤ length (now (a .table)) = omega (arith, u .before .pre) in
+    let f : used-words t + 3 ≤ length (now (a .words)) = omega (arith, u .used-words .ensures, p .before .before .before .before .before .before .before .before .before .if1 .left) in (
+      λ d h. rw (enough h i (now (a .words)) f) (search needs),
+      λ d h. rw (enough h i (now (a .words)) f)
+          (c .before .before .push-row2 .ensures ∙ rw (p .before .before .before .push-row .ensures, u .used-words .ensures, v, l, e) (held-words h i (now (a .words)) f)),
     )
 
 pub hold-spec : {M : Type 1} → statement M
