@@ -24,6 +24,7 @@ use Rattle.reader.specs.declared.operation.OperandField.the-variants as 
 use Rattle.reader.specs.declared.operation.OpLine.the-variants as op-line
 use Rattle.reader.specs.declared.edge.EdgeLine.the-variants as edge-line
 
+-- the line at fault, if there is one
 abbrev pub fault-line : Fault → Option ℕ
 fault-line fault.Nowhere = none
 fault-line (fault.Line n) = some n
@@ -32,6 +33,7 @@ fault-line (fault.Line n) = some n
 abbrev pub var-of : VarRow → Var
 var-of v = record { lo = v .lo; hi = v .hi; init = val (v .init) }
 
+-- what the fields of a V line come to
 abbrev pub var-res : VarLine → Res Var
 var-res (var-line.Refused k) = fail k
 var-res (var-line.Is v) = ok (var-of v)
@@ -45,6 +47,7 @@ operand-field-res (operand.Is t x) = ok (t ∷ x ∷ [])
 abbrev pub op-row : OpRow → List ℤ
 op-row o = o .code ∷ o .target ∷ o .tag1 ∷ o .value1 ∷ o .tag2 ∷ o .value2 ∷ []
 
+-- what the fields of an operation come to, in words
 abbrev pub op-res : OpLine → Res (List ℤ)
 op-res (op-line.Refused k) = fail k
 op-res (op-line.Is o) = ok (op-row o)
@@ -53,6 +56,7 @@ op-res (op-line.Is o) = ok (op-row o)
 abbrev pub edge-row : EdgeRow → List ℤ
 edge-row g = g .from ∷ g .to ∷ op-row (g .op)
 
+-- what the fields of an E line come to, in words
 abbrev pub edge-res : EdgeLine → Res (List ℤ)
 edge-res (edge-line.Refused k) = fail k
 edge-res (edge-line.Is g) = ok (edge-row g)
@@ -67,6 +71,7 @@ the-word said.In = do-in
 the-word said.If = do-if
 the-word said.Skip = do-skip
 
+-- the relation that an answer names; a refused one stands for the last
 abbrev pub the-rel : Relation → Rel
 the-rel (relation.Refused k) = ge
 the-rel relation.Eq = eq

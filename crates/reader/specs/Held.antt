@@ -40,6 +40,7 @@ pub record Rows (t : Tally) (table : List ℤ) (c : Chart) : Type 0 where
   pub rows : take (used-words t) table ≡ rows-of c
   pub named : all (λ l. name-ok (l .name)) (c .locs) ≡ true
 
+-- names in the order of their lines
 abbrev pub in-order : List (List ℕ) → List (List ℕ)
 in-order [] = []
 in-order (n ∷ ns) = in-order ns ++ (n ∷ [])
@@ -69,6 +70,7 @@ Stepped (step.Go t) r table names = Gone r t table names
 abbrev pub lines-judged : List ℕ → Reading
 lines-judged text = judged 1 nothing-read (map fields (lines text))
 
+-- the line was not refused
 abbrev pub goes-on : Step → Bool
 goes-on (step.Refused k) = false
 goes-on (step.Go t) = true
@@ -103,6 +105,7 @@ abbrev pub Came : List ℕ → ℕ → Step → List ℤ → Type 0
 Came text line (step.Refused k) table = lines-judged text ≡ refused k line
 Came text line (step.Go t) table = Through text t table
 
+-- where reading stands, by whether it goes on
 abbrev pub Stands-by : Bool → List ℕ → ℕ → ℕ → Step → List ℤ → List ℤ → Type 0
 Stands-by true text at line s table names = Goes text at line s table names
 Stands-by false text at line s table names = Came text line s table
@@ -111,6 +114,7 @@ Stands-by false text at line s table names = Came text line s table
 abbrev pub Stands : List ℕ → ℕ → Descent → List ℤ → List ℤ → Type 0
 Stands text at p table names = Stands-by (p .going) text at (p .line) (p .step) table names
 
+-- the counts of a line that went on are no more than a chart has
 abbrev pub Few-of : Step → Type 0
 Few-of (step.Refused k) = Unit {0}
 Few-of (step.Go t) = Few t

@@ -29,12 +29,12 @@ returns c = let k = c .before .before .before .before .before in
 returns-2 : tie.Need-returns-2
 returns-2 c = let k = c .before .before .before in
     let l = kind-is (k .before .before .before .before .before .before) _ (k .before .same-bytes2 .ensures) (k .if2 .taken) in
-    λ s h g. rw (kind-loc s _ (no-var (k .before .before .before)) l) (c .before .read-line2 .ensures s (now (k .before .before .before .before .before .before .before .before .args .names)) h g)
+    λ s h g. rw (kind-loc s _ (no-var (k .before .before .before)) l) (c .before .read-line2 .ensures s _ h g)
 
 returns-3 : tie.Need-returns-3
 returns-3 c = let k = c .before .before .before in
     let e = kind-is (k .before .before .before .before .before .before .before .before .before) _ (k .before .same-bytes3 .ensures) (k .if3 .taken) in
-    λ s h g. rw (kind-edge s _ (no-var (k .before .before .before .before .before .before)) (no-loc (k .before .before .before)) e) (c .before .read-line3 .ensures s (now (k .before .before .before .before .before .before .before .before .before .before .before .args .names)) h g)
+    λ s h g. rw (kind-edge s _ (no-var (k .before .before .before .before .before .before)) (no-loc (k .before .before .before)) e) (c .before .read-line3 .ensures s _ h g)
 
 returns-4 : tie.Need-returns-4
 returns-4 c = λ s h g. kind-none s _ (no-var (c .before .before .before .before .before .before)) (no-loc (c .before .before .before)) (kind-is (c .before .before .before .before .before .before .before .before .before) _ (c .before .same-bytes3 .ensures) (c .if3 .left))
