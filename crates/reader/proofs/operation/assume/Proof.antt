@@ -1,7 +1,5 @@
 -- `reader::operation::assume` meets its contract. Assumes nothing.
-use mathlib.Core.Path.{_≡_, sym, ap, _∙_}
-use mir.Syntax.{w32}
-use mir.Val.{toZ, ofZ}
+use mathlib.Core.Path.{sym, ap, _∙_}
 use borrow.Author.Needs.{needs}
 use Rattle.semantics.specs.Reading.{rel-field}
 use Rattle.text.specs.Fields.{rel-res}
@@ -16,10 +14,8 @@ returns c = sym (then-fail _ (said rel-field (c .before .before .before .before 
 
 returns-2 : tie.Need-returns-2
 returns-2 c = let k = c .before .before .before .before in
-    let o = c .before .before .code-of in
-    let p : toZ w32 (ofZ w32 (o .result)) ≡ o .result = search needs in
     let e = said rel-field (k .before .field .ensures) (k .rel-field .ensures) (rel-said (k .rel-field .result) (c .before .before .before .match .keys2)) in
-    c .one-operand .ensures ∙ rw (p, o .ensures, c .before .field2 .ensures) (sym (then-ok _ e))
+    rw (then-ok _ e, sym (c .before .before .code-of .ensures), sym (c .before .field2 .ensures)) (c .one-operand .ensures ∙ (search needs))
 
 pub assume-spec : {M : Type 1} → statement M
 assume-spec =

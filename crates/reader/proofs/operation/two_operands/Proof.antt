@@ -1,9 +1,7 @@
 -- `reader::operation::two_operands` meets its contract. Assumes nothing.
 use mathlib.Core.List.{List}
-use mathlib.Core.Path.{_≡_, sym, ap, _∙_}
+use mathlib.Core.Path.{sym, ap, _∙_}
 use Prim.Native.Nat.{ℕ}
-use mir.Syntax.{w32}
-use mir.Val.{toZ, ofZ}
 use borrow.Author.Needs.{needs}
 use Rattle.semantics.specs.Reading.{operand-field}
 use Rattle.reader.specs.Lines.{operand-read}
@@ -20,14 +18,8 @@ returns c = let k = c .before .before .before in
 
 returns-2 : tie.Need-returns-2
 returns-2 c = let k = c .before .before .before in
-    let code = k .before .before .before .before .before .args .code in
-    let t = k .t .given .0 .0 in
-    let x = k .t .given .0 .1 .0 in
-    let p : toZ w32 (ofZ w32 code) ≡ code = search needs in
-    let q : toZ w32 (ofZ w32 t) ≡ t = search needs in
-    let r : toZ w32 (ofZ w32 x) ≡ x = search needs in
     let e = said (λ (f : List ℕ). operand-read (operand-field (k .before .before .before .before .before .args .vars) f)) (k .before .before .before .field .ensures) (k .before .before .operand-of .ensures) (ap operand-field-res (k .t .given .1)) in
-    c .second-operand .ensures ∙ rw (p, q, r, c .before .field2 .ensures) (sym (two-ok _ _ _ _ e))
+    rw (two-ok _ _ _ _ e, sym (c .before .field2 .ensures)) (c .second-operand .ensures ∙ (search needs))
 
 pub two-operands-spec : {M : Type 1} → statement M
 two-operands-spec =

@@ -1,7 +1,5 @@
 -- `reader::variable::low` meets its contract. Assumes nothing.
-use mathlib.Core.Path.{_≡_, sym, ap, _∙_}
-use mir.Syntax.{w32}
-use mir.Val.{toZ, ofZ}
+use mathlib.Core.Path.{sym, ap, _∙_}
 use borrow.Author.Needs.{needs}
 use Rattle.semantics.specs.Reading.{number-field}
 use Rattle.text.specs.Fields.{word-res}
@@ -16,10 +14,8 @@ returns c = sym (then-fail _ (said number-field (c .before .before .before .befo
 returns-2 : tie.Need-returns-2
 unfolding word-res
 returns-2 c = let k = c .before .before in
-    let lo = k .lo .given .0 .0 in
-    let p : toZ w32 (ofZ w32 lo) ≡ lo = search needs in
     let e = said number-field (k .before .before .before .field .ensures) (k .before .before .number-field .ensures) (ap word-res (k .lo .given .1)) in
-    c .high .ensures ∙ rw p (sym (then-ok _ e))
+    rw (then-ok _ e) (c .high .ensures ∙ (search needs))
 
 pub low-spec : {M : Type 1} → statement M
 low-spec =
