@@ -1,7 +1,5 @@
 -- `reader::operation::input` meets its contract. Assumes nothing.
-use mathlib.Core.Path.{_≡_, sym, ap, _∙_}
-use mir.Syntax.{w32}
-use mir.Val.{toZ, ofZ}
+use mathlib.Core.Path.{sym, ap, _∙_}
 use borrow.Author.Needs.{needs}
 use Rattle.semantics.specs.Reading.{number-field}
 use Rattle.text.specs.Fields.{word-res}
@@ -12,11 +10,9 @@ use Rattle.reader.proofs.operation.input.Tie as tie
 returns : tie.Need-returns
 unfolding word-res
 returns c = let k = c .before .before .before .before .before in
-    let z = k .p .given .0 .0 in
-    let q : toZ w32 (ofZ w32 z) ≡ z = search needs in
     let e = said number-field (k .before .before .before .field .ensures) (k .before .before .number-field .ensures) (ap word-res (k .p .given .1)) in
-    let t = sym (rw q at (c .before .before .before .in-range .ensures)) ∙ c .before .before .if1 .taken in
-    c .input-high .ensures ∙ rw (q, c .before .field2 .ensures) (sym (then-ok _ e ∙ check-yes _ _ t))
+    rw (sym (c .before .field2 .ensures))
+    (c .input-high .ensures ∙ (search needs) ∙ sym (then-ok _ e ∙ check-yes _ _ ((search needs) ∙ sym (c .before .before .before .in-range .ensures) ∙ c .before .before .if1 .taken)))
 
 returns-2 : tie.Need-returns-2
 unfolding word-res
@@ -25,10 +21,8 @@ returns-2 c = sym (then-fail _ (said number-field (c .before .before .before .be
 returns-3 : tie.Need-returns-3
 unfolding word-res
 returns-3 c = let k = c .before .before .before in
-    let z = k .p .given .0 .0 in
-    let q : toZ w32 (ofZ w32 z) ≡ z = search needs in
     let e = said number-field (k .before .before .before .field .ensures) (k .before .before .number-field .ensures) (ap word-res (k .p .given .1)) in
-    sym (then-ok _ e ∙ check-no _ _ (sym (rw q at (c .before .in-range .ensures)) ∙ c .if1 .left))
+    sym (then-ok _ e ∙ check-no _ _ ((search needs) ∙ sym (c .before .in-range .ensures) ∙ c .if1 .left))
 
 pub input-spec : {M : Type 1} → statement M
 input-spec =

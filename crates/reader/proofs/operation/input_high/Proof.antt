@@ -1,7 +1,5 @@
 -- `reader::operation::input_high` meets its contract. Assumes nothing.
-use mathlib.Core.Path.{_≡_, sym, ap, _∙_}
-use mir.Syntax.{w32}
-use mir.Val.{toZ, ofZ}
+use mathlib.Core.Path.{sym, ap, _∙_}
 use borrow.Author.Needs.{needs}
 use Rattle.text.specs.Fields.{word-res}
 use Rattle.reader.proofs.Judging.{then-fail, then-ok, check-no, check-yes}
@@ -11,14 +9,8 @@ use Rattle.reader.proofs.operation.input_high.Tie as tie
 returns : tie.Need-returns
 unfolding word-res
 returns c = let k = c .before .before .before .before in
-    let a = k .before .before .before .before .args in
-    let z = k .q .given .0 .0 in
-    let p : toZ w32 (ofZ w32 (a .p)) ≡ a .p = search needs in
-    let q : toZ w32 (ofZ w32 z) ≡ z = search needs in
-    let r : toZ w32 (ofZ w32 (c .index-word .result)) ≡ c .index-word .result = search needs in
     let e = sym (k .before .before .number-field .ensures) ∙ ap word-res (k .q .given .1) in
-    let t = sym (rw (p, q) at (c .before .before .up-to .ensures)) ∙ c .before .if1 .taken in
-    rw (p, q, r, c .index-word .ensures) (sym (then-ok _ e ∙ check-yes _ _ t))
+    rw (sym (c .index-word .ensures)) ((search needs) ∙ sym (then-ok _ e ∙ check-yes _ _ ((search needs) ∙ sym (c .before .before .up-to .ensures) ∙ c .before .if1 .taken)))
 
 returns-2 : tie.Need-returns-2
 unfolding word-res
@@ -27,12 +19,8 @@ returns-2 c = sym (then-fail _ (sym (c .before .before .before .number-field .en
 returns-3 : tie.Need-returns-3
 unfolding word-res
 returns-3 c = let k = c .before .before .before in
-    let a = k .before .before .before .before .args in
-    let z = k .q .given .0 .0 in
-    let p : toZ w32 (ofZ w32 (a .p)) ≡ a .p = search needs in
-    let q : toZ w32 (ofZ w32 z) ≡ z = search needs in
     let e = sym (k .before .before .number-field .ensures) ∙ ap word-res (k .q .given .1) in
-    sym (then-ok _ e ∙ check-no _ _ (sym (rw (p, q) at (c .before .up-to .ensures)) ∙ c .if1 .left))
+    sym (then-ok _ e ∙ check-no _ _ ((search needs) ∙ sym (c .before .up-to .ensures) ∙ c .if1 .left))
 
 pub input-high-spec : {M : Type 1} → statement M
 input-high-spec =
