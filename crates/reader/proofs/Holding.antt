@@ -26,19 +26,19 @@ some-list [] e = absurd (omega arith)
 some-list (x ∷ xs) e = refl
 
 module _ {t : Tally} {table : List ℤ} {c : Chart} (h : Rows t table c) (room : used-words t ≤ length table) where
-  pub encode-length : length (encode c) ≡ used-words t + 3
+  encode-length : length (encode c) ≡ used-words t + 3
   unfolding encode
   encode-length = omega (arith, ap length (h .rows), length-take-le (used-words t) table room)
 
-  pub held-words : (ws : List ℤ) → used-words t + 3 ≤ length ws
-      → stored 3 (take (used-words t) table) (stored 0 (pos (t .vars) ∷ pos (t .locs) ∷ pos (t .edges) ∷ []) ws) ≡ encode c ++ drop (length (encode c)) ws
-  unfolding stored encode
-  held-words ws f =
-      rw (h .rows) (stored-then 0 (pos (t .vars) ∷ pos (t .locs) ∷ pos (t .edges) ∷ []) ws (omega arith) (rows-of c) ∙ rw (h .vars, h .locs, h .edges))
+  module _ (ws : List ℤ) where
+    pub too-few : length ws < used-words t + 3 → ltb (length ws) (length (encode c)) ≡ true
+    too-few l = lt-ltb (length ws) (length (encode c)) (omega (arith, encode-length, l))
 
-module _ (c : Chart) (ws : List ℤ) where
-  pub too-few : length ws < length (encode c) → ltb (length ws) (length (encode c)) ≡ true
-  too-few l = lt-ltb (length ws) (length (encode c)) l
+    module _ (f : used-words t + 3 ≤ length ws) where
+      pub enough : ltb (length ws) (length (encode c)) ≡ false
+      enough = le-ltb (length ws) (length (encode c)) (omega (arith, encode-length, f))
 
-  pub enough : length (encode c) ≤ length ws → ltb (length ws) (length (encode c)) ≡ false
-  enough l = le-ltb (length ws) (length (encode c)) l
+      pub held-words : stored 3 (take (used-words t) table) (stored 0 (pos (t .vars) ∷ pos (t .locs) ∷ pos (t .edges) ∷ []) ws) ≡ encode c ++ drop (length (encode c)) ws
+      unfolding stored encode
+      held-words =
+          rw (h .rows) (stored-then 0 (pos (t .vars) ∷ pos (t .locs) ∷ pos (t .edges) ∷ []) ws (omega arith) (rows-of c) ∙ rw (h .vars, h .locs, h .edges))

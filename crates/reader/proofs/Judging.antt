@@ -1,5 +1,5 @@
 -- A judgement passed or failed, and what follows it. Assumes nothing.
-use mathlib.Core.Path.{_≡_, refl, sym}
+use mathlib.Core.Path.{_≡_, refl, sym, ap, _∙_}
 use mathlib.Core.Bool.{Bool, true, false, not}
 use mathlib.Core.List.{List, [], _∷_}
 use mathlib.Core.Option.{Option, none, some}
@@ -39,6 +39,10 @@ not-no {b = true} e = sym e
 pub not-yes : {b : Bool} → not b ≡ false → b ≡ true
 not-yes {b = true} e = refl
 not-yes {b = false} e = sym e
+
+-- what a call answered of a field, and so of the field as the line has it
+pub said : {B : Type 0} (f : List ℕ → B) {x y : List ℕ} {r b : B} → x ≡ y → r ≡ f x → r ≡ b → f y ≡ b
+said f e n t = ap f (sym e) ∙ sym n ∙ t
 
 -- ---- what passed
 

@@ -14,26 +14,27 @@ use Rattle.semantics.specs.Text.{name-ok}
 use Rattle.semantics.specs.Chart.{Value, Var, Operand, Rel, Op, assign, add, sub, input, assume, Edge, Chart, in-range}
 use Rattle.semantics.specs.Encoding.{tag, held, op-words, edge-words}
 use Rattle.semantics.specs.Reading.{Res, fail, ok, check, if-ok, nth, none-empty, number-field, location-field, target-field, operand-field, init-field, kind-field, rel-field, op-word-field, OpWord, do-set, do-add, do-sub, do-in, do-if, do-skip, field-count, op-fields-read, So-far, with-edge, var-line, loc-line, edge-line, filled}
-use Rattle.reader.specs.Lines.{in-table, operand-read, one-read, second-read, two-read, input-read, input-high-read, assume-read, after-target, op-read, edge-read, var-low, var-fields, var-named, loc-fields, loc-named, edge-fields, edge-worded}
+use Rattle.reader.specs.Lines.{in-table, operand-read, one-read, second-read, two-read, input-read, input-high-read, assume-read, op-read, edge-read, var-low, var-fields, var-named, loc-fields, loc-named, edge-fields, edge-worded}
 use Rattle.reader.specs.Held.{Rows}
 use Rattle.reader.specs.declared.tally.Tally.{Tally}
 use Rattle.reader.proofs.Growing.{range-held}
+use Rattle.reader.proofs.Holding.{none-empty-list, some-list}
 use Rattle.reader.proofs.Judging.{check-no, check-yes, then-fail, then-ok, check-then, then-map, check-passed, fail-ok, target-below}
 
 -- ---- operands
 
 one-via : (code : ℤ) (v : ℕ) (r : Res Operand) → one-read code v r ≡ if-ok (operand-read r) (λ ws. ok (code ∷ pos v ∷ (ws ++ (pos 0 ∷ pos 0 ∷ []))))
-unfolding if-ok operand-read
+unfolding if-ok
 one-via code v (fail n) = refl
 one-via code v (ok a) = refl
 
 second-via : (code : ℤ) (v : ℕ) (t x : ℤ) (r : Res Operand) → second-read code v t x r ≡ if-ok (operand-read r) (λ ws. ok (code ∷ pos v ∷ t ∷ x ∷ ws))
-unfolding if-ok operand-read
+unfolding if-ok
 second-via code v t x (fail n) = refl
 second-via code v t x (ok a) = refl
 
 two-via : (code : ℤ) (v : ℕ) (r q : Res Operand) → two-read code v r q ≡ if-ok (operand-read r) (λ ws. second-read code v (getD ws 0 (pos 0)) (getD ws 1 (pos 0)) q)
-unfolding if-ok operand-read
+unfolding if-ok
 two-via code v (fail n) q = refl
 two-via code v (ok a) q = refl
 
@@ -101,7 +102,7 @@ module _ (table : List ℤ) (vars : List Var) (ranges : (k : ℕ) (z : ℤ) → 
 -- the operation's words
 pub op-held : (table : List ℤ) (c : Chart) → ((k : ℕ) (z : ℤ) → k < length (c .vars) → in-table table k z ≡ in-range (c .vars) k z) → (w : OpWord) (fs : List (List ℕ))
     → op-read table (length (c .vars)) w fs ≡ if-ok (op-fields-read c w fs) (λ o. ok (op-words o))
-unfolding op-read op-fields-read after-target
+unfolding op-fields-read
 op-held table c ranges do-skip fs = sym (then-ok (λ o. ok (op-words o)) refl)
 op-held table c ranges do-set fs = one-held (pos 1) assign (λ v a. refl) (target-field (length (c .vars)) (nth fs 4)) (operand-field (length (c .vars)) (nth fs 5))
 op-held table c ranges do-add fs =
@@ -188,54 +189,69 @@ module _ (s : So-far) (fs : List (List ℕ)) where
           check-yes _ _ (lt-ltb _ _ few) ∙ check-yes _ _ enough ∙ then-ok _ e
           ∙ ap (check (eqb (length fs) (field-count w)) 5) (sym (edge-tail s (location-field (length (s .chart .locs)) (nth fs 1)) (location-field (length (s .chart .locs)) (nth fs 2)) (op-fields-read (s .chart) w fs)))
 
+pub var-name-ok : (fs : List (List ℕ)) {v : Var} → var-fields fs ≡ ok v → name-ok (nth fs 1) ≡ true
+var-name-ok fs e = check-passed (name-ok (nth fs 1)) _ _ (check-passed (filled 5 fs) _ _ e .1) .0
+
+pub loc-name-ok : (fs : List (List ℕ)) {k : Bool} → loc-fields fs ≡ ok k → name-ok (nth fs 1) ≡ true
+loc-name-ok fs e = check-passed (name-ok (nth fs 1)) _ _ (check-passed (filled 3 fs) _ _ e .1) .0
+
+-- ---- by the counts and the table that hold the chart
+
+module _ (s : So-far) (fs : List (List ℕ)) {t : Tally} {table : List ℤ} (h : Rows t table (s .chart)) where
   -- a location
-  pub loc-late : is-empty (s .chart .edges) ≡ false → loc-line s fs ≡ fail 4
+  pub loc-late : (t .edges ≡ 0 → ⊥) → loc-line s fs ≡ fail 4
   unfolding loc-line
-  loc-late e = check-no _ _ e
+  loc-late n = check-no _ _ (some-list (s .chart .edges) (omega (arith, h .edges, n)))
 
-  module _ (early : is-empty (s .chart .edges) ≡ true) where
-    pub loc-full : 64 ≤ length (s .chart .locs) → loc-line s fs ≡ fail 8
+  module _ (e : t .edges ≡ 0) where
+    no-edges : is-empty (s .chart .edges) ≡ true
+    no-edges = none-empty-list (s .chart .edges) (omega (arith, h .edges, e))
+
+    pub loc-full : 64 ≤ t .locs → loc-line s fs ≡ fail 8
     unfolding loc-line
-    loc-full h = check-yes _ _ early ∙ check-no _ _ (le-ltb _ _ h)
+    loc-full n = check-yes _ _ no-edges ∙ check-no _ _ (le-ltb (length (s .chart .locs)) 64 (omega (arith, h .locs, n)))
 
-    pub loc-read : length (s .chart .locs) < 64 → loc-line s fs ≡ if-ok (loc-fields fs) (λ k. loc-named s (nth fs 1) k)
-    unfolding loc-line loc-fields
-    loc-read h =
-        check-yes _ _ early ∙ check-yes _ _ (lt-ltb _ _ h)
+    pub loc-read : t .locs < 64 → loc-line s fs ≡ if-ok (loc-fields fs) (λ k. loc-named s (nth fs 1) k)
+    unfolding loc-line
+    loc-read n =
+        check-yes _ _ no-edges ∙ check-yes _ _ (lt-ltb (length (s .chart .locs)) 64 (omega (arith, h .locs, n)))
         ∙ sym (check-then (filled 3 fs) 5 (check (name-ok (nth fs 1)) 6 (kind-field (nth fs 2))) (λ k. loc-named s (nth fs 1) k)
         ∙ ap (check (filled 3 fs) 5) (check-then (name-ok (nth fs 1)) 6 (kind-field (nth fs 2)) (λ k. loc-named s (nth fs 1) k)))
 
   -- a variable
-  pub var-late : (is-empty (s .chart .locs) && is-empty (s .chart .edges)) ≡ false → var-line s fs ≡ fail 4
+  pub var-after-loc : (t .locs ≡ 0 → ⊥) → var-line s fs ≡ fail 4
   unfolding var-line
-  var-late e = check-no _ _ e
+  var-after-loc n = check-no _ _ (rw (some-list (s .chart .locs) (omega (arith, h .locs, n))))
 
-  module _ (early : (is-empty (s .chart .locs) && is-empty (s .chart .edges)) ≡ true) where
-    pub var-full : 8 ≤ length (s .chart .vars) → var-line s fs ≡ fail 8
+  module _ (l : t .locs ≡ 0) where
+    no-locs : is-empty (s .chart .locs) ≡ true
+    no-locs = none-empty-list (s .chart .locs) (omega (arith, h .locs, l))
+
+    pub var-after-edge : (t .edges ≡ 0 → ⊥) → var-line s fs ≡ fail 4
     unfolding var-line
-    var-full h = check-yes _ _ early ∙ check-no _ _ (le-ltb _ _ h)
+    var-after-edge n = check-no _ _ (rw (no-locs, some-list (s .chart .edges) (omega (arith, h .edges, n))))
 
-    pub var-read : length (s .chart .vars) < 8 → var-line s fs ≡ if-ok (var-fields fs) (λ v. var-named s (nth fs 1) v)
-    unfolding var-line var-fields
-    var-read h =
-        check-yes _ _ early ∙ check-yes _ _ (lt-ltb _ _ h)
-        ∙ sym (check-then (filled 5 fs) 5 (check (name-ok (nth fs 1)) 6 low) g
-        ∙ ap (check (filled 5 fs) 5) (check-then (name-ok (nth fs 1)) 6 low g ∙ ap (check (name-ok (nth fs 1)) 6) (var-tail (number-field (nth fs 2)) (number-field (nth fs 3)) (λ lo hi. init-field lo hi (nth fs 4)) g))) where
-          low : Res Var
-          low = var-low fs
+    module _ (e : t .edges ≡ 0) where
+      early : (is-empty (s .chart .locs) && is-empty (s .chart .edges)) ≡ true
+      early = rw (no-locs, no-edges e)
 
-          g : Var → Res So-far
-          g v = var-named s (nth fs 1) v
+      pub var-full : 8 ≤ t .vars → var-line s fs ≡ fail 8
+      unfolding var-line
+      var-full n = check-yes _ _ early ∙ check-no _ _ (le-ltb (length (s .chart .vars)) 8 (omega (arith, h .vars, n)))
 
-pub var-name-ok : (fs : List (List ℕ)) {v : Var} → var-fields fs ≡ ok v → name-ok (nth fs 1) ≡ true
-unfolding var-fields
-var-name-ok fs e = check-passed (name-ok (nth fs 1)) _ _ (check-passed (filled 5 fs) _ _ e .1) .0
+      pub var-read : t .vars < 8 → var-line s fs ≡ if-ok (var-fields fs) (λ v. var-named s (nth fs 1) v)
+      unfolding var-line
+      var-read n =
+          check-yes _ _ early ∙ check-yes _ _ (lt-ltb (length (s .chart .vars)) 8 (omega (arith, h .vars, n)))
+          ∙ sym (check-then (filled 5 fs) 5 (check (name-ok (nth fs 1)) 6 low) g
+          ∙ ap (check (filled 5 fs) 5) (check-then (name-ok (nth fs 1)) 6 low g ∙ ap (check (name-ok (nth fs 1)) 6) (var-tail (number-field (nth fs 2)) (number-field (nth fs 3)) (λ lo hi. init-field lo hi (nth fs 4)) g))) where
+            low : Res Var
+            low = var-low fs
 
-pub loc-name-ok : (fs : List (List ℕ)) {k : Bool} → loc-fields fs ≡ ok k → name-ok (nth fs 1) ≡ true
-unfolding loc-fields
-loc-name-ok fs e = check-passed (name-ok (nth fs 1)) _ _ (check-passed (filled 3 fs) _ _ e .1) .0
+            g : Var → Res So-far
+            g v = var-named s (nth fs 1) v
 
--- by the counts and the table that hold the chart
+-- an edge
 pub edges-held : {t : Tally} {table : List ℤ} {c : Chart} → Rows t table c → (w : OpWord) (fs : List (List ℕ))
     → edge-read (t .locs) (op-read table (t .vars) w fs) fs ≡ if-ok (edge-fields c w fs) (λ g. ok (edge-words g))
 edges-held {t} {table} {c} h w fs = rw (h .vars, h .locs) (edge-held table c (λ k z l. range-held h k z (omega (arith, h .vars))) w fs)

@@ -17,7 +17,7 @@ use Rattle.text.proofs.Relation as relation-type
 use Rattle.text.proofs.OpWord as op-word-type
 
 pub rel-said : (x : Relation) → OneOf (1 ∷ 2 ∷ 3 ∷ 4 ∷ 5 ∷ 6 ∷ []) (tagOf relation-type.the-type x) → rel-res x ≡ ok (the-rel x)
-unfolding rel-res the-rel
+unfolding rel-res
 rel-said (relation.Refused k) h = absurd (miss (1 ∷ 2 ∷ 3 ∷ 4 ∷ 5 ∷ 6 ∷ []) 0 tt h)
 rel-said relation.Eq h = refl
 rel-said relation.Ne h = refl
@@ -27,7 +27,7 @@ rel-said relation.Gt h = refl
 rel-said relation.Ge h = refl
 
 pub word-said : (x : OpWord) → OneOf (1 ∷ 2 ∷ 3 ∷ 4 ∷ 5 ∷ 6 ∷ []) (tagOf op-word-type.the-type x) → op-word-res x ≡ ok (the-word x)
-unfolding op-word-res the-word
+unfolding op-word-res
 word-said (op-word.Refused k) h = absurd (miss (1 ∷ 2 ∷ 3 ∷ 4 ∷ 5 ∷ 6 ∷ []) 0 tt h)
 word-said op-word.Set h = refl
 word-said op-word.Add h = refl
@@ -38,7 +38,6 @@ word-said op-word.Skip h = refl
 
 -- neither set, add, sub, in nor if
 pub skip-said : (x : OpWord) → OneOf (0 ∷ 6 ∷ []) (tagOf op-word-type.the-type x) → the-word x ≡ do-skip
-unfolding the-word
 skip-said (op-word.Refused k) h = refl
 skip-said op-word.Set h = absurd (miss (0 ∷ 6 ∷ []) 1 tt h)
 skip-said op-word.Add h = absurd (miss (0 ∷ 6 ∷ []) 2 tt h)
@@ -49,7 +48,6 @@ skip-said op-word.Skip h = refl
 
 -- one of them
 pub target-said : (x : OpWord) → OneOf (1 ∷ 2 ∷ 3 ∷ 4 ∷ 5 ∷ []) (tagOf op-word-type.the-type x) → (table : List ℤ) (n : ℕ) (fs : List (List ℕ)) → op-read table n (the-word x) fs ≡ targeted table n (the-word x) fs
-unfolding the-word op-read
 target-said (op-word.Refused k) h table n fs = absurd (miss (1 ∷ 2 ∷ 3 ∷ 4 ∷ 5 ∷ []) 0 tt h)
 target-said op-word.Set h table n fs = refl
 target-said op-word.Add h table n fs = refl

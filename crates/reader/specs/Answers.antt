@@ -25,7 +25,7 @@ use Rattle.reader.specs.declared.operation.OpLine.the-variants as op-lin
 use Rattle.reader.specs.declared.edge.EdgeLine.the-variants as edge-line
 
 -- the line at fault, if there is one
-unfoldable pub fault-line : Fault → Option ℕ
+abbrev pub fault-line : Fault → Option ℕ
 fault-line fault.Nowhere = none
 fault-line (fault.Line n) = some n
 
@@ -33,13 +33,13 @@ fault-line (fault.Line n) = some n
 abbrev pub var-of : VarRow → Var
 var-of v = record { lo = v .lo; hi = v .hi; init = val (v .init) }
 
--- the refusal of a V line's fields, or the variable
-unfoldable pub var-res : VarLine → Res Var
+-- what the fields of a V line come to
+abbrev pub var-res : VarLine → Res Var
 var-res (var-line.Refused k) = fail k
 var-res (var-line.Is v) = ok (var-of v)
 
 -- an operand's two words
-unfoldable pub operand-field-res : OperandField → Res (List ℤ)
+abbrev pub operand-field-res : OperandField → Res (List ℤ)
 operand-field-res (operand.Refused k) = fail k
 operand-field-res (operand.Is t x) = ok (t ∷ x ∷ [])
 
@@ -47,8 +47,8 @@ operand-field-res (operand.Is t x) = ok (t ∷ x ∷ [])
 abbrev pub op-row : OpRow → List ℤ
 op-row o = o .code ∷ o .target ∷ o .tag1 ∷ o .value1 ∷ o .tag2 ∷ o .value2 ∷ []
 
--- the refusal of an operation's fields, or its words
-unfoldable pub op-res : OpLine → Res (List ℤ)
+-- what the fields of an operation come to, in words
+abbrev pub op-res : OpLine → Res (List ℤ)
 op-res (op-line.Refused k) = fail k
 op-res (op-line.Is o) = ok (op-row o)
 
@@ -56,13 +56,13 @@ op-res (op-line.Is o) = ok (op-row o)
 abbrev pub edge-row : EdgeRow → List ℤ
 edge-row g = g .from ∷ g .to ∷ op-row (g .op)
 
--- the refusal of an E line's fields, or its words
-unfoldable pub edge-res : EdgeLine → Res (List ℤ)
+-- what the fields of an E line come to, in words
+abbrev pub edge-res : EdgeLine → Res (List ℤ)
 edge-res (edge-line.Refused k) = fail k
 edge-res (edge-line.Is g) = ok (edge-row g)
 
--- the word that an answer names; a refused one is not looked at
-unfoldable pub the-word : Said → OpWord
+-- the word that an answer names; a refused one stands for none
+abbrev pub the-word : Said → OpWord
 the-word (said.Refused k) = do-skip
 the-word said.Set = do-set
 the-word said.Add = do-add
@@ -71,8 +71,8 @@ the-word said.In = do-in
 the-word said.If = do-if
 the-word said.Skip = do-skip
 
--- the relation that an answer names; a refused one, which names none, counts as ge
-unfoldable pub the-rel : Relation → Rel
+-- the relation that an answer names; a refused one stands for the last
+abbrev pub the-rel : Relation → Rel
 the-rel (relation.Refused k) = ge
 the-rel relation.Eq = eq
 the-rel relation.Ne = ne

@@ -40,7 +40,7 @@ pub record Rows (t : Tally) (table : List ℤ) (c : Chart) : Type 0 where
   pub rows : take (used-words t) table ≡ rows-of c
   pub named : all (λ l. name-ok (l .name)) (c .locs) ≡ true
 
--- the list from its last to its first: names in file order
+-- names in the order of their lines
 abbrev pub in-order : List (List ℕ) → List (List ℕ)
 in-order [] = []
 in-order (n ∷ ns) = in-order ns ++ (n ∷ [])
@@ -105,7 +105,7 @@ abbrev pub Came : List ℕ → ℕ → Step → List ℤ → Type 0
 Came text line (step.Refused k) table = lines-judged text ≡ refused k line
 Came text line (step.Go t) table = Through text t table
 
--- the Bool says whether reading goes on
+-- where reading stands, by whether it goes on
 abbrev pub Stands-by : Bool → List ℕ → ℕ → ℕ → Step → List ℤ → List ℤ → Type 0
 Stands-by true text at line s table names = Goes text at line s table names
 Stands-by false text at line s table names = Came text line s table
@@ -114,7 +114,7 @@ Stands-by false text at line s table names = Came text line s table
 abbrev pub Stands : List ℕ → ℕ → Descent → List ℤ → List ℤ → Type 0
 Stands text at p table names = Stands-by (p .going) text at (p .line) (p .step) table names
 
--- no more than a chart has, where the line was not refused
+-- the counts of a line that went on are no more than a chart has
 abbrev pub Few-of : Step → Type 0
 Few-of (step.Refused k) = Unit {0}
 Few-of (step.Go t) = Few t

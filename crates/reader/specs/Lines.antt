@@ -14,20 +14,20 @@ use Rattle.semantics.specs.Reading.{Res, ok, check, if-ok, nth, filled, number-
 
 -- ---- `V name lo hi init`
 
--- init, with lo and hi read
+-- the last field, after lo and hi
 abbrev pub var-init : ℤ → ℤ → List ℕ → Res Var
 var-init lo hi f = if-ok (init-field lo hi f) λ x. ok (record { lo = lo; hi = hi; init = x })
 
--- hi, with lo read; "hi below lo is 7"
+-- the fields from hi on
 abbrev pub var-high : ℤ → List (List ℕ) → Res Var
 var-high lo fs = if-ok (number-field (nth fs 3)) λ hi. check (leZ lo hi) 7 (var-init lo hi (nth fs 4))
 
--- lo, then hi and init
+-- the fields from lo on
 abbrev pub var-low : List (List ℕ) → Res Var
 var-low fs = if-ok (number-field (nth fs 2)) λ lo. var-high lo fs
 
--- the fields by 5, then name, lo, hi and init by 6 and 7
-unfoldable pub var-fields : List (List ℕ) → Res Var
+-- all the fields
+abbrev pub var-fields : List (List ℕ) → Res Var
 var-fields fs = check (filled 5 fs) 5 (check (name-ok (nth fs 1)) 6 (var-low fs))
 
 -- the name is looked for last
@@ -36,11 +36,11 @@ var-named s name v = check (all (λ m. not (same-bytes m name)) (s .names)) 9 (o
 
 -- ---- `L name kind`
 
--- the fields by 5, then name and kind by 6
-unfoldable pub loc-fields : List (List ℕ) → Res Bool
+-- all the fields: the kind
+abbrev pub loc-fields : List (List ℕ) → Res Bool
 loc-fields fs = check (filled 3 fs) 5 (check (name-ok (nth fs 1)) 6 (kind-field (nth fs 2)))
 
--- the name is looked for last; k says whether it is an error location
+-- the name is looked for last
 abbrev pub loc-named : So-far → List ℕ → Bool → Res So-far
 loc-named s name k = check (all (λ m. not (same-bytes (m .name) name)) (s .chart .locs)) 9 (ok (with-loc s (record { name = name; error = k })))
 
@@ -50,12 +50,12 @@ loc-named s name k = check (all (λ m. not (same-bytes (m .name) name)) (s .char
 abbrev pub in-table : List ℤ → ℕ → ℤ → Bool
 in-table table v z = within (getD table (3 * v) (pos 0)) (getD table (3 * v + 1) (pos 0)) z
 
--- an operand's tag and its second word
+-- an operand in words: tag and value
 abbrev pub operand-words : Operand → List ℤ
 operand-words a = tag a ∷ held a ∷ []
 
--- these words of an operand field, or its refusal
-unfoldable pub operand-read : Res Operand → Res (List ℤ)
+-- an operand's field in words
+abbrev pub operand-read : Res Operand → Res (List ℤ)
 operand-read r = if-ok r λ a. ok (operand-words a)
 
 -- an operation by its code and target, with one operand
@@ -70,20 +70,20 @@ second-read code v t x r = if-ok r λ b. ok (code ∷ pos v ∷ t ∷ x ∷ tag 
 abbrev pub two-read : ℤ → ℕ → Res Operand → Res Operand → Res (List ℤ)
 two-read code v r q = if-ok r λ a. second-read code v (tag a) (held a) q
 
--- q of `in v p q`, with p read: "numbers with p ≤ q, inside v's range"
+-- q of `in`, after p
 abbrev pub input-high-read : List ℤ → ℕ → ℤ → Res ℤ → Res (List ℤ)
 input-high-read table v p r = if-ok r λ q. check (in-table table v q && leZ p q) 7 (ok (pos 4 ∷ pos v ∷ pos 0 ∷ p ∷ pos 0 ∷ q ∷ []))
 
--- `in v p q`: first p, inside v's range
+-- p and q of `in`
 abbrev pub input-read : List ℤ → ℕ → Res ℤ → Res ℤ → Res (List ℤ)
 input-read table v r q = if-ok r λ p. check (in-table table v p) 7 (input-high-read table v p q)
 
--- `if v rel a`: the relation first, which gives the code
+-- relation and operand of `if`
 abbrev pub assume-read : ℕ → Res Rel → Res Operand → Res (List ℤ)
 assume-read v r q = if-ok r λ x. one-read (pos (rel-code x)) v q
 
 -- the fields after the target v, with n variables
-unfoldable pub after-target : List ℤ → ℕ → OpWord → ℕ → List (List ℕ) → Res (List ℤ)
+abbrev pub after-target : List ℤ → ℕ → OpWord → ℕ → List (List ℕ) → Res (List ℤ)
 after-target table n do-skip v fs = ok (op-words skip)
 after-target table n do-set v fs = one-read (pos 1) v (operand-field n (nth fs 5))
 after-target table n do-add v fs = two-read (pos 2) v (operand-field n (nth fs 5)) (operand-field n (nth fs 6))
@@ -91,12 +91,12 @@ after-target table n do-sub v fs = two-read (pos 3) v (operand-field n (nth fs 5
 after-target table n do-in v fs = input-read table v (number-field (nth fs 5)) (number-field (nth fs 6))
 after-target table n do-if v fs = assume-read v (rel-field (nth fs 5)) (operand-field n (nth fs 6))
 
--- the target, then the fields after it
+-- the fields from the target on
 abbrev pub targeted : List ℤ → ℕ → OpWord → List (List ℕ) → Res (List ℤ)
 targeted table n w fs = if-ok (target-field n (nth fs 4)) λ v. after-target table n w v fs
 
 -- the operation's words
-unfoldable pub op-read : List ℤ → ℕ → OpWord → List (List ℕ) → Res (List ℤ)
+abbrev pub op-read : List ℤ → ℕ → OpWord → List (List ℕ) → Res (List ℤ)
 op-read table n do-skip fs = ok (op-words skip)
 op-read table n do-set fs = targeted table n do-set fs
 op-read table n do-add fs = targeted table n do-add fs
@@ -108,11 +108,11 @@ op-read table n do-if fs = targeted table n do-if fs
 abbrev pub with-op : ℕ → ℕ → Res (List ℤ) → Res (List ℤ)
 with-op from to r = if-ok r λ ws. ok (pos from ∷ pos to ∷ ws)
 
--- the field `to`, one of m locations, after `from`; r are the operation's words
+-- the fields from `to` on, with m locations
 abbrev pub with-from : ℕ → ℕ → Res (List ℤ) → List (List ℕ) → Res (List ℤ)
 with-from from m r fs = if-ok (location-field m (nth fs 2)) λ to. with-op from to r
 
--- with m locations
+-- the fields from `from` on, with m locations
 abbrev pub edge-read : ℕ → Res (List ℤ) → List (List ℕ) → Res (List ℤ)
 edge-read m r fs = if-ok (location-field m (nth fs 1)) λ from. with-from from m r fs
 
@@ -123,6 +123,6 @@ edge-fields c w fs =
     if-ok (location-field (length (c .locs)) (nth fs 2)) λ to.
     if-ok (op-fields-read c w fs) λ o. ok (record { from = from; to = to; op = o })
 
--- an E line of this operation: its count of fields by 5, then the fields
+-- a line whose operation is known: 5 by its count, then its fields
 abbrev pub edge-worded : So-far → OpWord → List (List ℕ) → Res So-far
 edge-worded s w fs = check (eqb (length fs) (field-count w)) 5 (if-ok (edge-fields (s .chart) w fs) λ g. ok (with-edge s g))

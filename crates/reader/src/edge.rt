@@ -19,16 +19,19 @@ use super::operation;
 use super::operation::OpLine;
 use super::operation::OpRow;
 use super::store;
+use super::tally::MOST_EDGES;
 use super::tally::Step;
 use super::tally::Tally;
 use super::tally::used_words;
 
+// The eight words of an edge's row.
 struct EdgeRow {
     from: i32,
     to: i32,
     op: OpRow,
 }
 
+// What the fields of an E line come to: a refusal's number, or the row.
 enum EdgeLine {
     Refused(u32),
     Is(EdgeRow),
@@ -140,11 +143,12 @@ fn enough(line: &[u8]) -> bool
     (4 <= text::field_count(line)) & text::none_empty(line)
 }
 
+// An E line. How many fields it has goes by its operation, so that this is read first.
 pub fn read_line(t: Tally, table: &mut [i32], line: &[u8]) -> Step
     requires { ⌜ Few t × (length (now table) ≡ 3160) ⌝ }
     ensures { λ r. ⌜ ((s : So-far) (names : List ℤ) → Rows t (now (table .entry)) (s .chart) → Names (t .vars) names (s .names) → Stepped r (edge-line s (fields (now (line .entry)))) (now (table .exit)) names) ⌝ }
 {
-    if 256 <= t.edges {
+    if MOST_EDGES <= t.edges {
         return Step::Refused(8);
     }
     if !enough(line) {

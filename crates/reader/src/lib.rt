@@ -1,4 +1,6 @@
-// Reading a chart file: from its bytes to the words of the encoded chart, or the refusal's number and line.
+// Reading a chart file: from its bytes to the words of the encoded chart, or the refusal's number and line. In this
+// crate `table` is the table of the chart's rows, that is the encoded chart but for its three counts; and `names` that
+// of the variables' names, which are looked for and not encoded.
 ghost use mathlib.Core.Path.{_≡_};
 ghost use lib.ListN.{length};
 ghost use lib.Dec.{ltb};
@@ -7,7 +9,7 @@ ghost use Rattle.semantics.specs.Text.{fields};
 ghost use Rattle.semantics.specs.Chart.{Chart};
 ghost use Rattle.semantics.specs.Encoding.{encode};
 ghost use Rattle.semantics.specs.Reading.{So-far, judge, ended, refused-at, bad-byte-line, open-line};
-ghost use Rattle.semantics.specs.Outcomes.{refused-by, held-unless, held-by, read-outcome};
+ghost use Rattle.semantics.specs.Outcomes.{held-unless, held-by, read-outcome};
 ghost use Rattle.reader.specs.Held.{Few, Rows, Names, Stepped, lines-judged, goes-on, nothing-judged, Came, Ready, Advanced};
 
 mod edge;
@@ -18,20 +20,14 @@ mod store;
 mod tally;
 mod variable;
 
+use tally::NAMES_WORDS;
 use tally::Step;
+use tally::TABLE_WORDS;
 use tally::Tally;
 use tally::used_words;
 
-// A refusal; with 0, what a call that goes through answers.
-fn refused(number: u32, line: usize) -> semantics::Answer
-    ensures { λ r. ⌜ r ≡ refused-by number line ⌝ }
-{
-    semantics::Answer {
-        number: number,
-        line: line,
-        length: 0,
-    }
-}
+// Refusal 1: the most bytes of a chart file.
+const MOST_BYTES: usize = 32768;
 
 // The rows to the words lent, after their counts; or 14, where these are too few.
 fn hold(t: Tally, table: &[i32], words: &mut [i32]) -> semantics::Answer
@@ -41,22 +37,22 @@ fn hold(t: Tally, table: &[i32], words: &mut [i32]) -> semantics::Answer
 {
     let size = used_words(t);
     if words.len() < size + 3 {
-        return refused(14, 0);
+        return semantics::refused(14, 0);
     }
     let counts = [t.vars as i32, t.locs as i32, t.edges as i32];
     store::push_row(words, 0, &counts);
     store::push_row(words, 3, &table[..size]);
-    refused(0, 0)
+    semantics::gone_through(0)
 }
 
-// After the last line.
+// After the last line: 8, where there is no location.
 fn finish(t: Tally, table: &[i32], words: &mut [i32]) -> semantics::Answer
     requires { ⌜ Few t × (length (now table) ≡ 3160) ⌝ }
     ensures { λ r. ⌜ ((c : Chart) → Rows t (now (table .entry)) c → r ≡ held-by (ended (is-empty (c .locs)) c) (now (words .entry)) .answer) ⌝ }
     ensures { λ _. ⌜ ((c : Chart) → Rows t (now (table .entry)) c → now (words .exit) ≡ held-by (ended (is-empty (c .locs)) c) (now (words .entry)) .words) ⌝ }
 {
     if t.locs == 0 {
-        return refused(8, 0);
+        return semantics::refused(8, 0);
     }
     hold(t, table, words)
 }
@@ -86,6 +82,7 @@ struct Descent {
     step: Step,
 }
 
+// Whether reading goes on after a line.
 fn goes(s: Step) -> bool
     ensures { λ r. ⌜ r ≡ goes-on s ⌝ }
 {
@@ -149,18 +146,17 @@ fn go_down(text: &[u8], table: &mut [i32], names: &mut [i32]) -> Descent
     p
 }
 
-// All the lines. The rows are held apart until the last line is judged, so that a refusal has written nothing; they are those of
-// 8 variables, 64 locations and 256 edges at most.
+// All the lines. The rows are held apart until the last line is judged, so that a refusal has written nothing.
 fn read_lines(text: &[u8], words: &mut [i32]) -> semantics::Answer
     ensures { λ r. ⌜ r ≡ held-by (lines-judged (now (text .entry))) (now (words .entry)) .answer ⌝ }
     ensures { λ _. ⌜ now (words .exit) ≡ held-by (lines-judged (now (text .entry))) (now (words .entry)) .words ⌝ }
 {
-    let mut table = [0i32; 3160];
-    let mut names = [0i32; 128];
+    let mut table = [0i32; TABLE_WORDS];
+    let mut names = [0i32; NAMES_WORDS];
     let p = go_down(text, &mut table, &mut names);
     let s = p.step;
     match s {
-        Step::Refused(k) => refused(k, p.line),
+        Step::Refused(k) => semantics::refused(k, p.line),
         Step::Go(t) => finish(t, &table, words),
     }
 }
@@ -171,9 +167,9 @@ fn read_text(text: &[u8], words: &mut [i32]) -> semantics::Answer
     ensures { λ _. ⌜ now (words .exit) ≡ held-by (refused-at (bad-byte-line 1 (now (text .entry))) 2 (refused-at (open-line 0 10 (now (text .entry))) 3 (lines-judged (now (text .entry))))) (now (words .entry)) .words ⌝ }
 {
     match scan::bad_byte(text) {
-        scan::Fault::Line(n) => refused(2, n),
+        scan::Fault::Line(n) => semantics::refused(2, n),
         scan::Fault::Nowhere => match scan::open_line(text) {
-            scan::Fault::Line(n) => refused(3, n),
+            scan::Fault::Line(n) => semantics::refused(3, n),
             scan::Fault::Nowhere => read_lines(text, words),
         },
     }
@@ -184,8 +180,8 @@ pub fn read(text: &[u8], words: &mut [i32]) -> semantics::Answer
     ensures { λ r. ⌜ r ≡ read-outcome (now (text .entry)) (now (words .entry)) .answer ⌝ }
     ensures { λ _. ⌜ now (words .exit) ≡ read-outcome (now (text .entry)) (now (words .entry)) .words ⌝ }
 {
-    if 32768 < text.len() {
-        return refused(1, 0);
+    if MOST_BYTES < text.len() {
+        return semantics::refused(1, 0);
     }
     read_text(text, words)
 }

@@ -11,10 +11,14 @@ ghost use Rattle.text.specs.Fields.{flag-res};
 ghost use Rattle.reader.specs.Lines.{loc-fields, loc-named};
 ghost use Rattle.reader.specs.Held.{Few, Rows, Names, Stepped};
 use super::store;
+use super::tally::LOCATION_WORDS;
+use super::tally::MOST_LOCATIONS;
 use super::tally::Step;
 use super::tally::Tally;
+use super::tally::VARIABLE_WORDS;
 use super::tally::used_words;
 
+// All the fields: their count, then the name, then the kind, which is the answer.
 fn judged(line: &[u8]) -> text::Flag
     ensures { λ r. ⌜ flag-res r ≡ loc-fields (fields (now (line .entry))) ⌝ }
 {
@@ -32,7 +36,13 @@ fn named(t: Tally, table: &mut [i32], error: bool, name: &[u8]) -> Step
     requires { ⌜ Few t × (t .locs < 64) × (t .edges ≡ 0) × (length (now table) ≡ 3160) ⌝ }
     ensures { λ r. ⌜ ((s : So-far) (names : List ℤ) → Rows t (now (table .entry)) (s .chart) → Names (t .vars) names (s .names) → name-ok (now (name .entry)) ≡ true → Stepped r (loc-named s (now (name .entry)) error) (now (table .exit)) names) ⌝ }
 {
-    if store::name_seen(table, 3 * t.vars + 1, 17, t.locs, name) {
+    if store::name_seen(
+        table,
+        VARIABLE_WORDS * t.vars + 1,
+        LOCATION_WORDS,
+        t.locs,
+        name,
+    ) {
         return Step::Refused(9);
     }
     let at = used_words(t);
@@ -44,6 +54,7 @@ fn named(t: Tally, table: &mut [i32], error: bool, name: &[u8]) -> Step
     })
 }
 
+// An L line, which stands before every E.
 pub fn read_line(t: Tally, table: &mut [i32], line: &[u8]) -> Step
     requires { ⌜ Few t × (length (now table) ≡ 3160) ⌝ }
     ensures { λ r. ⌜ ((s : So-far) (names : List ℤ) → Rows t (now (table .entry)) (s .chart) → Names (t .vars) names (s .names) → Stepped r (loc-line s (fields (now (line .entry)))) (now (table .exit)) names) ⌝ }
@@ -51,7 +62,7 @@ pub fn read_line(t: Tally, table: &mut [i32], line: &[u8]) -> Step
     if t.edges != 0 {
         return Step::Refused(4);
     }
-    if 64 <= t.locs {
+    if MOST_LOCATIONS <= t.locs {
         return Step::Refused(8);
     }
     match judged(line) {

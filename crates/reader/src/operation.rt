@@ -1,23 +1,26 @@
-// The operation of an E line: what follows the two locations, as six words.
+// The operation of an E line: what follows the two locations, as six words. `table` is that of the chart's rows, which
+// begin with the variables' ranges.
 ghost use mathlib.Core.Path.{_≡_};
 ghost use mathlib.Core.Bool.{_&&_};
 ghost use Prim.Native.Nat.{_<_, _≤_};
 ghost use lib.IntN.{pos};
 ghost use lib.Signed.{leZ};
 ghost use Rattle.semantics.specs.Text.{fields};
-ghost use Rattle.semantics.specs.Chart.{within, skip};
+ghost use Rattle.semantics.specs.Chart.{skip};
 ghost use Rattle.semantics.specs.Encoding.{rel-code, op-words};
 ghost use Rattle.semantics.specs.Reading.{nth, ok, number-field, operand-field, rel-field};
 ghost use Rattle.reader.specs.Answers.{operand-field-res, op-res, the-word, the-rel};
 ghost use Rattle.reader.specs.Lines.{in-table, operand-read, one-read, second-read, two-read, input-high-read, input-read, assume-read, op-read};
 ghost use Rattle.reader.specs.Lines.{targeted as targeted-read, after-target as after-target-read};
+use super::tally::VARIABLE_WORDS;
 
-// An operand's tag and value.
+// A refusal's number, or an operand's tag (0 for a number, 1 for a variable) and value.
 enum OperandField {
     Refused(u32),
     Is(i32, i32),
 }
 
+// The six words of an operation; 0 where unused.
 pub struct OpRow {
     pub code: i32,
     pub target: i32,
@@ -27,6 +30,7 @@ pub struct OpRow {
     pub value2: i32,
 }
 
+// What the fields of an operation come to: a refusal's number, or the words.
 pub enum OpLine {
     Refused(u32),
     Is(OpRow),
@@ -40,6 +44,7 @@ pub fn index_word(k: usize) -> i32
     k as i32
 }
 
+// An operand's field as two words.
 fn operand_of(vars: usize, f: &[u8]) -> OperandField
     requires { ⌜ vars ≤ 8 ⌝ }
     ensures { λ r. ⌜ operand-field-res r ≡ operand-read (operand-field vars (now (f .entry))) ⌝ }
@@ -51,6 +56,7 @@ fn operand_of(vars: usize, f: &[u8]) -> OperandField
     }
 }
 
+// An operation by its code and target v, with one operand, in the field f.
 fn one_operand(code: i32, v: usize, vars: usize, f: &[u8]) -> OpLine
     requires { ⌜ (vars ≤ 8) × (v < 1000) ⌝ }
     ensures { λ r. ⌜ op-res r ≡ one-read code v (operand-field vars (now (f .entry))) ⌝ }
@@ -68,7 +74,7 @@ fn one_operand(code: i32, v: usize, vars: usize, f: &[u8]) -> OpLine
     }
 }
 
-// The second operand, after the words of the first.
+// The second operand, in the field f, after the words t and x of the first.
 fn second_operand(code: i32, v: usize, t: i32, x: i32, vars: usize, f: &[u8]) -> OpLine
     requires { ⌜ (vars ≤ 8) × (v < 1000) ⌝ }
     ensures { λ r. ⌜ op-res r ≡ second-read code v t x (operand-field vars (now (f .entry))) ⌝ }
@@ -86,6 +92,7 @@ fn second_operand(code: i32, v: usize, t: i32, x: i32, vars: usize, f: &[u8]) ->
     }
 }
 
+// An operation by its code and target v, with two operands, in the line's last fields.
 fn two_operands(code: i32, v: usize, vars: usize, line: &[u8]) -> OpLine
     requires { ⌜ (vars ≤ 8) × (v < 1000) ⌝ }
     ensures { λ r. ⌜ op-res r ≡ two-read code v (operand-field vars (nth (fields (now (line .entry))) 5)) (operand-field vars (nth (fields (now (line .entry))) 6)) ⌝ }
@@ -96,19 +103,13 @@ fn two_operands(code: i32, v: usize, vars: usize, line: &[u8]) -> OpLine
     }
 }
 
-fn between(lo: i32, hi: i32, z: i32) -> bool
-    ensures { λ r. ⌜ r ≡ within lo hi z ⌝ }
-{
-    (lo <= z) & (z <= hi)
-}
-
 // Whether the number lies in the range of variable v.
 fn in_range(table: &[i32], v: usize, z: i32) -> bool
     requires { ⌜ v < 1000 ⌝ }
     ensures { λ r. ⌜ r ≡ in-table (now (table .entry)) v z ⌝ }
 {
-    let at = 3 * v;
-    between(words::word_at(table, at), words::word_at(table, at + 1), z)
+    let at = VARIABLE_WORDS * v;
+    words::lies_within(words::word_at(table, at), words::word_at(table, at + 1), z)
 }
 
 // Whether p..q ends in the range of variable v.
@@ -173,6 +174,7 @@ fn code_of(r: text::Relation) -> i32
     }
 }
 
+// Relation and operand of `if`.
 fn assume(v: usize, vars: usize, line: &[u8]) -> OpLine
     requires { ⌜ (vars ≤ 8) × (v < 1000) ⌝ }
     ensures { λ r. ⌜ op-res r ≡ assume-read v (rel-field (nth (fields (now (line .entry))) 5)) (operand-field vars (nth (fields (now (line .entry))) 6)) ⌝ }
@@ -184,6 +186,7 @@ fn assume(v: usize, vars: usize, line: &[u8]) -> OpLine
     }
 }
 
+// `skip`: all its words are 0.
 fn unchanged() -> OpLine
     ensures { λ r. ⌜ op-res r ≡ ok (op-words skip) ⌝ }
 {

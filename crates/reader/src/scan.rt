@@ -12,10 +12,11 @@ pub enum Fault {
     Line(usize),
 }
 
+// Tab, LF, or one of 0x21..0x7E.
 fn byte_ok(b: u8) -> bool
     ensures { λ r. ⌜ r ≡ byte-ok b ⌝ }
 {
-    (b == 9) | (b == 10) | ((33 <= b) & (b <= 126))
+    (b == semantics::TAB) | (b == semantics::LF) | ((33 <= b) & (b <= 126))
 }
 
 // One line more after an LF.
@@ -23,7 +24,7 @@ fn line_after(n: usize, b: u8) -> usize
     requires { ⌜ n < 10000000000000000000 ⌝ }
     ensures { λ r. ⌜ r ≡ pick (eqb b 10) (suc n) n ⌝ }
 {
-    if b == 10 {
+    if b == semantics::LF {
         return n + 1;
     }
     n
@@ -51,14 +52,14 @@ pub fn open_line(text: &[u8]) -> Fault
     ensures { λ r. ⌜ fault-line r ≡ open-line 0 10 (now (text .entry)) ⌝ }
 {
     let mut n = 0;
-    let mut last = 10;
+    let mut last = semantics::LF;
     let mut i = 0;
     while i < text.len() {
         n = line_after(n, last);
         last = text[i];
         i += 1;
     }
-    if last == 10 {
+    if last == semantics::LF {
         return Fault::Nowhere;
     }
     Fault::Line(n)

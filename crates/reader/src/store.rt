@@ -6,6 +6,7 @@ ghost use lib.IntN.{pos};
 ghost use lib.ListN.{length, getD, drop};
 ghost use Rattle.semantics.specs.Encoding.{kind-word};
 ghost use Rattle.reader.specs.Rows.{name-row, names-it, seen, stored};
+use super::tally::NAME_WORDS;
 
 // The byte at a place as a word; 0 past the end.
 fn byte_at(name: &[u8], i: usize) -> i32
@@ -34,7 +35,7 @@ fn same_name(rows: &[i32], at: usize, name: &[u8]) -> bool
     ensures { λ r. ⌜ r ≡ names-it 16 (drop at (now (rows .entry))) (now (name .entry)) ⌝ }
 {
     let mut i = 0;
-    while i < 16 {
+    while i < NAME_WORDS {
         if words::word_at(rows, at + i) != byte_at(name, i) {
             return false;
         }
@@ -74,10 +75,11 @@ pub fn push_name(table: &mut [i32], at: usize, name: &[u8])
     requires { ⌜ at + 16 ≤ length (now table) ⌝ }
     ensures { λ _. ⌜ now (table .exit) ≡ stored at (name-row 16 (now (name .entry))) (now (table .entry)) ⌝ }
 {
-    let end = at + 16;
+    let end = at + NAME_WORDS;
     fill_name(&mut table[at..end], name);
 }
 
+// A location's kind: 1 where it is bad.
 fn kind_word(error: bool) -> i32
     ensures { λ r. ⌜ r ≡ kind-word error ⌝ }
 {

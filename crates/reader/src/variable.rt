@@ -3,27 +3,32 @@ ghost use mathlib.Core.Path.{_≡_};
 ghost use mathlib.Core.Bool.{true};
 ghost use Prim.Native.Nat.{_<_};
 ghost use lib.ListN.{length};
-ghost use lib.Signed.{leZ};
 ghost use Rattle.semantics.specs.Text.{fields, name-ok};
 ghost use Rattle.semantics.specs.Reading.{So-far, var-line};
 ghost use Rattle.reader.specs.Answers.{var-of, var-res};
 ghost use Rattle.reader.specs.Lines.{var-init, var-high, var-low, var-fields, var-named};
 ghost use Rattle.reader.specs.Held.{Few, Rows, Names, Stepped};
 use super::store;
+use super::tally::MOST_VARIABLES;
+use super::tally::NAME_WORDS;
 use super::tally::Step;
 use super::tally::Tally;
+use super::tally::VARIABLE_WORDS;
 
+// The three words of a variable's row.
 struct VarRow {
     lo: i32,
     hi: i32,
     init: i32,
 }
 
+// What the fields of a V line come to: a refusal's number, or the row.
 enum VarLine {
     Refused(u32),
     Is(VarRow),
 }
 
+// The last field, after lo and hi.
 fn init(lo: i32, hi: i32, f: &[u8]) -> VarLine
     ensures { λ r. ⌜ var-res r ≡ var-init lo hi (now (f .entry)) ⌝ }
 {
@@ -37,19 +42,14 @@ fn init(lo: i32, hi: i32, f: &[u8]) -> VarLine
     }
 }
 
-fn at_most(a: i32, b: i32) -> bool
-    ensures { λ r. ⌜ r ≡ leZ a b ⌝ }
-{
-    a <= b
-}
-
+// The fields from `hi` on, which is not below lo.
 fn high(lo: i32, line: &[u8]) -> VarLine
     ensures { λ r. ⌜ var-res r ≡ var-high lo (fields (now (line .entry))) ⌝ }
 {
     match text::number_field(text::field(line, 3)) {
         text::Word::Refused(k) => VarLine::Refused(k),
         text::Word::Is(hi) => {
-            if at_most(lo, hi) {
+            if lo <= hi {
                 return init(lo, hi, text::field(line, 4));
             }
             VarLine::Refused(7)
@@ -57,6 +57,7 @@ fn high(lo: i32, line: &[u8]) -> VarLine
     }
 }
 
+// The fields from `lo` on.
 fn low(line: &[u8]) -> VarLine
     ensures { λ r. ⌜ var-res r ≡ var-low (fields (now (line .entry))) ⌝ }
 {
@@ -66,6 +67,7 @@ fn low(line: &[u8]) -> VarLine
     }
 }
 
+// All the fields: their count, then the name, then the numbers.
 fn judged(line: &[u8]) -> VarLine
     ensures { λ r. ⌜ var-res r ≡ var-fields (fields (now (line .entry))) ⌝ }
 {
@@ -83,12 +85,12 @@ fn named(t: Tally, table: &mut [i32], names: &mut [i32], v: VarRow, name: &[u8])
     requires { ⌜ (t .vars < 8) × (t .locs ≡ 0) × (t .edges ≡ 0) × (length (now table) ≡ 3160) × (length (now names) ≡ 128) ⌝ }
     ensures { λ r. ⌜ ((s : So-far) → Rows t (now (table .entry)) (s .chart) → Names (t .vars) (now (names .entry)) (s .names) → name-ok (now (name .entry)) ≡ true → Stepped r (var-named s (now (name .entry)) (var-of v)) (now (table .exit)) (now (names .exit))) ⌝ }
 {
-    if store::name_seen(names, 0, 16, t.vars, name) {
+    if store::name_seen(names, 0, NAME_WORDS, t.vars, name) {
         return Step::Refused(9);
     }
     let row = [v.lo, v.hi, v.init];
-    store::push_row(table, 3 * t.vars, &row);
-    store::push_name(names, 16 * t.vars, name);
+    store::push_row(table, VARIABLE_WORDS * t.vars, &row);
+    store::push_name(names, NAME_WORDS * t.vars, name);
     Step::Go(Tally {
         vars: t.vars + 1,
         locs: 0,
@@ -96,6 +98,7 @@ fn named(t: Tally, table: &mut [i32], names: &mut [i32], v: VarRow, name: &[u8])
     })
 }
 
+// A V line, which stands before every L and E.
 pub fn read_line(t: Tally, table: &mut [i32], names: &mut [i32], line: &[u8]) -> Step
     requires { ⌜ Few t × (length (now table) ≡ 3160) × (length (now names) ≡ 128) ⌝ }
     ensures { λ r. ⌜ ((s : So-far) → Rows t (now (table .entry)) (s .chart) → Names (t .vars) (now (names .entry)) (s .names) → Stepped r (var-line s (fields (now (line .entry)))) (now (table .exit)) (now (names .exit))) ⌝ }
@@ -106,7 +109,7 @@ pub fn read_line(t: Tally, table: &mut [i32], names: &mut [i32], line: &[u8]) ->
     if t.edges != 0 {
         return Step::Refused(4);
     }
-    if 8 <= t.vars {
+    if MOST_VARIABLES <= t.vars {
         return Step::Refused(8);
     }
     match judged(line) {

@@ -6,9 +6,26 @@ use denote.Ref.{now}
 use borrow.Author.Needs.{needs}
 use Rattle.lines.proofs.Places.{Lies, some-line, no-line}
 use Rattle.reader.specs.Held.{Along}
+use Rattle.reader.specs.declared.tally.Tally.{Tally}
+use Rattle.reader.specs.declared.tally.Step.the-variants as step
 use Rattle.reader.proofs.Going.{all-judged, line-judged}
 use Rattle.reader.proofs.advance.Statement.{statement}
 use Rattle.reader.proofs.advance.Tie as tie
+
+-- at a line of the text, after lines that went on
+module _ (c : tie.After-l) where
+  abbrev start : tie.Start
+  start = c .before .before .before .before .before .before
+
+  abbrev tally : Tally
+  tally = c .before .before .before .s .given .0 .0
+
+  went-on : start .args .p .step ≡ step.Go tally
+  went-on = c .before .before .before .s .given .1
+
+  -- where the line lies
+  lies : Lies (now (start .args .text)) (start .pre .0 .at) (c .l .given .0 .0) (c .l .given .0 .1 .0) (c .l .given .0 .1 .1 .0)
+  lies = some-line _ _ (sym (start .pre .0 .is) ∙ c .l .given .1)
 
 returns : tie.Need-returns
 returns c = λ at e g h. absurd (rw (g, c .enum-told .given .1) at h)
@@ -16,30 +33,20 @@ returns c = λ at e g h. absurd (rw (g, c .enum-told .given .1) at h)
 returns-2 : tie.Need-returns-2
 returns-2 c = λ at e g h. (all-judged (rw (g, c .before .before .before .s .given .1) at h) (no-line _ _ (sym e ∙ c .enum-told2 .given .1)), λ z. let y : _≡_ {A = ℕ} 0 1 = cc in omega arith)
 
--- where the line lies
-lies : (c : tie.After-l) → Lies (now (c .before .before .before .before .before .before .args .text)) (c .before .before .before .before .before .before .pre .0 .at) (c .l .given .0 .0) (c .l .given .0 .1 .0) (c .l .given .0 .1 .1 .0)
-lies c = some-line _ _ (sym (c .before .before .before .before .before .before .pre .0 .is) ∙ c .l .given .1)
-
-sub-step : tie.Need-sub-step
-sub-step c = let l = lies (c .before .before .before) in omega (arith, l .begins, l .ends)
-
-part-step-start : tie.Need-part-step-start
-part-step-start c = let l = lies (c .before .before .before) in omega (arith, l .begins, l .ends)
-
-part-step-end : tie.Need-part-step-end
-part-step-end c = lies (c .before .before .before) .within
-
 step-requires : tie.Need-step-requires
-step-requires c κs = let r = c .before .before .before .before .before .before .before .before .before .before .pre in (rw (c .before .before .before .before .before .before .before .s .given .1) at (r .0 .few), r .1, r .2)
-
-add-t16 : tie.Need-add-t16
-add-t16 c = omega (arith, lies (c .before .before .before .before .before .before .before .before .before) .here, c .before .before .before .before .before .before .before .before .before .before .before .before .before .before .before .pre .0 .counted)
+step-requires c κs = let k = c .before .before .before .before in
+    let r = start k .pre in
+    (rw (went-on k) at (r .0 .few), r .1, r .2)
 
 returns-3 : tie.Need-returns-3
 returns-3 c = λ at e g h.
-    let l = some-line _ _ (sym e ∙ c .before .before .before .before .before .before .before .before .before .l .given .1) in
-    let a : Along (now (c .before .before .before .before .before .before .before .before .before .before .before .before .before .before .before .args .text)) at (c .before .before .before .before .before .before .before .before .before .before .before .before .before .before .before .args .p .line) (c .before .before .before .before .before .before .before .before .before .before .before .before .s .given .0 .0) (now (c .before .before .before .before .before .before .before .before .before .before .before .before .before .before .before .args .table)) (now (c .before .before .before .before .before .before .before .before .before .before .before .before .before .before .before .args .names)) = rw (g, c .before .before .before .before .before .before .before .before .before .before .before .before .s .given .1) at h in
-    (rw (c .before .goes .ensures, c .before .before .before .before .before .before .before .before .before .l .given .1) (line-judged a l (c .before .before .before .before .step .result) (c .before .before .before .before .step .last .1 .0) (c .before .before .before .before .step .last .1 .1 .0) (c .before .before .before .before .step .ensures (a .read) (a .held) (a .names-held))), λ _. l .here)
+    let k = c .before .before .before .before .before .before .before .before .before in
+    let a = start k .args in
+    let d = c .before .before .before .before .step in
+    let l = some-line _ _ (sym e ∙ k .l .given .1) in
+    let b : Along (now (a .text)) at (a .p .line) (tally k) (now (a .table)) (now (a .names)) = rw (g, went-on k) at h in
+    let j = line-judged b l (d .result) (d .last .1 .0) (d .last .1 .1 .0) (d .ensures (b .read) (b .held) (b .names-held)) in
+    (rw (c .before .goes .ensures, k .l .given .1) j, λ _. l .here)
 
 pub advance-spec : {M : Type 1} → statement M
 advance-spec =
@@ -51,12 +58,12 @@ advance-spec =
     (λ c. search needs)
     (λ c. search needs)
     returns-2
-    sub-step
-    part-step-start
-    part-step-end
+    (λ c. omega (arith, lies (c .before .before .before) .begins, lies (c .before .before .before) .ends))
+    (λ c. omega (arith, lies (c .before .before .before) .begins, lies (c .before .before .before) .ends))
+    (λ c. lies (c .before .before .before) .within)
     step-requires
     (λ c κs. search needs)
-    add-t16
+    (λ c. omega (arith, lies (c .before .before .before .before .before .before .before .before .before) .here, start (c .before .before .before .before .before .before .before .before .before) .pre .0 .counted))
     (λ c. search needs)
     (λ c. search needs)
     returns-3)

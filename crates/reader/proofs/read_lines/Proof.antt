@@ -1,9 +1,8 @@
 -- `reader::read_lines` meets its contract. Assumes nothing.
-use mathlib.Core.Path.{_≡_, sym, ap, _∙_}
+use mathlib.Core.Path.{_≡_}
 use denote.Ref.{now}
 use borrow.Author.Needs.{needs}
-use Rattle.semantics.specs.Outcomes.{held-by}
-use Rattle.semantics.specs.Reading.{Reading, refused}
+use Rattle.semantics.specs.Reading.{refused}
 use Rattle.reader.specs.Held.{Through, lines-judged}
 use Rattle.reader.proofs.read_lines.Statement.{statement}
 use Rattle.reader.proofs.read_lines.Tie as tie
@@ -15,14 +14,15 @@ finish-requires : tie.Need-finish-requires
 finish-requires c κs = (through (c .before .before .before) .few, c .before .before .before .before .before .before .before .go-down .kept .1 .0)
 
 returns : tie.Need-returns
-returns c = let w = now (c .before .before .before .before .before .before .before .before .before .before .args .words) in
-    let q : lines-judged (now (c .before .before .before .before .before .before .before .before .before .before .args .text)) ≡ refused (c .before .before .s .given .0 .0) (c .before .before .before .before .before .before .go-down .result .line) = rw (c .before .before .s .given .1) at (c .before .before .before .before .before .before .go-down .ensures) in
-    (c .refused .ensures ∙ ap (λ (o : Reading). held-by o w .answer) (sym q), ap (λ (o : Reading). held-by o w .words) (sym q))
+returns c = let k = c .before .before in
+    let d = k .before .before .before .before .go-down in
+    let q : lines-judged (now (k .before .before .before .before .before .before .before .before .args .text)) ≡ refused (k .s .given .0 .0) (d .result .line) = rw (k .s .given .1) at (d .ensures) in
+    (rw q (c .refused .ensures), rw q)
 
 returns-2 : tie.Need-returns-2
 returns-2 c = let h = through (c .before .before .before .before .before) in
-    let w = now (c .before .before .before .before .before .before .before .before .before .before .before .before .before .args .words) in
-    (c .before .finish .ensures .0 (h .chart) (h .held) ∙ ap (λ (o : Reading). held-by o w .answer) (sym (h .is)), c .before .finish .ensures .1 (h .chart) (h .held) ∙ ap (λ (o : Reading). held-by o w .words) (sym (h .is)))
+    let f = c .before .finish .ensures in
+    (rw (h .is) (f .0 (h .chart) (h .held)), rw (h .is) (f .1 (h .chart) (h .held)))
 
 pub read-lines-spec : {M : Type 1} → statement M
 read-lines-spec =

@@ -7,6 +7,7 @@ use Rattle.semantics.specs.Reading.{op-word-field}
 use Rattle.text.specs.Fields.{op-word-res}
 use Rattle.reader.proofs.Wording.{word-said}
 use Rattle.reader.proofs.Reading.{edge-full, edge-short, edge-no-word, edge-word}
+use Rattle.reader.proofs.Judging.{said}
 use Rattle.reader.proofs.edge.read_line.Statement.{statement}
 use Rattle.reader.proofs.edge.read_line.Tie as tie
 
@@ -18,12 +19,18 @@ returns-2 c = λ s names h g. edge-short s _ (omega (arith, h .edges)) (sym (c .
 
 returns-3 : tie.Need-returns-3
 unfolding op-word-res
-returns-3 c = λ s names h g. edge-no-word s _ (omega (arith, h .edges)) (sym (c .before .before .before .before .before .before .enough .ensures) ∙ not-false _ (c .before .before .before .before .before .if2 .left)) (ap op-word-field (sym (c .before .before .before .before .field .ensures)) ∙ sym (c .before .before .before .op-word-field .ensures) ∙ ap op-word-res (c .before .w .given .1))
+returns-3 c = λ s names h g.
+    let k = c .before .before .before .before .before in
+    let n = sym (k .before .enough .ensures) ∙ not-false _ (k .if2 .left) in
+    edge-no-word s _ (omega (arith, h .edges)) n (said op-word-field (c .before .before .before .before .field .ensures) (c .before .before .before .op-word-field .ensures) (ap op-word-res (c .before .w .given .1)))
 
 returns-4 : tie.Need-returns-4
 returns-4 c = λ s names h g.
-    let e = ap op-word-field (sym (c .before .before .before .before .before .field .ensures)) ∙ sym (c .before .before .before .before .op-word-field .ensures) ∙ word-said (c .before .before .before .before .op-word-field .result) (c .before .before .before .match .keys2) in
-    rw (edge-word s _ (omega (arith, h .edges)) (sym (c .before .before .before .before .before .before .before .enough .ensures) ∙ not-false _ (c .before .before .before .before .before .before .if2 .left)) e) (c .before .worded .ensures s names h g)
+    let k = c .before .before .before .before .before .before in
+    let n = sym (k .before .enough .ensures) ∙ not-false _ (k .if2 .left) in
+    let w = c .before .before .before .before .op-word-field in
+    let e = said op-word-field (c .before .before .before .before .before .field .ensures) (w .ensures) (word-said (w .result) (c .before .before .before .match .keys2)) in
+    rw (edge-word s _ (omega (arith, h .edges)) n e) (c .before .worded .ensures s names h g)
 
 pub read-line-spec : {M : Type 1} → statement M
 read-line-spec =

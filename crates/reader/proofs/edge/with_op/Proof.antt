@@ -1,22 +1,16 @@
 -- `reader::edge::with_op` meets its contract. Assumes nothing.
-use mathlib.Core.Path.{_≡_, sym, ap}
-use mir.Syntax.{w32}
-use mir.Val.{toZ, ofZ}
+use mathlib.Core.Path.{sym, ap}
 use borrow.Author.Needs.{needs}
-use Rattle.reader.specs.Answers.{op-res, edge-res}
+use Rattle.reader.specs.Answers.{op-res}
 use Rattle.reader.proofs.Judging.{then-fail, then-ok}
 use Rattle.reader.proofs.edge.with_op.Statement.{statement}
 use Rattle.reader.proofs.edge.with_op.Tie as tie
 
 returns : tie.Need-returns
-unfolding op-res edge-res
 returns c = sym (then-fail _ (ap op-res (c .before .op .given .1)))
 
 returns-2 : tie.Need-returns-2
-unfolding op-res edge-res
-returns-2 c = let p : toZ w32 (ofZ w32 (c .before .index-word .result)) ≡ c .before .index-word .result = search needs in
-    let q : toZ w32 (ofZ w32 (c .index-word2 .result)) ≡ c .index-word2 .result = search needs in
-    rw (p, q, c .before .index-word .ensures, c .index-word2 .ensures) (sym (then-ok _ (ap op-res (c .before .before .before .op2 .given .1))))
+returns-2 c = rw (then-ok _ (ap op-res (c .before .before .before .op2 .given .1)), sym (c .before .index-word .ensures), sym (c .index-word2 .ensures)) (search needs)
 
 pub with-op-spec : {M : Type 1} → statement M
 with-op-spec =

@@ -5,22 +5,24 @@ use borrow.Author.Needs.{needs}
 use Rattle.semantics.specs.Reading.{kind-field}
 use Rattle.semantics.specs.Text.{name-ok}
 use Rattle.text.specs.Fields.{flag-res}
-use Rattle.reader.specs.Lines.{loc-fields}
-use Rattle.reader.proofs.Judging.{check-no, check-yes}
+use Rattle.reader.proofs.Judging.{check-no, check-yes, said}
 use Rattle.reader.proofs.location.judged.Statement.{statement}
 use Rattle.reader.proofs.location.judged.Tie as tie
 
 returns : tie.Need-returns
-unfolding flag-res loc-fields
+unfolding flag-res
 returns c = sym (check-no _ _ (sym (c .before .filled .ensures) ∙ not-true _ (c .if1 .taken)))
 
 returns-2 : tie.Need-returns-2
-unfolding flag-res loc-fields
-returns-2 c = sym (check-yes _ _ (sym (c .before .before .before .before .filled .ensures) ∙ not-false _ (c .before .before .before .if1 .left)) ∙ check-no _ _ (ap name-ok (sym (c .before .before .field .ensures)) ∙ sym (c .before .name-ok .ensures) ∙ not-true _ (c .if2 .taken)))
+unfolding flag-res
+returns-2 c = let f = sym (c .before .before .before .before .filled .ensures) ∙ not-false _ (c .before .before .before .if1 .left) in
+    let n = said name-ok (c .before .before .field .ensures) (c .before .name-ok .ensures) (not-true _ (c .if2 .taken)) in
+    sym (check-yes _ _ f ∙ check-no _ _ n)
 
 returns-3 : tie.Need-returns-3
-unfolding loc-fields
-returns-3 c = c .kind-field .ensures ∙ ap kind-field (c .before .field2 .ensures) ∙ sym (check-yes _ _ (sym (c .before .before .before .before .before .before .filled .ensures) ∙ not-false _ (c .before .before .before .before .before .if1 .left)) ∙ check-yes _ _ (ap name-ok (sym (c .before .before .before .before .field .ensures)) ∙ sym (c .before .before .before .name-ok .ensures) ∙ not-false _ (c .before .before .if2 .left)))
+returns-3 c = let f = sym (c .before .before .before .before .before .before .filled .ensures) ∙ not-false _ (c .before .before .before .before .before .if1 .left) in
+    let n = said name-ok (c .before .before .before .before .field .ensures) (c .before .before .before .name-ok .ensures) (not-false _ (c .before .before .if2 .left)) in
+    c .kind-field .ensures ∙ ap kind-field (c .before .field2 .ensures) ∙ sym (check-yes _ _ f ∙ check-yes _ _ n)
 
 pub judged-spec : {M : Type 1} → statement M
 judged-spec =

@@ -1,17 +1,11 @@
 -- `reader::operation::in_range` meets its contract. Assumes nothing.
-use mathlib.Core.Path.{_≡_, _∙_}
-use mir.Syntax.{w32}
-use mir.Val.{toZ, ofZ}
+use mathlib.Core.Path.{sym, _∙_}
 use borrow.Author.Needs.{needs}
 use Rattle.reader.proofs.operation.in_range.Statement.{statement}
 use Rattle.reader.proofs.operation.in_range.Tie as tie
 
 returns : tie.Need-returns
-returns c = let b = c .before .before in
-    let p : toZ w32 (ofZ w32 (b .word-at .result)) ≡ b .word-at .result = search needs in
-    let q : toZ w32 (ofZ w32 (c .before .word-at2 .result)) ≡ c .before .word-at2 .result = search needs in
-    let r : toZ w32 (ofZ w32 (c .before .before .before .args .z)) ≡ c .before .before .before .args .z = search needs in
-    c .between .ensures ∙ rw (p, q, r, b .word-at .ensures, c .before .word-at2 .ensures)
+returns c = rw (sym (c .before .before .word-at .ensures), sym (c .before .word-at2 .ensures)) (c .lies-within .ensures ∙ (search needs))
 
 pub in-range-spec : {M : Type 1} → statement M
 in-range-spec =

@@ -1,32 +1,28 @@
 -- `reader::operation::input` meets its contract. Assumes nothing.
-use mathlib.Core.Path.{_≡_, sym, ap, _∙_}
-use mir.Syntax.{w32}
-use mir.Val.{toZ, ofZ}
+use mathlib.Core.Path.{sym, ap, _∙_}
 use borrow.Author.Needs.{needs}
 use Rattle.semantics.specs.Reading.{number-field}
 use Rattle.text.specs.Fields.{word-res}
-use Rattle.reader.specs.Answers.{op-res}
-use Rattle.reader.proofs.Judging.{then-fail, then-ok, check-no, check-yes}
+use Rattle.reader.proofs.Judging.{then-fail, then-ok, check-no, check-yes, said}
 use Rattle.reader.proofs.operation.input.Statement.{statement}
 use Rattle.reader.proofs.operation.input.Tie as tie
 
 returns : tie.Need-returns
 unfolding word-res
-returns c = let z = c .before .before .before .before .before .p .given .0 .0 in
-    let q : toZ w32 (ofZ w32 z) ≡ z = search needs in
-    let e = ap number-field (sym (c .before .before .before .before .before .before .before .before .field .ensures)) ∙ sym (c .before .before .before .before .before .before .before .number-field .ensures) ∙ ap word-res (c .before .before .before .before .before .p .given .1) in
-    c .input-high .ensures ∙ rw (q, c .before .field2 .ensures) (sym (then-ok _ e ∙ check-yes _ _ (sym (rw q at (c .before .before .before .in-range .ensures)) ∙ c .before .before .if1 .taken)))
+returns c = let k = c .before .before .before .before .before in
+    let e = said number-field (k .before .before .before .field .ensures) (k .before .before .number-field .ensures) (ap word-res (k .p .given .1)) in
+    rw (sym (c .before .field2 .ensures))
+    (c .input-high .ensures ∙ (search needs) ∙ sym (then-ok _ e ∙ check-yes _ _ ((search needs) ∙ sym (c .before .before .before .in-range .ensures) ∙ c .before .before .if1 .taken)))
 
 returns-2 : tie.Need-returns-2
-unfolding op-res word-res
-returns-2 c = sym (then-fail _ (ap number-field (sym (c .before .before .before .before .field .ensures)) ∙ sym (c .before .before .before .number-field .ensures) ∙ ap word-res (c .before .k .given .1)))
+unfolding word-res
+returns-2 c = sym (then-fail _ (said number-field (c .before .before .before .before .field .ensures) (c .before .before .before .number-field .ensures) (ap word-res (c .before .k .given .1))))
 
 returns-3 : tie.Need-returns-3
-unfolding op-res word-res
-returns-3 c = let z = c .before .before .before .p .given .0 .0 in
-    let q : toZ w32 (ofZ w32 z) ≡ z = search needs in
-    let e = ap number-field (sym (c .before .before .before .before .before .before .field .ensures)) ∙ sym (c .before .before .before .before .before .number-field .ensures) ∙ ap word-res (c .before .before .before .p .given .1) in
-    sym (then-ok _ e ∙ check-no _ _ (sym (rw q at (c .before .in-range .ensures)) ∙ c .if1 .left))
+unfolding word-res
+returns-3 c = let k = c .before .before .before in
+    let e = said number-field (k .before .before .before .field .ensures) (k .before .before .number-field .ensures) (ap word-res (k .p .given .1)) in
+    sym (then-ok _ e ∙ check-no _ _ ((search needs) ∙ sym (c .before .in-range .ensures) ∙ c .if1 .left))
 
 pub input-spec : {M : Type 1} → statement M
 input-spec =

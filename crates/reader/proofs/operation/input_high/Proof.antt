@@ -1,34 +1,26 @@
 -- `reader::operation::input_high` meets its contract. Assumes nothing.
-use mathlib.Core.Path.{_≡_, sym, ap, _∙_}
-use mir.Syntax.{w32}
-use mir.Val.{toZ, ofZ}
+use mathlib.Core.Path.{sym, ap, _∙_}
 use borrow.Author.Needs.{needs}
 use Rattle.text.specs.Fields.{word-res}
-use Rattle.reader.specs.Answers.{op-res}
 use Rattle.reader.proofs.Judging.{then-fail, then-ok, check-no, check-yes}
 use Rattle.reader.proofs.operation.input_high.Statement.{statement}
 use Rattle.reader.proofs.operation.input_high.Tie as tie
 
 returns : tie.Need-returns
-unfolding op-res word-res
-returns c = let a = c .before .before .before .before .before .before .before .before .args in
-    let z = c .before .before .before .before .q .given .0 .0 in
-    let p : toZ w32 (ofZ w32 (a .p)) ≡ a .p = search needs in
-    let q : toZ w32 (ofZ w32 z) ≡ z = search needs in
-    let r : toZ w32 (ofZ w32 (c .index-word .result)) ≡ c .index-word .result = search needs in
-    rw (p, q, r, c .index-word .ensures) (sym (then-ok _ (sym (c .before .before .before .before .before .before .number-field .ensures) ∙ ap word-res (c .before .before .before .before .q .given .1)) ∙ check-yes _ _ (sym (rw (p, q) at (c .before .before .up-to .ensures)) ∙ c .before .if1 .taken)))
+unfolding word-res
+returns c = let k = c .before .before .before .before in
+    let e = sym (k .before .before .number-field .ensures) ∙ ap word-res (k .q .given .1) in
+    rw (sym (c .index-word .ensures)) ((search needs) ∙ sym (then-ok _ e ∙ check-yes _ _ ((search needs) ∙ sym (c .before .before .up-to .ensures) ∙ c .before .if1 .taken)))
 
 returns-2 : tie.Need-returns-2
-unfolding op-res word-res
+unfolding word-res
 returns-2 c = sym (then-fail _ (sym (c .before .before .before .number-field .ensures) ∙ ap word-res (c .before .k .given .1)))
 
 returns-3 : tie.Need-returns-3
-unfolding op-res word-res
-returns-3 c = let a = c .before .before .before .before .before .before .before .args in
-    let z = c .before .before .before .q .given .0 .0 in
-    let p : toZ w32 (ofZ w32 (a .p)) ≡ a .p = search needs in
-    let q : toZ w32 (ofZ w32 z) ≡ z = search needs in
-    sym (then-ok _ (sym (c .before .before .before .before .before .number-field .ensures) ∙ ap word-res (c .before .before .before .q .given .1)) ∙ check-no _ _ (sym (rw (p, q) at (c .before .up-to .ensures)) ∙ c .if1 .left))
+unfolding word-res
+returns-3 c = let k = c .before .before .before in
+    let e = sym (k .before .before .number-field .ensures) ∙ ap word-res (k .q .given .1) in
+    sym (then-ok _ e ∙ check-no _ _ ((search needs) ∙ sym (c .before .up-to .ensures) ∙ c .if1 .left))
 
 pub input-high-spec : {M : Type 1} → statement M
 input-high-spec =

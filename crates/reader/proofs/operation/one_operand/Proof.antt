@@ -1,25 +1,17 @@
 -- `reader::operation::one_operand` meets its contract. Assumes nothing.
-use mathlib.Core.Path.{_≡_, sym, ap, _∙_}
-use mir.Syntax.{w32}
-use mir.Val.{toZ, ofZ}
+use mathlib.Core.Path.{sym, ap, _∙_}
 use borrow.Author.Needs.{needs}
-use Rattle.reader.specs.Answers.{operand-field-res, op-res}
+use Rattle.reader.specs.Answers.{operand-field-res}
 use Rattle.reader.proofs.Reading.{one-fail, one-ok}
 use Rattle.reader.proofs.operation.one_operand.Statement.{statement}
 use Rattle.reader.proofs.operation.one_operand.Tie as tie
 
 returns : tie.Need-returns
-unfolding op-res operand-field-res
 returns c = sym (one-fail _ _ _ (sym (c .before .before .before .operand-of .ensures) ∙ ap operand-field-res (c .before .k .given .1)))
 
 returns-2 : tie.Need-returns-2
-unfolding op-res operand-field-res
-returns-2 c = let a = c .before .before .before .before .before .before .args in
-    let p : toZ w32 (ofZ w32 (a .code)) ≡ a .code = search needs in
-    let q : toZ w32 (ofZ w32 (c .index-word .result)) ≡ c .index-word .result = search needs in
-    let r : toZ w32 (ofZ w32 (c .before .before .t .given .0 .0)) ≡ c .before .before .t .given .0 .0 = search needs in
-    let s : toZ w32 (ofZ w32 (c .before .before .t .given .0 .1 .0)) ≡ c .before .before .t .given .0 .1 .0 = search needs in
-    rw (p, q, r, s, c .index-word .ensures) (sym (one-ok _ _ _ (sym (c .before .before .before .before .operand-of .ensures) ∙ ap operand-field-res (c .before .before .t .given .1))))
+returns-2 c = let e = sym (c .before .before .before .before .operand-of .ensures) ∙ ap operand-field-res (c .before .before .t .given .1) in
+    rw (one-ok _ _ _ e, sym (c .index-word .ensures)) (search needs)
 
 pub one-operand-spec : {M : Type 1} → statement M
 one-operand-spec =

@@ -1,14 +1,10 @@
 -- `reader::operation::operand_of` meets its contract. Assumes nothing.
-use mathlib.Core.Path.{_≡_, sym, ap, _∙_}
+use mathlib.Core.Path.{sym, ap, _∙_}
 use Prim.Native.Nat.{_<_}
 use native.Mathlib.Omega.{arith}
 use denote.Ref.{now}
-use mir.Syntax.{w32}
-use mir.Val.{toZ, ofZ}
 use borrow.Author.Needs.{needs}
 use Rattle.text.specs.Fields.{operand-res}
-use Rattle.reader.specs.Lines.{operand-read}
-use Rattle.reader.specs.Answers.{operand-field-res}
 use Rattle.reader.proofs.Judging.{then-fail, then-ok, operand-below}
 use Rattle.reader.proofs.operation.operand_of.Statement.{statement}
 use Rattle.reader.proofs.operation.operand_of.Tie as tie
@@ -21,19 +17,18 @@ index-word-requires c κs = let a = c .before .before .before .before .before .a
     g
 
 returns : tie.Need-returns
-unfolding operand-field-res operand-read operand-res
+unfolding operand-res
 returns c = sym (then-fail _ (sym (c .before .before .before .operand-field .ensures) ∙ ap operand-res (c .before .k .given .1)))
 
 returns-2 : tie.Need-returns-2
-unfolding operand-field-res operand-read operand-res
-returns-2 c = let z = c .before .z .given .0 .0 in
-    let p : toZ w32 (ofZ w32 z) ≡ z = search needs in
-    rw p (sym (then-ok _ (sym (c .before .before .before .operand-field .ensures) ∙ ap operand-res (c .before .z .given .1))))
+unfolding operand-res
+returns-2 c = let e = sym (c .before .before .before .operand-field .ensures) ∙ ap operand-res (c .before .z .given .1) in
+    rw (then-ok _ e) (search needs)
 
 returns-3 : tie.Need-returns-3
-unfolding operand-field-res operand-read operand-res
-returns-3 c = let p : toZ w32 (ofZ w32 (c .index-word .result)) ≡ c .index-word .result = search needs in
-    rw (p, c .index-word .ensures) (sym (then-ok _ (sym (c .before .before .before .before .operand-field .ensures) ∙ ap operand-res (c .before .before .v .given .1))))
+unfolding operand-res
+returns-3 c = let e = sym (c .before .before .before .before .operand-field .ensures) ∙ ap operand-res (c .before .before .v .given .1) in
+    rw (then-ok _ e, sym (c .index-word .ensures)) (search needs)
 
 pub operand-of-spec : {M : Type 1} → statement M
 operand-of-spec =

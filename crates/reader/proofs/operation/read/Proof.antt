@@ -3,19 +3,9 @@ use mathlib.Core.Path.{sym, _∙_}
 use denote.Ref.{now}
 use borrow.Author.Needs.{needs}
 use Rattle.semantics.specs.Text.{fields}
-use Rattle.reader.specs.Lines.{op-read}
-use Rattle.reader.specs.Answers.{the-word}
 use Rattle.reader.proofs.Wording.{target-said}
 use Rattle.reader.proofs.operation.read.Statement.{statement}
 use Rattle.reader.proofs.operation.read.Tie as tie
-
-returns : tie.Need-returns
-unfolding the-word op-read
-returns c = rw (c .before .enum-told .given .1) (c .unchanged .ensures)
-
-returns-2 : tie.Need-returns-2
-unfolding the-word op-read
-returns-2 c = rw (c .before .enum-told2 .given .1) (c .unchanged2 .ensures)
 
 returns-3 : tie.Need-returns-3
 returns-3 c = let a = c .before .before .before .args in
@@ -30,6 +20,6 @@ read-spec =
     (λ c. search needs)
     (λ c κs. search needs)
     (λ c κs. search needs)
-    returns
-    returns-2
+    (λ c. search needs)
+    (λ c. search needs)
     returns-3)

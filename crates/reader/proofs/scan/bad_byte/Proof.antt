@@ -9,7 +9,6 @@ use borrow.Author.Tests.{not-true, not-false}
 use borrow.Author.Needs.{needs}
 use Rattle.semantics.specs.Reading.{bad-byte-line}
 use Rattle.semantics.specs.Lists.{pick}
-use Rattle.reader.specs.Answers.{fault-line}
 use Rattle.reader.proofs.Scans.{bad-step, bad-stop, bad-end, line-near}
 use Rattle.reader.proofs.scan.bad_byte.Statement.{statement}
 use Rattle.reader.proofs.scan.bad_byte.Tie as tie
@@ -24,7 +23,6 @@ loop-holds : tie.Need-loop-holds Inv-loop μ-loop
 loop-holds c = (omega arith, omega arith, refl)
 
 returns : tie.Need-returns Inv-loop μ-loop
-unfolding fault-line
 returns c = let k = c .before .before .before in
     sym (k .before .loop .inv .2 ∙ bad-stop _ _ _ (k .loop-test .taken) (sym (c .before .byte-ok .ensures) ∙ not-true _ (c .if1 .taken)))
 
@@ -36,7 +34,6 @@ loop-again c = let k = c .before .before .before .before in
     (omega arith, omega (arith, line-near (eqb b 10) n), k .before .loop .inv .2 ∙ bad-step _ _ _ (k .loop-test .taken) (sym (c .before .before .byte-ok .ensures) ∙ not-false _ (c .before .if1 .left)) ∙ rw e)
 
 returns-2 : tie.Need-returns-2 Inv-loop μ-loop
-unfolding fault-line
 returns-2 c = sym (c .before .loop .inv .2 ∙ bad-end _ _ _ (c .loop-test .left))
 
 pub bad-byte-spec : {M : Type 1} → statement M

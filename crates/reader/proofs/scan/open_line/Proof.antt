@@ -8,7 +8,6 @@ use borrow.Author.Tests.{eq-eqb, ne-eqb}
 use borrow.Author.Needs.{needs}
 use Rattle.semantics.specs.Reading.{open-line}
 use Rattle.semantics.specs.Lists.{pick}
-use Rattle.reader.specs.Answers.{fault-line}
 use Rattle.reader.proofs.Scans.{open-step, open-end, line-near}
 use Rattle.reader.proofs.scan.open_line.Statement.{statement}
 use Rattle.reader.proofs.scan.open_line.Tie as tie
@@ -29,11 +28,9 @@ loop-again c = let k = c .before .before .before in
     (omega arith, omega (arith, line-near (eqb (k .loop .last) 10) n), k .loop .inv .2 ∙ open-step _ _ _ _ (c .before .before .loop-test .taken) ∙ rw e)
 
 returns : tie.Need-returns Inv-loop μ-loop
-unfolding fault-line
 returns c = sym (c .before .before .loop .inv .2 ∙ open-end _ _ _ _ (c .before .loop-test .left) ∙ simp (eq-eqb _ _ (c .if1 .taken)))
 
 returns-2 : tie.Need-returns-2 Inv-loop μ-loop
-unfolding fault-line
 returns-2 c = sym (c .before .before .loop .inv .2 ∙ open-end _ _ _ _ (c .before .loop-test .left) ∙ simp (ne-eqb _ _ (c .if1 .left)))
 
 pub open-line-spec : {M : Type 1} → statement M

@@ -22,16 +22,18 @@ loop-holds : tie.Need-loop-holds Inv-loop μ-loop
 loop-holds c = (omega arith, rw add-zero)
 
 returns : tie.Need-returns Inv-loop μ-loop
-returns c = let l = c .before .before .before .before in
-    sym (l .loop .inv .1 ∙ names-turn _ _ _ _ (c .before .before .before .loop-test .taken)
-    ∙ rw (sym (c .before .before .word-at .ensures), sym (c .before .byte-at .ensures), bits-ne w32 {a = c .before .before .word-at .result} {b = c .before .byte-at .result} (sfits-of {z = c .before .before .word-at .result} (c .before .before .word-at .ok)) (sfits-of {z = c .before .byte-at .result} (c .before .byte-at .ok)) (c .if1 .taken)))
+returns c = let l = c .before .before .before in
+    let w = c .before .before .word-at in
+    let b = c .before .byte-at in
+    let n = bits-ne w32 {a = w .result} {b = b .result} (sfits-of {z = w .result} (w .ok)) (sfits-of {z = b .result} (b .ok)) (c .if1 .taken) in
+    sym (l .before .loop .inv .1 ∙ names-turn _ _ _ _ (l .loop-test .taken) ∙ rw (sym (w .ensures), sym (b .ensures), n))
 
 loop-again : tie.Need-loop-again Inv-loop μ-loop
-loop-again c = let l = c .before .before .before .before in (
-  omega arith,
-  l .loop .inv .1 ∙ names-turn _ _ _ _ (c .before .before .before .loop-test .taken)
-      ∙ rw (sym (c .before .before .word-at .ensures), sym (c .before .byte-at .ensures), bits-eq w32 {a = c .before .before .word-at .result} {b = c .before .byte-at .result} (sfits-of {z = c .before .before .word-at .result} (c .before .before .word-at .ok)) (sfits-of {z = c .before .byte-at .result} (c .before .byte-at .ok)) (c .if1 .left)),
-)
+loop-again c = let l = c .before .before .before in
+    let w = c .before .before .word-at in
+    let b = c .before .byte-at in
+    let e = bits-eq w32 {a = w .result} {b = b .result} (sfits-of {z = w .result} (w .ok)) (sfits-of {z = b .result} (b .ok)) (c .if1 .left) in
+    (omega arith, l .before .loop .inv .1 ∙ names-turn _ _ _ _ (l .loop-test .taken) ∙ rw (sym (w .ensures), sym (b .ensures), e))
 
 returns-2 : tie.Need-returns-2 Inv-loop μ-loop
 returns-2 c = sym (c .before .loop .inv .1 ∙ names-end _ _ _ (omega arith))

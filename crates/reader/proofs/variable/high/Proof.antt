@@ -1,36 +1,27 @@
 -- `reader::variable::high` meets its contract. Assumes nothing.
-use mathlib.Core.Path.{_≡_, sym, ap, _∙_}
-use mir.Syntax.{w32}
-use mir.Val.{toZ, ofZ}
+use mathlib.Core.Path.{sym, ap, _∙_}
 use borrow.Author.Needs.{needs}
 use Rattle.semantics.specs.Reading.{number-field}
 use Rattle.text.specs.Fields.{word-res}
-use Rattle.reader.specs.Answers.{var-res}
-use Rattle.reader.proofs.Judging.{then-fail, then-ok, check-no, check-yes}
+use Rattle.reader.proofs.Judging.{then-fail, then-ok, check-no, check-yes, said}
 use Rattle.reader.proofs.variable.high.Statement.{statement}
 use Rattle.reader.proofs.variable.high.Tie as tie
 
 returns : tie.Need-returns
 unfolding word-res
-returns c = let h = c .before .before .before .before .before .hi .given .0 .0 in
-    let a = c .before .before .before .before .before .before .before .before .before .before .args in
-    let p : toZ w32 (ofZ w32 (a .lo)) ≡ a .lo = search needs in
-    let q : toZ w32 (ofZ w32 h) ≡ h = search needs in
-    let e = ap number-field (sym (c .before .before .before .before .before .before .before .before .field .ensures)) ∙ sym (c .before .before .before .before .before .before .before .number-field .ensures) ∙ ap word-res (c .before .before .before .before .before .hi .given .1) in
-    c .init .ensures ∙ rw (p, q, c .before .field2 .ensures) (sym (then-ok _ e ∙ check-yes _ _ (sym (rw (p, q) at (c .before .before .before .at-most .ensures)) ∙ c .before .before .if1 .taken)))
+returns c = let k = c .before .before .before .before in
+    let e = said number-field (k .before .before .before .field .ensures) (k .before .before .number-field .ensures) (ap word-res (k .hi .given .1)) in
+    rw (sym (c .before .field2 .ensures)) (c .init .ensures ∙ (search needs) ∙ sym (then-ok _ e ∙ check-yes _ _ ((search needs) ∙ c .before .before .if1 .taken)))
 
 returns-2 : tie.Need-returns-2
-unfolding var-res word-res
-returns-2 c = sym (then-fail _ (ap number-field (sym (c .before .before .before .before .field .ensures)) ∙ sym (c .before .before .before .number-field .ensures) ∙ ap word-res (c .before .k .given .1)))
+unfolding word-res
+returns-2 c = sym (then-fail _ (said number-field (c .before .before .before .before .field .ensures) (c .before .before .before .number-field .ensures) (ap word-res (c .before .k .given .1))))
 
 returns-3 : tie.Need-returns-3
-unfolding var-res word-res
-returns-3 c = let h = c .before .before .before .hi .given .0 .0 in
-    let a = c .before .before .before .before .before .before .before .before .args in
-    let p : toZ w32 (ofZ w32 (a .lo)) ≡ a .lo = search needs in
-    let q : toZ w32 (ofZ w32 h) ≡ h = search needs in
-    let e = ap number-field (sym (c .before .before .before .before .before .before .field .ensures)) ∙ sym (c .before .before .before .before .before .number-field .ensures) ∙ ap word-res (c .before .before .before .hi .given .1) in
-    sym (then-ok _ e ∙ check-no _ _ (sym (rw (p, q) at (c .before .at-most .ensures)) ∙ c .if1 .left))
+unfolding word-res
+returns-3 c = let k = c .before .before in
+    let e = said number-field (k .before .before .before .field .ensures) (k .before .before .number-field .ensures) (ap word-res (k .hi .given .1)) in
+    sym (then-ok _ e ∙ check-no _ _ ((search needs) ∙ c .if1 .left))
 
 pub high-spec : {M : Type 1} → statement M
 high-spec =
@@ -40,7 +31,6 @@ high-spec =
     (λ c κs. search needs)
     (λ c. search needs)
     (λ c. search needs)
-    (λ c κs. search needs)
     (λ c κs. search needs)
     (λ c κs. search needs)
     returns

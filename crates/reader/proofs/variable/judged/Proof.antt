@@ -1,25 +1,24 @@
 -- `reader::variable::judged` meets its contract. Assumes nothing.
-use mathlib.Core.Path.{sym, ap, _∙_}
+use mathlib.Core.Path.{sym, _∙_}
 use borrow.Author.Tests.{not-true, not-false}
 use borrow.Author.Needs.{needs}
 use Rattle.semantics.specs.Text.{name-ok}
-use Rattle.reader.specs.Lines.{var-fields}
-use Rattle.reader.specs.Answers.{var-res}
-use Rattle.reader.proofs.Judging.{check-no, check-yes}
+use Rattle.reader.proofs.Judging.{check-no, check-yes, said}
 use Rattle.reader.proofs.variable.judged.Statement.{statement}
 use Rattle.reader.proofs.variable.judged.Tie as tie
 
 returns : tie.Need-returns
-unfolding var-res var-fields
 returns c = sym (check-no _ _ (sym (c .before .filled .ensures) ∙ not-true _ (c .if1 .taken)))
 
 returns-2 : tie.Need-returns-2
-unfolding var-res var-fields
-returns-2 c = sym (check-yes _ _ (sym (c .before .before .before .before .filled .ensures) ∙ not-false _ (c .before .before .before .if1 .left)) ∙ check-no _ _ (ap name-ok (sym (c .before .before .field .ensures)) ∙ sym (c .before .name-ok .ensures) ∙ not-true _ (c .if2 .taken)))
+returns-2 c = let f = sym (c .before .before .before .before .filled .ensures) ∙ not-false _ (c .before .before .before .if1 .left) in
+    let n = said name-ok (c .before .before .field .ensures) (c .before .name-ok .ensures) (not-true _ (c .if2 .taken)) in
+    sym (check-yes _ _ f ∙ check-no _ _ n)
 
 returns-3 : tie.Need-returns-3
-unfolding var-fields
-returns-3 c = c .low .ensures ∙ sym (check-yes _ _ (sym (c .before .before .before .before .before .filled .ensures) ∙ not-false _ (c .before .before .before .before .if1 .left)) ∙ check-yes _ _ (ap name-ok (sym (c .before .before .before .field .ensures)) ∙ sym (c .before .before .name-ok .ensures) ∙ not-false _ (c .before .if2 .left)))
+returns-3 c = let f = sym (c .before .before .before .before .before .filled .ensures) ∙ not-false _ (c .before .before .before .before .if1 .left) in
+    let n = said name-ok (c .before .before .before .field .ensures) (c .before .before .name-ok .ensures) (not-false _ (c .before .if2 .left)) in
+    c .low .ensures ∙ sym (check-yes _ _ f ∙ check-yes _ _ n)
 
 pub judged-spec : {M : Type 1} → statement M
 judged-spec =

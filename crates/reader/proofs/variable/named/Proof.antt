@@ -19,17 +19,18 @@ returns c = λ s h g o. check-no _ _ (not-no (sym (names-seen (now (c .before .b
 
 returns-2 : tie.Need-returns-2
 returns-2 c = λ s h g o.
-    let a = c .before .before .before .before .before .before .before .before .before .before .before .before .before .before .before .args in
-    let v = a .v in
+    let v = c .before .before .before .before .before .before .before .before .before .before .before .before .before .before .before .args .v in
     let p : toZ w32 (ofZ w32 (v .lo)) ≡ v .lo = search needs in
     let q : toZ w32 (ofZ w32 (v .hi)) ≡ v .hi = search needs in
     let r : toZ w32 (ofZ w32 (v .init)) ≡ v .init = search needs in
+    let k = c .before .before .before .before .before .before .before .before .before .before .before in
+    let name = now (k .before .before .before .before .args .name) in
     record {
-      read = with-var s (now (a .name)) (var-of v);
-      is = check-yes _ _ (not-yes (sym (names-seen (now (a .name)) g o) ∙ sym (c .before .before .before .before .before .before .before .before .before .before .before .before .name-seen .ensures) ∙ c .before .before .before .before .before .before .before .before .before .before .before .if1 .left));
+      read = with-var s name (var-of v);
+      is = check-yes _ _ (not-yes (sym (names-seen name g o) ∙ sym (k .before .name-seen .ensures) ∙ k .if1 .left));
       few = record { vars = omega arith; locs = omega arith; edges = omega arith };
-      held = rw (c .before .before .before .before .before .before .push-row .ensures) (rows-var s h (now (a .name)) (var-of v) _ (rw (p, q, r, word-back (v .init))) (omega arith) (omega arith) (omega arith));
-      names-held = rw (c .before .before .push-name .ensures) (names-more (now (a .name)) g o (omega arith));
+      held = rw (c .before .before .before .before .before .before .push-row .ensures) (rows-var s h name (var-of v) _ (rw (p, q, r, word-back (v .init))) (omega arith) (omega arith) (omega arith));
+      names-held = rw (c .before .before .push-name .ensures) (names-more name g o (omega arith));
     }
 
 pub named-spec : {M : Type 1} → statement M
