@@ -9,7 +9,7 @@ use lib.ListN.{length, drop, length-drop}
 use borrow.Author.Tests.{le-leb, lt-leb, leb-true, leb-false}
 use Rattle.semantics.specs.Lists.{pick}
 use Rattle.text.proofs.Lines.{up-to-le}
-use Rattle.lines.specs.Lines.{end-of, line-of}
+use Rattle.lines.specs.Lines.{end-of, line-at}
 use Rattle.lines.specs.declared.Line.the-variants.{Text, End}
 
 -- the line at a place is text[start..end], and the next one begins at `next`
@@ -21,19 +21,19 @@ pub record Lies (text : List ℕ) (at start end next : ℕ) : Type 0 where
   pub on : next ≡ end + 1
 
 module _ (text : List ℕ) (at : ℕ) where
-  pub line-none : length text ≤ at → line-of text at ≡ End
-  unfolding line-of
+  pub line-none : length text ≤ at → line-at text at ≡ End
+  unfolding line-at
   line-none h = simp (le-leb _ _ h)
 
-  pub line-some : {e : ℕ} → at < length text → e ≡ end-of text at → line-of text at ≡ Text at e (e + 1)
-  unfolding line-of
+  pub line-some : {e : ℕ} → at < length text → e ≡ end-of text at → line-at text at ≡ Text at e (e + 1)
+  unfolding line-at
   line-some h q = rw q (simp (lt-leb _ _ h))
 
   ends-within : at < length text → end-of text at ≤ length text
   ends-within h = let u = up-to-le 10 (drop at text) in let l = length-drop at text in omega (arith, u, l)
 
-  pub some-line : {start end next : ℕ} → line-of text at ≡ Text start end next → Lies text at start end next
-  unfolding line-of
+  pub some-line : {start end next : ℕ} → line-at text at ≡ Text start end next → Lies text at start end next
+  unfolding line-at
   some-line {start} {end} {next} = by-test (leb (length text) at) refl where
     by-test : (b : Bool) → leb (length text) at ≡ b → pick b End (Text at (end-of text at) (end-of text at + 1)) ≡ Text start end next → Lies text at start end next
     by-test true q e = let z : _≡_ {A = ℕ} 0 1 = cc in absurd (omega arith)
@@ -44,8 +44,8 @@ module _ (text : List ℕ) (at : ℕ) where
         let n : end-of text at + 1 ≡ next = cc in
         record { here = h; begins = omega arith; ends = omega arith; within = omega (arith, ends-within h); on = omega arith }
 
-  pub no-line : line-of text at ≡ End → length text ≤ at
-  unfolding line-of
+  pub no-line : line-at text at ≡ End → length text ≤ at
+  unfolding line-at
   no-line = by-test (leb (length text) at) refl where
     by-test : (b : Bool) → leb (length text) at ≡ b → pick b End (Text at (end-of text at) (end-of text at + 1)) ≡ End → length text ≤ at
     by-test true q e = leb-true (length text) at q

@@ -14,8 +14,8 @@ abbrev pub end-of : List ℕ → ℕ → ℕ
 end-of text at = at + up-to 10 (drop at text)
 
 -- the line that begins at `at`
-unfoldable pub line-of : List ℕ → ℕ → Line
-line-of text at = pick (leb (length text) at) End (Text at (end-of text at) (end-of text at + 1))
+unfoldable pub line-at : List ℕ → ℕ → Line
+line-at text at = pick (leb (length text) at) End (Text at (end-of text at) (end-of text at + 1))
 
 -- the place after a line, from the place `at`
 abbrev pub place-after : Line → ℕ → ℕ

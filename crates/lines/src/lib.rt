@@ -1,7 +1,7 @@
 // A reader that goes down a text line by line. The work is on the slice and a place; the functions over a `Reader` are thin, and
 // proved by hand.
 ghost use mathlib.Core.Path.{_≡_};
-ghost use Rattle.lines.specs.Lines.{line-of, place-after};
+ghost use Rattle.lines.specs.Lines.{line-at, place-after};
 
 // The lent text, and the reader's place in it: where the next line begins.
 pub struct Reader<'a> {
@@ -21,7 +21,7 @@ pub enum Line {
 
 // The line that begins at a place of a text.
 fn line_at(text: &[u8], at: usize) -> Line
-    ensures { λ r. ⌜ r ≡ line-of (now (text .entry)) at ⌝ }
+    ensures { λ r. ⌜ r ≡ line-at (now (text .entry)) at ⌝ }
 {
     if text.len() <= at {
         return Line::End;
@@ -53,7 +53,7 @@ pub fn open<'a>(text: &'a [u8]) -> Reader<'a>
 
 // The line at the reader's place.
 pub fn current<'a>(r: Reader<'a>) -> Line
-    ensures { λ l. ⌜ l ≡ line-of (now (r .entry .text)) (r .entry .at) ⌝ }
+    ensures { λ l. ⌜ l ≡ line-at (now (r .entry .text)) (r .entry .at) ⌝ }
 {
     line_at(r.text, r.at)
 }

@@ -12,7 +12,7 @@ use Rattle.semantics.specs.Text.{bytes, same-bytes, lines, fields}
 use Rattle.semantics.specs.Reading.{fail, ok, nth, So-far, nothing-read, var-line, loc-line, edge-line, judge, refused, ended, judged}
 use Rattle.text.specs.Fields.{up-to}
 use Rattle.text.proofs.Lines.{lines-at, lines-done}
-use Rattle.lines.specs.Lines.{line-of, place-after}
+use Rattle.lines.specs.Lines.{line-at, place-after}
 use Rattle.lines.specs.declared.Line.{Line}
 use Rattle.lines.proofs.Places.{Lies, line-some}
 use Rattle.reader.specs.Held.{Stepped, goes-on, nothing-judged, Along, Through, Goes, Stands-by, Stands, Few-of, Ready}
@@ -97,7 +97,7 @@ module _ (text : List ℕ) (at : ℕ) (table names : List ℤ) where
   counted-now line (step.Go t) h = h .counted
 
   -- what `advance` asks
-  pub ready : (p : Descent) (l : Line) → l ≡ line-of text at → p .going ≡ true → Stands text at p table names → Ready text p l
+  pub ready : (p : Descent) (l : Line) → l ≡ line-at text at → p .going ≡ true → Stands text at p table names → Ready text p l
   ready p l e g h = record { at = at; is = e; few = few-now (p .line) (p .step) (rw g at h); counted = counted-now (p .line) (p .step) (rw g at h) }
 
 -- how many turns are left at most, in a text of n bytes
@@ -105,6 +105,6 @@ abbrev pub turns : Bool → ℕ → ℕ → ℕ
 turns true n at = suc (n - at)
 turns false n at = 0
 
-pub fewer : (text : List ℕ) (at : ℕ) (b : Bool) → (b ≡ true → at < length text) → turns b (length text) (place-after (line-of text at) at) < turns true (length text) at
+pub fewer : (text : List ℕ) (at : ℕ) (b : Bool) → (b ≡ true → at < length text) → turns b (length text) (place-after (line-at text at) at) < turns true (length text) at
 fewer text at false h = omega arith
 fewer text at true h = rw (line-some text at (h refl) refl) (omega (arith, h refl))

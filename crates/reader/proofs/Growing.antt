@@ -13,7 +13,7 @@ use Rattle.semantics.specs.Chart.{Var, Loc, Op, assign, add, sub, input, assume
 use Rattle.semantics.specs.Encoding.{var-words, loc-words, op-words, edge-words, kind-word}
 use Rattle.semantics.specs.Reading.{So-far, with-var, with-loc, with-edge}
 use Rattle.reader.specs.Rows.{name-row, stored, seen}
-use Rattle.reader.specs.Held.{rows-of, used-words, Rows, Names, in-order}
+use Rattle.reader.specs.Held.{chart-rows, used-words, Rows, Names, in-order}
 use Rattle.reader.specs.declared.tally.Tally.{Tally}
 use Rattle.reader.proofs.Storing.{stored-take}
 use Rattle.reader.proofs.Naming.{and-true, name-short, name-row-padded, name-row-length, locs-seen}
@@ -46,7 +46,7 @@ edge-long g = by-op (g .op) where
 
 -- what is stored at the end of the rows
 module _ {t : Tally} {table : List ℤ} {c : Chart} (h : Rows t table c) (row : List ℤ) (fits : used-words t + length row ≤ length table) where
-  pub rows-more : (n : ℕ) → n ≡ used-words t + length row → take n (stored (used-words t) row table) ≡ rows-of c ++ row
+  pub rows-more : (n : ℕ) → n ≡ used-words t + length row → take n (stored (used-words t) row table) ≡ chart-rows c ++ row
   rows-more n e = ap (λ (k : ℕ). take k (stored (used-words t) row table)) e ∙ stored-take (used-words t) row table fits ∙ ap (λ (l : List ℤ). l ++ row) (h .rows)
 
 -- ---- the rows

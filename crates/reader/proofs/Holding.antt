@@ -13,7 +13,7 @@ use Rattle.semantics.specs.Lists.{is-empty}
 use Rattle.semantics.specs.Chart.{Chart}
 use Rattle.semantics.specs.Encoding.{encode}
 use Rattle.reader.specs.Rows.{stored}
-use Rattle.reader.specs.Held.{rows-of, used-words, Rows}
+use Rattle.reader.specs.Held.{chart-rows, used-words, Rows}
 use Rattle.reader.specs.declared.tally.Tally.{Tally}
 use Rattle.reader.proofs.Storing.{stored-then}
 
@@ -41,4 +41,4 @@ module _ {t : Tally} {table : List ℤ} {c : Chart} (h : Rows t table c) (room :
       pub held-words : stored 3 (take (used-words t) table) (stored 0 (pos (t .vars) ∷ pos (t .locs) ∷ pos (t .edges) ∷ []) ws) ≡ encode c ++ drop (length (encode c)) ws
       unfolding stored encode
       held-words =
-          rw (h .rows) (stored-then 0 (pos (t .vars) ∷ pos (t .locs) ∷ pos (t .edges) ∷ []) ws (omega arith) (rows-of c) ∙ rw (h .vars, h .locs, h .edges))
+          rw (h .rows) (stored-then 0 (pos (t .vars) ∷ pos (t .locs) ∷ pos (t .edges) ∷ []) ws (omega arith) (chart-rows c) ∙ rw (h .vars, h .locs, h .edges))

@@ -14,7 +14,7 @@ use Rattle.semantics.specs.Text.{name-ok}
 use Rattle.semantics.specs.Chart.{Value, Var, Operand, Rel, Op, assign, add, sub, input, assume, Edge, Chart, in-range}
 use Rattle.semantics.specs.Encoding.{tag, held, op-words, edge-words}
 use Rattle.semantics.specs.Reading.{Res, fail, ok, check, if-ok, nth, none-empty, number-field, location-field, target-field, operand-field, init-field, kind-field, rel-field, op-word-field, OpWord, do-set, do-add, do-sub, do-in, do-if, do-skip, field-count, op-fields-read, So-far, with-edge, var-line, loc-line, edge-line, filled}
-use Rattle.reader.specs.Lines.{in-table, operand-read, one-read, second-read, two-read, input-read, input-high-read, assume-read, op-read, edge-read, var-low, var-fields, var-named, loc-fields, loc-named, edge-fields, edge-worded}
+use Rattle.reader.specs.Lines.{in-table, operand-read, one-read, second-read, two-read, input-read, input-high-read, assume-read, op-read, edge-read, var-low, var-judged, var-named, loc-judged, loc-named, edge-judged, edge-worded}
 use Rattle.reader.specs.Held.{Rows}
 use Rattle.reader.specs.declared.tally.Tally.{Tally}
 use Rattle.reader.proofs.Growing.{range-held}
@@ -126,8 +126,8 @@ edge-via (ok f) (ok t) (fail n) = refl
 edge-via (ok f) (ok t) (ok x) = refl
 
 pub edge-held : (table : List ℤ) (c : Chart) → ((k : ℕ) (z : ℤ) → k < length (c .vars) → in-table table k z ≡ in-range (c .vars) k z) → (w : OpWord) (fs : List (List ℕ))
-    → edge-read (length (c .locs)) (op-read table (length (c .vars)) w fs) fs ≡ if-ok (edge-fields c w fs) (λ g. ok (edge-words g))
-unfolding edge-fields
+    → edge-read (length (c .locs)) (op-read table (length (c .vars)) w fs) fs ≡ if-ok (edge-judged c w fs) (λ g. ok (edge-words g))
+unfolding edge-judged
 edge-held table c ranges w fs =
     rw (op-held table c ranges w fs) (edge-via (location-field (length (c .locs)) (nth fs 1)) (location-field (length (c .locs)) (nth fs 2)) (op-fields-read c w fs))
 
@@ -184,15 +184,15 @@ module _ (s : So-far) (fs : List (List ℕ)) where
       edge-no-word e = check-yes _ _ (lt-ltb _ _ few) ∙ check-yes _ _ enough ∙ then-fail _ e
 
       pub edge-word : {w : OpWord} → op-word-field (nth fs 3) ≡ ok w → edge-line s fs ≡ edge-worded s w fs
-      unfolding edge-line edge-fields
+      unfolding edge-line edge-judged
       edge-word {w} e =
           check-yes _ _ (lt-ltb _ _ few) ∙ check-yes _ _ enough ∙ then-ok _ e
           ∙ ap (check (eqb (length fs) (field-count w)) 5) (sym (edge-tail s (location-field (length (s .chart .locs)) (nth fs 1)) (location-field (length (s .chart .locs)) (nth fs 2)) (op-fields-read (s .chart) w fs)))
 
-pub var-name-ok : (fs : List (List ℕ)) {v : Var} → var-fields fs ≡ ok v → name-ok (nth fs 1) ≡ true
+pub var-name-ok : (fs : List (List ℕ)) {v : Var} → var-judged fs ≡ ok v → name-ok (nth fs 1) ≡ true
 var-name-ok fs e = check-passed (name-ok (nth fs 1)) _ _ (check-passed (filled 5 fs) _ _ e .1) .0
 
-pub loc-name-ok : (fs : List (List ℕ)) {k : Bool} → loc-fields fs ≡ ok k → name-ok (nth fs 1) ≡ true
+pub loc-name-ok : (fs : List (List ℕ)) {k : Bool} → loc-judged fs ≡ ok k → name-ok (nth fs 1) ≡ true
 loc-name-ok fs e = check-passed (name-ok (nth fs 1)) _ _ (check-passed (filled 3 fs) _ _ e .1) .0
 
 -- ---- by the counts and the table that hold the chart
@@ -211,7 +211,7 @@ module _ (s : So-far) (fs : List (List ℕ)) {t : Tally} {table : List ℤ} (h :
     unfolding loc-line
     loc-full n = check-yes _ _ no-edges ∙ check-no _ _ (le-ltb (length (s .chart .locs)) 64 (omega (arith, h .locs, n)))
 
-    pub loc-read : t .locs < 64 → loc-line s fs ≡ if-ok (loc-fields fs) (λ k. loc-named s (nth fs 1) k)
+    pub loc-read : t .locs < 64 → loc-line s fs ≡ if-ok (loc-judged fs) (λ k. loc-named s (nth fs 1) k)
     unfolding loc-line
     loc-read n =
         check-yes _ _ no-edges ∙ check-yes _ _ (lt-ltb (length (s .chart .locs)) 64 (omega (arith, h .locs, n)))
@@ -239,7 +239,7 @@ module _ (s : So-far) (fs : List (List ℕ)) {t : Tally} {table : List ℤ} (h :
       unfolding var-line
       var-full n = check-yes _ _ early ∙ check-no _ _ (le-ltb (length (s .chart .vars)) 8 (omega (arith, h .vars, n)))
 
-      pub var-read : t .vars < 8 → var-line s fs ≡ if-ok (var-fields fs) (λ v. var-named s (nth fs 1) v)
+      pub var-read : t .vars < 8 → var-line s fs ≡ if-ok (var-judged fs) (λ v. var-named s (nth fs 1) v)
       unfolding var-line
       var-read n =
           check-yes _ _ early ∙ check-yes _ _ (lt-ltb (length (s .chart .vars)) 8 (omega (arith, h .vars, n)))
@@ -253,5 +253,5 @@ module _ (s : So-far) (fs : List (List ℕ)) {t : Tally} {table : List ℤ} (h :
 
 -- an edge
 pub edges-held : {t : Tally} {table : List ℤ} {c : Chart} → Rows t table c → (w : OpWord) (fs : List (List ℕ))
-    → edge-read (t .locs) (op-read table (t .vars) w fs) fs ≡ if-ok (edge-fields c w fs) (λ g. ok (edge-words g))
+    → edge-read (t .locs) (op-read table (t .vars) w fs) fs ≡ if-ok (edge-judged c w fs) (λ g. ok (edge-words g))
 edges-held {t} {table} {c} h w fs = rw (h .vars, h .locs) (edge-held table c (λ k z l. range-held h k z (omega (arith, h .vars))) w fs)

@@ -10,7 +10,7 @@ use Rattle.semantics.specs.Text.{name-ok, lines, fields}
 use Rattle.semantics.specs.Chart.{Chart}
 use Rattle.semantics.specs.Encoding.{var-words, loc-words, edge-words}
 use Rattle.semantics.specs.Reading.{Res, fail, ok, So-far, Reading, nothing-read, refused, ended, judged}
-use Rattle.lines.specs.Lines.{line-of, place-after}
+use Rattle.lines.specs.Lines.{line-at, place-after}
 use Rattle.lines.specs.declared.Line.{Line}
 use Rattle.reader.specs.Rows.{name-row}
 use Rattle.reader.specs.declared.Descent.{Descent}
@@ -19,8 +19,8 @@ use Rattle.reader.specs.declared.tally.Step.{Step}
 use Rattle.reader.specs.declared.tally.Step.the-variants as step
 
 -- the encoded chart after its three counts
-abbrev pub rows-of : Chart → List ℤ
-rows-of c = each var-words (c .vars) ++ (each loc-words (c .locs) ++ each edge-words (c .edges))
+abbrev pub chart-rows : Chart → List ℤ
+chart-rows c = each var-words (c .vars) ++ (each loc-words (c .locs) ++ each edge-words (c .edges))
 
 -- the words of so many rows
 abbrev pub used-words : Tally → ℕ
@@ -37,7 +37,7 @@ pub record Rows (t : Tally) (table : List ℤ) (c : Chart) : Type 0 where
   pub vars : t .vars ≡ length (c .vars)
   pub locs : t .locs ≡ length (c .locs)
   pub edges : t .edges ≡ length (c .edges)
-  pub rows : take (used-words t) table ≡ rows-of c
+  pub rows : take (used-words t) table ≡ chart-rows c
   pub named : all (λ l. name-ok (l .name)) (c .locs) ≡ true
 
 -- names in the order of their lines
@@ -122,10 +122,10 @@ Few-of (step.Go t) = Few t
 -- what it takes to judge l: it is a line of the text, and the counts are those of lines before it
 pub record Ready (text : List ℕ) (p : Descent) (l : Line) : Type 0 where
   pub at : ℕ
-  pub is : l ≡ line-of text at
+  pub is : l ≡ line-at text at
   pub few : Few-of (p .step)
   pub counted : p .line ≤ at
 
 -- by the line l reading goes from p to r, and comes to no other line where there is none
 abbrev pub Advanced : List ℕ → Line → Descent → List ℤ → List ℤ → Descent → List ℤ → List ℤ → Type 0
-Advanced text l p table names r table′ names′ = (at : ℕ) → l ≡ line-of text at → p .going ≡ true → Stands text at p table names → Stands text (place-after l at) r table′ names′ × (r .going ≡ true → at < length text)
+Advanced text l p table names r table′ names′ = (at : ℕ) → l ≡ line-at text at → p .going ≡ true → Stands text at p table names → Stands text (place-after l at) r table′ names′ × (r .going ≡ true → at < length text)

@@ -27,8 +27,8 @@ abbrev pub var-low : List (List ℕ) → Res Var
 var-low fs = if-ok (number-field (nth fs 2)) λ lo. var-high lo fs
 
 -- all the fields
-abbrev pub var-fields : List (List ℕ) → Res Var
-var-fields fs = check (filled 5 fs) 5 (check (name-ok (nth fs 1)) 6 (var-low fs))
+abbrev pub var-judged : List (List ℕ) → Res Var
+var-judged fs = check (filled 5 fs) 5 (check (name-ok (nth fs 1)) 6 (var-low fs))
 
 -- the name is looked for last
 abbrev pub var-named : So-far → List ℕ → Var → Res So-far
@@ -37,8 +37,8 @@ var-named s name v = check (all (λ m. not (same-bytes m name)) (s .names)) 9 (o
 -- ---- `L name kind`
 
 -- all the fields: the kind
-abbrev pub loc-fields : List (List ℕ) → Res Bool
-loc-fields fs = check (filled 3 fs) 5 (check (name-ok (nth fs 1)) 6 (kind-field (nth fs 2)))
+abbrev pub loc-judged : List (List ℕ) → Res Bool
+loc-judged fs = check (filled 3 fs) 5 (check (name-ok (nth fs 1)) 6 (kind-field (nth fs 2)))
 
 -- the name is looked for last
 abbrev pub loc-named : So-far → List ℕ → Bool → Res So-far
@@ -117,12 +117,12 @@ abbrev pub edge-read : ℕ → Res (List ℤ) → List (List ℕ) → Res (List 
 edge-read m r fs = if-ok (location-field m (nth fs 1)) λ from. with-from from m r fs
 
 -- the same as a chart's edge
-unfoldable pub edge-fields : Chart → OpWord → List (List ℕ) → Res Edge
-edge-fields c w fs =
+unfoldable pub edge-judged : Chart → OpWord → List (List ℕ) → Res Edge
+edge-judged c w fs =
     if-ok (location-field (length (c .locs)) (nth fs 1)) λ from.
     if-ok (location-field (length (c .locs)) (nth fs 2)) λ to.
     if-ok (op-fields-read c w fs) λ o. ok (record { from = from; to = to; op = o })
 
 -- a line whose operation is known: 5 by its count, then its fields
 abbrev pub edge-worded : So-far → OpWord → List (List ℕ) → Res So-far
-edge-worded s w fs = check (eqb (length fs) (field-count w)) 5 (if-ok (edge-fields (s .chart) w fs) λ g. ok (with-edge s g))
+edge-worded s w fs = check (eqb (length fs) (field-count w)) 5 (if-ok (edge-judged (s .chart) w fs) λ g. ok (with-edge s g))

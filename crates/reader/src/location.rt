@@ -8,7 +8,7 @@ ghost use lib.ListN.{length};
 ghost use Rattle.semantics.specs.Text.{fields, name-ok};
 ghost use Rattle.semantics.specs.Reading.{So-far, loc-line};
 ghost use Rattle.text.specs.Fields.{flag-res};
-ghost use Rattle.reader.specs.Lines.{loc-fields, loc-named};
+ghost use Rattle.reader.specs.Lines.{loc-judged, loc-named};
 ghost use Rattle.reader.specs.Held.{Few, Rows, Names, Stepped};
 use super::store;
 use super::tally::LOCATION_WORDS;
@@ -20,7 +20,7 @@ use super::tally::used_words;
 
 // All the fields: their count, then the name, then the kind, which is the answer.
 fn judged(line: &[u8]) -> text::Flag
-    ensures { λ r. ⌜ flag-res r ≡ loc-fields (fields (now (line .entry))) ⌝ }
+    ensures { λ r. ⌜ flag-res r ≡ loc-judged (fields (now (line .entry))) ⌝ }
 {
     if !text::filled(line, 3) {
         return text::Flag::Refused(5);

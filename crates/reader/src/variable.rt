@@ -6,7 +6,7 @@ ghost use lib.ListN.{length};
 ghost use Rattle.semantics.specs.Text.{fields, name-ok};
 ghost use Rattle.semantics.specs.Reading.{So-far, var-line};
 ghost use Rattle.reader.specs.Answers.{var-of, var-res};
-ghost use Rattle.reader.specs.Lines.{var-init, var-high, var-low, var-fields, var-named};
+ghost use Rattle.reader.specs.Lines.{var-init, var-high, var-low, var-judged, var-named};
 ghost use Rattle.reader.specs.Held.{Few, Rows, Names, Stepped};
 use super::store;
 use super::tally::MOST_VARIABLES;
@@ -69,7 +69,7 @@ fn low(line: &[u8]) -> VarLine
 
 // All the fields: their count, then the name, then the numbers.
 fn judged(line: &[u8]) -> VarLine
-    ensures { λ r. ⌜ var-res r ≡ var-fields (fields (now (line .entry))) ⌝ }
+    ensures { λ r. ⌜ var-res r ≡ var-judged (fields (now (line .entry))) ⌝ }
 {
     if !text::filled(line, 5) {
         return VarLine::Refused(5);

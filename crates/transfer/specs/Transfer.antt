@@ -12,17 +12,18 @@ use Rattle.semantics.specs.Chart.{eqZ, within}
 use Rattle.semantics.specs.Algorithm.{Step, halt, to}
 use Rattle.semantics.specs.Encoding.{count}
 use Rattle.rows.specs.Rows.{word-join}
+use Rattle.encoded.specs.Encoded.{locations-at, edges-at}
 
 -- what a function says that answers whether there is a successor
 abbrev pub step-of : Bool → List ℤ → Step (List ℤ)
 step-of true e = to e
 step-of false e = halt
 
--- ---- the chart's words: three counts, 3 words a variable, 17 a location, 8 an edge
+-- ---- the edges of the chart
 
 -- where the words of edge g stand, edges from 0
 abbrev pub edge-at : List ℤ → ℕ → ℕ
-edge-at c g = 3 + 3 * count c 0 + 17 * count c 1 + 8 * g
+edge-at c g = edges-at c + 8 * g
 
 -- n edges, from edge g on
 abbrev pub edges-from : ℕ → ℕ → List ℕ
@@ -114,7 +115,7 @@ post-words c g e = post-at c (edge-at c g) e
 
 -- the word of the location's kind is 1
 unfoldable pub error-row : List ℤ → List ℤ → Bool
-error-row c e = eqZ (getD c (3 + 3 * count c 0 + 17 * count e 0) (pos 0)) (pos 1)
+error-row c e = eqZ (getD c (locations-at c + 17 * count e 0) (pos 0)) (pos 1)
 
 -- the first of n variables' initial words stands at i
 abbrev pub initial-words : List ℤ → ℕ → ℕ → List ℤ

@@ -47,7 +47,7 @@ use denote.Triple.Table.{entered, cited}
 use denote.Triple.Walked.{says, needs, Stays, stay-none-slice, stay-slice, walkOf, goes-none-slice, goes-slice, Walks, ends-at, walked, walk-meets}
 use denote.Exit.{yes}
 use denote.Signature.{plain}
-use Rattle.lines.specs.Lines.{line-of, place-after}
+use Rattle.lines.specs.Lines.{line-at, place-after}
 use Rattle.lines.specs.declared.Reader.{Reader}
 use Rattle.lines.specs.declared.Line.{Line}
 use Rattle.reader.specs.Held.{nothing-judged, Came, Stands, Ready, Advanced}
@@ -222,8 +222,8 @@ module _ {M : Type 1} (𝓤 : URA M) (H : Heap 𝓤) (A : Atoms 𝓤) (W : Given
   goes-current : (m : ℕ) → ent 𝓤 (sep 𝓤 (sem 𝓤 H A (OwnR m)) (sep 𝓤 (A .lft κ₀ q₀) (sem 𝓤 H A ftrue))) (Current 𝓤 H A at-mem run .pre (to-current m))
   goes-current m = qed W (‵ (OwnR m) ∷ Tok ∷ []) ∵ nothing ! $ move ! (1 ∷ 0 ∷ []) $ fjoin ! $ move ! (1 ∷ 0 ∷ []) $ join ! $ frame ! $ done !
 
-  current-said : (m : ℕ) (l : Line) → ent 𝓤 (ensured 𝓤 H A current.ended (current.clauses 𝓤 H A at-mem run) (κ₀, tt) (rd m, tt) tt l) (fact 𝓤 (l ≡ line-of (now s) m))
-  current-said m l = exE 𝓤 _ (λ ws. snd∗ 𝓤 (sem 𝓤 H A (lasts current.ended (κ₀, tt) (rd m, tt) ws)) (fact 𝓤 (l ≡ line-of (now s) m)))
+  current-said : (m : ℕ) (l : Line) → ent 𝓤 (ensured 𝓤 H A current.ended (current.clauses 𝓤 H A at-mem run) (κ₀, tt) (rd m, tt) tt l) (fact 𝓤 (l ≡ line-at (now s) m))
+  current-said m l = exE 𝓤 _ (λ ws. snd∗ 𝓤 (sem 𝓤 H A (lasts current.ended (κ₀, tt) (rd m, tt) ws)) (fact 𝓤 (l ≡ line-at (now s) m)))
 
   -- the call of `place_after`
   abbrev to-after : Line → Val → ℕ → After 𝓤 H A at-mem run .Ghost
@@ -292,7 +292,7 @@ module _ {M : Type 1} (𝓤 : URA M) (H : Heap 𝓤) (A : Atoms 𝓤) (W : Given
     rd-is m fits = LL.owes (T.the-type α) (T′.the-laws α) (rd m) (p₀, ((refl, fits), tt))
 
     -- the state after a turn
-    next-state : (x : State) → x .p .going ≡ true → (l : Line) → l ≡ line-of (now s) (x .m) → (m′ : ℕ) → m′ ≡ place-after l (x .m) → m′ < 2 ^ 64
+    next-state : (x : State) → x .p .going ≡ true → (l : Line) → l ≡ line-at (now s) (x .m) → (m′ : ℕ) → m′ ≡ place-after l (x .m) → m′ < 2 ^ 64
         → (r : Descent) {u : Val} → Is Y.the-row r (u ∷ []) → (ts ns : List ℤ) → length ts ≡ length (x .ts) → length ns ≡ length (x .ns) → Advanced (now s) l (x .p) (x .ts) (x .ns) r ts ns → State
     next-state x g l el m′ em ok r {u} r-is ts ns et en e = record {
       m = m′;
@@ -306,7 +306,7 @@ module _ {M : Type 1} (𝓤 : URA M) (H : Heap 𝓤) (A : Atoms 𝓤) (W : Given
       stands = rw em (e (x .m) el g (x .stands) .0);
     }
 
-    next-falls : (x : State) → x .p .going ≡ true → (l : Line) → l ≡ line-of (now s) (x .m) → (m′ : ℕ) → m′ ≡ place-after l (x .m) → (r : Descent) (ts ns : List ℤ) → Advanced (now s) l (x .p) (x .ts) (x .ns) r ts ns
+    next-falls : (x : State) → x .p .going ≡ true → (l : Line) → l ≡ line-at (now s) (x .m) → (m′ : ℕ) → m′ ≡ place-after l (x .m) → (r : Descent) (ts ns : List ℤ) → Advanced (now s) l (x .p) (x .ts) (x .ns) r ts ns
         → turns (r .going) (length (now s)) m′ < rank (now s) (length ys) (length zs) x
     next-falls x g l el m′ em r ts ns e = rw (g, em, el) (fewer (now s) (x .m) (r .going) (e (x .m) el g (x .stands) .1))
 
@@ -356,7 +356,7 @@ module _ {M : Type 1} (𝓤 : URA M) (H : Heap 𝓤) (A : Atoms 𝓤) (W : Given
           use2 W (raw (Current 𝓤 H A at-mem run .pre (to-current (x .m)))) (goes-current (x .m)) $
           calls-at ! fm (Current 𝓤 H A at-mem run) known-current (to-current (x .m)) (and-then ! (load ! (from ! (stop !)) (look ! 17 refl)) (no-more !)) (λ u.
           use1 W (later (some (λ (l : Line). (Tok ⊛ ‵ (S.the-row .own l (u ∷ []))) ⊛ raw (ensured 𝓤 H A current.ended (current.clauses 𝓤 H A at-mem run) (κ₀, tt) (rd (x .m), tt) tt l)))) (id⊢ 𝓤 _) $ await ! tt $ pick ! (λ l.
-          split ! $ move ! (1 ∷ []) $ use1 W (raw (fact 𝓤 (l ≡ line-of (now s) (x .m)))) (current-said (x .m) l) $ heard ! (l ≡ line-of (now s) (x .m)) (λ el. split ! $ move ! (1 ∷ []) $
+          split ! $ move ! (1 ∷ []) $ use1 W (raw (fact 𝓤 (l ≡ line-at (now s) (x .m)))) (current-said (x .m) l) $ heard ! (l ≡ line-at (now s) (x .m)) (λ el. split ! $ move ! (1 ∷ []) $
           -- [the line; the token; what the reader owns; what s owns; the table's; κ₁; the names'; κ₂; _13; …]
           peeks ! S.the-row (Is S.the-row) (shows 𝓤 H A S.the-row) l (u ∷ []) (λ l-is.
           land ! (from ! (stop !)) (init ! 22 refl (EL.lawful S.the-type S′.the-laws 𝓤 H A W tt .typed l _ l-is .0)) $
