@@ -168,7 +168,7 @@ fn iterations_in(r: Record) -> u32
     if codes_named(r) {
         return r.iterations;
     }
-    60001
+    semantics::MOST_ITERATIONS + 1
 }
 
 fn analysis_in(r: Record) -> Analysis
@@ -238,11 +238,7 @@ pub extern "C" fn tarknotter_start(
 {
     if !settings_named(merge, stop, order) {
         return Called {
-            reply: Reply {
-                number: 6,
-                line: 0,
-                length: 0,
-            },
+            reply: replied(semantics::refused(6, 0)),
             record,
         };
     }
