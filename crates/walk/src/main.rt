@@ -10,7 +10,7 @@ const INPUT: usize = 32833;
 fn main() {
     let mut input = [0u8; INPUT];
     let n = io::read_full(STDIN_FILENO, &mut input);
-    let mut out = [0u8; 24576];
+    let mut out = [0u8; semantics::LISTING_BYTES];
     let length = respond::respond(&input[..n], &mut out);
     io::write_all(STDOUT_FILENO, &out[..length]);
 }
