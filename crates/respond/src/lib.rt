@@ -18,8 +18,8 @@ ghost use Rattle.form.specs.Form.{lent};
 ghost use Rattle.writing.specs.Writing.{Put};
 ghost use Rattle.respond.specs.Responded.{no-analysis, asking, Asked, Lends, Holds, Printed};
 
-// The words lent suffice for every chart and every capacity. A chart has three counts, 8 variables of 3 words, 64 locations
-// of 17 and 256 edges of 8 at most; a table 256 slots of a location and 8 values; a waitlist 256 slots.
+// The words lent suffice for every chart and every capacity. A chart has three counts, 8 variables of 3 words, 64
+// locations of 17 and 256 edges of 8 at most; a table 256 slots of a location and 8 values; a waitlist 256 slots.
 const CHART_WORDS: usize = 3163;
 
 const TABLE_WORDS: usize = 2304;
@@ -52,8 +52,8 @@ fn no_analysis(settings: Settings) -> Analysis
     }
 }
 
-// The start. It goes through, and so do the run and the listing: the go line was accepted, and the words lent are enough.
-// So no answer of theirs is looked at but the listing's length.
+// The start. It goes through, and so do the run and the listing: the go line was accepted, and the words lent are
+// enough. So no answer of theirs is looked at but the listing's length.
 fn begin(chart: &[i32], go: Go, table: &mut [i32], list: &mut [i32]) -> Analysis
     requires { ⌜ Lends (now chart) (now table) (now list) × Asked go ⌝ }
     ensures { λ r. ⌜ Holds (decode (now (chart .entry))) (started (decode (now (chart .entry))) (go .settings) (go .capacity)) (lent (now (table .exit)) (now (list .exit)) r) ⌝ }

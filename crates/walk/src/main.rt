@@ -1,10 +1,10 @@
-// The walk program: reads a go line and a chart, and prints the listing or the refusal. What an input prints is the contract of
-// `respond`; no contract can speak of what is read and written.
+// The walk program: reads a go line and a chart, and prints the listing or the refusal. What an input prints is the
+// contract of `respond`; no contract can speak of what is read and written.
 use libc::STDIN_FILENO;
 use libc::STDOUT_FILENO;
 
-// 64 bytes for the go line, 32,768 for the chart, and one more that tells a chart too long: what stands past them changes nothing
-// (`cut-same`).
+// 64 bytes for the go line, 32,768 for the chart, and one more that tells a chart too long: what stands past them
+// changes nothing (`cut-same`).
 const INPUT: usize = 32833;
 
 fn main() {
