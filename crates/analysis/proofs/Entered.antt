@@ -7,9 +7,8 @@ use mathlib.Core.List.{List, [], _∷_, _++_, map}
 use Prim.Native.Nat.{ℕ, _-_, _*_, _≤_, _<_}
 use native.Mathlib.Nat.{mul-le-mul-right}
 use native.Mathlib.Omega.{arith}
-use lib.Dec.{T, leb, ltb, eqb, leb→le, ltb→lt, eqb→eq}
+use lib.Dec.{T, ltb, eqb, leb→le, ltb→lt, eqb→eq}
 use lib.IntN.{ℤ, pos, natAbs}
-use lib.Signed.{nonNeg}
 use lib.ListN.{length, take, drop, replicate, take-append-drop, length-map, length-drop}
 use lib.Seq.{length-take-le, take-take}
 use Rattle.semantics.specs.declared.Verdict.{Verdict}
@@ -17,13 +16,12 @@ use Rattle.semantics.specs.declared.Verdict.the-variants.{Open, Safe, Alarm, Fu
 use Rattle.semantics.specs.Lists.{In, some-of, all}
 use Rattle.semantics.specs.Chart.{Chart, eqZ}
 use Rattle.semantics.specs.Coverage.{Distinct, Queue, Every, Tidy}
-use Rattle.semantics.specs.Algorithm.{allowed}
-use Rattle.semantics.specs.Memory.{Memory, width, load, below, rows-ok, each-once, zeros, is-alarm, empty-if-safe, capacity-ok, form-tests, analysis-ok}
-use Rattle.semantics.proofs.Values.{and-left, and-right, eqZ-same}
+use Rattle.semantics.specs.Memory.{Memory, width, load, below, each-once, is-alarm, empty-if-safe, analysis-ok}
+use Rattle.semantics.proofs.Values.{and-left, and-right}
 use Rattle.semantics.proofs.Tidy.{some-not}
-use Rattle.semantics.proofs.Reloaded.{all-each}
+use Rattle.semantics.proofs.Reloaded.{Form, form, slots-back, zeros-back}
+use Rattle.semantics.proofs.Listed.{few-slots}
 use Rattle.semantics.proofs.Simulate.{ExplorationR}
-use Rattle.words.proofs.Words.{nonNeg-pos}
 use Rattle.rows.specs.Rows.{rows-of}
 use Rattle.waitlist.specs.Waits.{waits, Stored}
 use Rattle.waitlist.proofs.Laws.{any-some}
@@ -33,62 +31,10 @@ use Rattle.transfer.proofs.Agree.{Says}
 use Rattle.transfer.proofs.Said.{rows-say}
 use Rattle.analysis.specs.Loaded.{Any, load-of, Held}
 
--- ---- the tests of rule 21, by name
-
-record Form (c : Chart) (m : Memory) : Type 0 where
-  used : T (leb (m .analysis .used) (m .analysis .capacity))
-  waiting : T (leb (m .analysis .waiting) (m .analysis .used))
-  rows : T (rows-ok c (m .analysis .used) (m .table))
-  slots : T (all (below (m .analysis .used)) (take (m .analysis .waiting) (m .waitlist)))
-  once : T (each-once (take (m .analysis .waiting) (m .waitlist)))
-  rest : T (zeros (drop (m .analysis .used * width c) (take (m .analysis .capacity * width c) (m .table))))
-  free : T (zeros (drop (m .analysis .waiting) (take (m .analysis .capacity) (m .waitlist))))
-  iterations : T (leb (m .analysis .iterations) 60000)
-  edge : T (leb (m .analysis .edge .0) (length (c .edges)))
-  alarm : T (eqb (m .analysis .edge .0) 0 || is-alarm (m .analysis .verdict))
-  capacity : T (capacity-ok (pos (m .analysis .capacity)))
-  settings : T (allowed (m .analysis .settings .merge) (m .analysis .settings .stop))
-  verdict : T (empty-if-safe (m .analysis .verdict) (m .analysis .waiting))
-
-form : (c : Chart) (m : Memory) → T (analysis-ok c m) → Form c m
-unfolding analysis-ok
-form c m t =
-    let h = all-each (form-tests c m) t in
-    let i = h .1 .1 .1 .1 .1 .1 in
-    record {
-      used = h .0;
-      waiting = h .1 .0;
-      rows = h .1 .1 .0;
-      slots = h .1 .1 .1 .0;
-      once = h .1 .1 .1 .1 .0;
-      rest = h .1 .1 .1 .1 .1 .0;
-      free = i .0;
-      iterations = i .1 .0;
-      edge = i .1 .1 .0;
-      alarm = i .1 .1 .1 .0;
-      capacity = i .1 .1 .1 .1 .0;
-      settings = i .1 .1 .1 .1 .1 .0;
-      verdict = i .1 .1 .1 .1 .1 .1 .0;
-    }
-
 pub iterations-few : (c : Chart) (m : Memory) → T (analysis-ok c m) → m .analysis .iterations ≤ 60000
 iterations-few c m t = leb→le (m .analysis .iterations) 60000 (form c m t .iterations)
 
 -- ---- words
-
-zeros-are : (ws : List ℤ) → T (zeros ws) → ws ≡ replicate (length ws) (pos 0)
-zeros-are [] t = refl
-zeros-are (x ∷ xs) t =
-    let p = sym (eqZ-same (pos 0) x (and-left (eqZ (pos 0) x) (zeros xs) t)) in
-    let q = zeros-are xs (and-right (eqZ (pos 0) x) (zeros xs) t) in
-    λ i. p i ∷ q i
-
-slots-are : (n : ℕ) (xs : List ℤ) → T (all (below n) xs) → xs ≡ map pos (map natAbs xs)
-slots-are n [] t = refl
-slots-are n (x ∷ xs) t =
-    let p = nonNeg-pos x (and-left (nonNeg x) (ltb (natAbs x) n) (and-left (below n x) (all (below n) xs) t)) in
-    let q = slots-are n xs (and-right (below n x) (all (below n) xs) t) in
-    λ i. p i ∷ q i
 
 -- slot numbers below n, each once
 distinct : (ks : List ℕ) → T (each-once (map pos ks)) → Distinct ks
@@ -173,15 +119,15 @@ module _ (c : Chart) (m : Memory) (lt : m .analysis .capacity * width c ≤ leng
         count = sym (length-map (take n list-in) natAbs ∙ length-take-le n list-in le);
         fits = le;
         words = sym (take-append-drop n list-in)
-            ∙ ap (λ (x : List ℤ). x ++ drop n list-in) (slots-are (m .analysis .used) (take n list-in) (rw front (f .slots)))
-            ∙ ap (λ (x : List ℤ). map pos (waits n list-in) ++ x) (zeros-are (drop n list-in) (f .free) ∙ ap (λ (q : ℕ). replicate q (pos 0)) ld);
+            ∙ ap (λ (x : List ℤ). x ++ drop n list-in) (sym (slots-back (m .analysis .used) (take n list-in) (rw front (f .slots))))
+            ∙ ap (λ (x : List ℤ). map pos (waits n list-in) ++ x) (sym (zeros-back (drop n list-in) (f .free)) ∙ ap (λ (q : ℕ). replicate q (pos 0)) ld);
       }
 
   queue : Queue (m .analysis .used) (waits (m .analysis .waiting) list-in)
   queue =
       let xs = take (m .analysis .waiting) (m .waitlist) in
       let ks = map natAbs xs in
-      let e : xs ≡ map pos ks = slots-are (m .analysis .used) xs (f .slots) in
+      let e : xs ≡ map pos ks = sym (slots-back (m .analysis .used) xs (f .slots)) in
       rw front (record {
         once = distinct ks (subst (λ (x : List ℤ). T (each-once x)) e (f .once));
         used = in-use (m .analysis .used) ks (subst (λ (x : List ℤ). T (all (below (m .analysis .used)) x)) e (f .slots));
@@ -194,10 +140,10 @@ module _ (c : Chart) (m : Memory) (lt : m .analysis .capacity * width c ≤ leng
       record {
         wide = omega arith;
         capacity = few;
-        small = omega (arith, leb→le (m .analysis .capacity) 256 (and-right (leb 1 (m .analysis .capacity)) (leb (m .analysis .capacity) 256) (f .capacity)));
+        small = omega (arith, few-slots (m .analysis .capacity) (f .capacity));
         table = lt′;
         list = size;
-        rest = zeros-are (drop n table-in) (f .rest) ∙ ap (λ (q : ℕ). replicate q (pos 0)) (length-drop n table-in);
+        rest = sym (zeros-back (drop n table-in) (f .rest)) ∙ ap (λ (q : ℕ). replicate q (pos 0)) (length-drop n table-in);
         slots = put;
         queue = queue;
       }

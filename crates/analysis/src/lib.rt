@@ -1,5 +1,5 @@
-// The algorithm over lent words: a successor's arrival, the edges of an iteration in file order, the iteration, the run of
-// iterations and the start. Record and counts go by value.
+// The algorithm over lent words: a successor's arrival, the edges of an iteration in file order, the iteration, the run
+// of iterations and the start. Record and counts go by value.
 use encoded::Edge;
 use semantics::Analysis;
 use semantics::EdgeId;
@@ -26,7 +26,7 @@ pub enum Exit {
     Full,
 }
 
-// The state between two edges: how the last one ended, the alarm's edge or 0, and the counts of slots in use and waiting.
+// The state between two edges: how the last ended, the alarm's edge or 0, and the counts of slots in use and waiting.
 pub struct Progress {
     pub exit: Exit,
     pub edge: EdgeId,
@@ -131,6 +131,7 @@ fn visit(
     arrive(settings, capacity, table, used, next, list, waiting)
 }
 
+// Whether an edge has ended the iteration: none after it is played.
 fn has_ended(exit: Exit) -> bool
     ensures { λ r. ⌜ r ≡ has-ended exit ⌝ }
 {
@@ -389,6 +390,7 @@ pub fn run_core(
     ensures { λ r. ⌜ Loaded width edges r (now (table .exit)) (now (list .exit)) (run (domain-of (now (chart .entry))) (edges-from 0 edges) (min budget (60000 - a .iterations)) (load-of width a (now (table .entry)) (now (list .entry)))) ⌝ }
 {
     let first = encoded::first_edge(chart);
+    // 64 locations and 256 edges at most; the number past the last edge stands for none
     let none = edges + 1;
     let mut heads = [none; 64];
     let mut nexts = [0usize; 256];
@@ -408,6 +410,7 @@ pub fn run_core(
     )
 }
 
+// The verdict of a start: alarm where the initial state is at an error location.
 fn first_verdict(error: bool) -> Verdict
     ensures { λ r. ⌜ r ≡ first-verdict error ⌝ }
 {

@@ -14,7 +14,7 @@ ghost use Rattle.exports.specs.Replies.{reply-of};
 ghost use Rattle.exports.specs.Records.{mode-code, order-code, verdict-code, record-of, mode-in, order-in, verdict-in, settings-in, settings-named, codes-named, analysis-in};
 ghost use Rattle.exports.specs.Calls.{start-by-codes, record-after, Ends-by-codes};
 
-// `semantics::Answer` with the layout of C: 0 and line 0 with the length of a listing, or the refusal's number and line.
+// `semantics::Answer` with the layout of C: 0 and line 0 with a listing's length, or the refusal's number and line.
 #[repr(C)]
 pub struct Reply {
     pub number: u32,
@@ -22,8 +22,8 @@ pub struct Reply {
     pub length: usize,
 }
 
-// `semantics::Analysis` with the layout of C, its settings and verdict as codes: merge and stop 0 sep, 1 join; order 0 old,
-// 1 new; verdict 0 unfinished, 1 safe, 2 alarm, 3 out of room.
+// `semantics::Analysis` with the layout of C, its settings and verdict as codes: merge and stop 0 sep, 1 join; order 0
+// old, 1 new; verdict 0 unfinished, 1 safe, 2 alarm, 3 out of room.
 #[repr(C)]
 pub struct Record {
     pub merge: u32,
@@ -44,6 +44,7 @@ pub struct Called {
     pub record: Record,
 }
 
+// Field by field.
 fn replied(a: semantics::Answer) -> Reply
     ensures { λ r. ⌜ r ≡ reply-of a ⌝ }
 {
@@ -107,7 +108,7 @@ fn record_of(a: Analysis) -> Record
     }
 }
 
-// ---- the record read
+// ---- the record read: a code that names nothing is read as the last that names something
 
 fn mode_in(code: u32) -> Mode
     ensures { λ r. ⌜ r ≡ mode-in code ⌝ }
@@ -155,20 +156,21 @@ fn settings_named(merge: u32, stop: u32, order: u32) -> bool
     (merge < 2) & (stop < 2) & (order < 2)
 }
 
+// Whether each code of the record names something.
 fn codes_named(r: Record) -> bool
     ensures { λ b. ⌜ b ≡ codes-named r ⌝ }
 {
     settings_named(r.merge, r.stop, r.order) & (r.verdict < 4)
 }
 
-// A count that form rule 21 refuses, where a code names nothing.
+// The iterations, or a count that form rule 21 refuses where a code names nothing.
 fn iterations_in(r: Record) -> u32
     ensures { λ n. ⌜ n ≡ analysis-in r .iterations ⌝ }
 {
     if codes_named(r) {
         return r.iterations;
     }
-    60001
+    semantics::MOST_ITERATIONS + 1
 }
 
 fn analysis_in(r: Record) -> Analysis
@@ -238,11 +240,7 @@ pub extern "C" fn tarknotter_start(
 {
     if !settings_named(merge, stop, order) {
         return Called {
-            reply: Reply {
-                number: 6,
-                line: 0,
-                length: 0,
-            },
+            reply: replied(semantics::refused(6, 0)),
             record,
         };
     }

@@ -7,7 +7,7 @@ use native.Mathlib.Nat.{add-zero, zero-mul, suc-mul}
 use native.Mathlib.Numerals.{add-one}
 use native.Mathlib.Omega.{arith}
 use borrow.Author.Tests.{eqb-true, eqb-false}
-use lib.Dec.{T, leb, eqb, leb→le}
+use lib.Dec.{T, eqb, leb→le}
 use lib.IntN.{ℤ, pos, natAbs}
 use lib.ListN.{length, getD, set, take, drop, replicate, getD-replicate, length-set, length-replicate}
 use lib.Seq.{drop-cons, drop-drop, take-all, getD-set-same, getD-set-other}
@@ -18,8 +18,7 @@ use Rattle.semantics.specs.Encoding.{val}
 use Rattle.semantics.specs.Memory.{Memory, width, state-in, states-in, load, analysis-ok}
 use Rattle.semantics.specs.Listing.{loc-text, mark, val-text, slot-text, slots-text, header-text, listing-text}
 use Rattle.semantics.specs.declared.Analysis.{Analysis}
-use Rattle.semantics.proofs.Values.{and-left, and-right}
-use Rattle.semantics.proofs.Reloaded.{states-count}
+use Rattle.semantics.proofs.Reloaded.{form, states-count}
 use Rattle.form.specs.Form.{lent}
 use Rattle.writing.specs.Writing.{Put}
 use Rattle.writing.proofs.Written.{written-long, put-none}
@@ -154,9 +153,4 @@ listing-is c t l a = rw (states-count c (a .used) t)
 
 -- of rule 21, that the counts are in order
 pub counts-in-order : (c : Chart) (m : Memory) → T (analysis-ok c m) → (m .analysis .used ≤ m .analysis .capacity) × (m .analysis .waiting ≤ m .analysis .used)
-unfolding analysis-ok
-counts-in-order c m t =
-    let u = leb (m .analysis .used) (m .analysis .capacity) in
-    let w = leb (m .analysis .waiting) (m .analysis .used) in
-    let r = and-right u _ t in
-    (leb→le _ _ (and-left u _ t), leb→le _ _ (and-left w _ r))
+counts-in-order c m t = let f = form c m t in (leb→le _ _ (f .used), leb→le _ _ (f .waiting))

@@ -1,5 +1,5 @@
-// The listing of an analysis: its text written into lent bytes, and the public call. A piece is written as far as it fits and counted
-// whole, so that one function measures the text and writes it.
+// The listing of an analysis: its text written into lent bytes, and the public call. A piece is written as far as it
+// fits and counted whole, so that one function measures the text and writes it.
 use semantics::Analysis;
 use semantics::Answer;
 use semantics::LocationId;
@@ -107,6 +107,7 @@ fn put_header(out: &mut [u8], a: Analysis) -> usize
 
 // ---- a slot's line
 
+// The name of a location, after its tab.
 fn put_name(out: &mut [u8], at: usize, chart: &[i32], l: LocationId) -> usize
     requires { ⌜ T (well-formed (now chart)) ⌝ }
     ensures { λ r. ⌜ Put at (tabbed (loc-text (decode (now (chart .entry)) .locs) (l .0))) (now (out .entry)) (now (out .exit)) r ⌝ }
@@ -122,6 +123,7 @@ fn put_name(out: &mut [u8], at: usize, chart: &[i32], l: LocationId) -> usize
     place
 }
 
+// A value, or `*` for top, after its tab.
 fn put_value(out: &mut [u8], at: usize, w: i32) -> usize
     ensures { λ r. ⌜ Put at (tabbed (val-text (val w))) (now (out .entry)) (now (out .exit)) r ⌝ }
 {
@@ -132,6 +134,7 @@ fn put_value(out: &mut [u8], at: usize, w: i32) -> usize
     writing::put_signed(out, place, w)
 }
 
+// The values of a row. The empty text before them keeps the place within writing's limit.
 fn put_values(out: &mut [u8], at: usize, values: &[i32]) -> usize
     ensures { λ r. ⌜ Put at (values-text (now (values .entry))) (now (out .entry)) (now (out .exit)) r ⌝ }
 {
@@ -166,6 +169,7 @@ fn mark_waiting(marks: &mut [bool], list: &[i32])
     }
 }
 
+// Whether the slot waits, after its tab.
 fn put_mark(out: &mut [u8], at: usize, waiting: bool) -> usize
     ensures { λ r. ⌜ Put at (tabbed (mark waiting)) (now (out .entry)) (now (out .exit)) r ⌝ }
 {

@@ -19,7 +19,7 @@ use Rattle.semantics.specs.declared.Analysis.{Analysis}
 use Rattle.semantics.specs.declared.Verdict.the-variants.{Open}
 use Rattle.go_line.specs.declared.Go.{Go}
 
--- what a go line asks, without the place of the chart
+-- what a go line asks, as the definitions have it: without the place where the chart begins
 abbrev pub asking : Go → Asking
 asking g = record { settings = g .settings; capacity = g .capacity; budget = g .budget }
 

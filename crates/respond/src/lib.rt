@@ -18,9 +18,13 @@ ghost use Rattle.form.specs.Form.{lent};
 ghost use Rattle.writing.specs.Writing.{Put};
 ghost use Rattle.respond.specs.Responded.{no-analysis, asking, Asked, Lends, Holds, Printed};
 
-const TAB: u8 = 9;
+// The words lent suffice for every chart and every capacity. A chart has three counts, 8 variables of 3 words, 64
+// locations of 17 and 256 edges of 8 at most; a table 256 slots of a location and 8 values; a waitlist 256 slots.
+const CHART_WORDS: usize = 3163;
 
-const LF: u8 = 10;
+const TABLE_WORDS: usize = 2304;
+
+const LIST_WORDS: usize = 256;
 
 // The line of a refusal.
 fn put_refusal(out: &mut [u8], number: u32, line: usize) -> usize
@@ -28,13 +32,12 @@ fn put_refusal(out: &mut [u8], number: u32, line: usize) -> usize
 {
     let first = writing::put_bytes(out, 0, b"refused\t");
     let tab = writing::put_decimal(out, first, number as usize);
-    let second = writing::put_byte(out, tab, TAB);
+    let second = writing::put_byte(out, tab, semantics::TAB);
     let end = writing::put_decimal(out, second, line);
-    writing::put_byte(out, end, LF)
+    writing::put_byte(out, end, semantics::LF)
 }
 
-// A start asks for the record before it. There is none, and a start that goes through does not look at it. So do all
-// calls here: no answer of theirs is looked at but the listing's length.
+// The record before the first start, which a start that goes through does not look at.
 fn no_analysis(settings: Settings) -> Analysis
     ensures { λ r. ⌜ r ≡ no-analysis settings ⌝ }
 {
@@ -49,8 +52,8 @@ fn no_analysis(settings: Settings) -> Analysis
     }
 }
 
-// The start. It goes through: the go line was accepted, and the words lent are enough. So its answer need not be looked at, and so
-// with the run and the listing.
+// The start. It goes through, and so do the run and the listing: the go line was accepted, and the words lent are
+// enough. So no answer of theirs is looked at but the listing's length.
 fn begin(chart: &[i32], go: Go, table: &mut [i32], list: &mut [i32]) -> Analysis
     requires { ⌜ Lends (now chart) (now table) (now list) × Asked go ⌝ }
     ensures { λ r. ⌜ Holds (decode (now (chart .entry))) (started (decode (now (chart .entry))) (go .settings) (go .capacity)) (lent (now (table .exit)) (now (list .exit)) r) ⌝ }
@@ -75,24 +78,24 @@ fn explore(chart: &[i32], go: Go, table: &mut [i32], list: &mut [i32]) -> Analys
     called.analysis
 }
 
-// The listing of an accepted chart. The words lent are those of the largest capacity: 256 slots of a location and 8 values.
+// The listing of an accepted chart.
 fn put_listing(chart: &[i32], go: Go, out: &mut [u8]) -> usize
     requires { ⌜ T (well-formed (now chart)) × (length (now out) ≡ 24576) × Asked go ⌝ }
     ensures { λ r. ⌜ Printed (listing-text (decode (now (chart .entry))) (explored (decode (now (chart .entry))) (asking go))) (now (out .entry)) (now (out .exit)) r ⌝ }
 {
-    let mut table = [0i32; 2304];
-    let mut list = [0i32; 256];
+    let mut table = [0i32; TABLE_WORDS];
+    let mut list = [0i32; LIST_WORDS];
     let a = explore(chart, go, &mut table, &mut list);
     let answer = listing::listing(chart, a, &table, &list, out);
     answer.length
 }
 
-// The chart's refusal, or its listing. The words lent are those of the largest chart.
+// The chart's refusal, or its listing.
 fn put_chart(chart: &[u8], go: Go, out: &mut [u8]) -> usize
     requires { ⌜ (length (now out) ≡ 24576) × Asked go ⌝ }
     ensures { λ r. ⌜ Printed (print-read (asking go) (read (now (chart .entry)))) (now (out .entry)) (now (out .exit)) r ⌝ }
 {
-    let mut words = [0i32; 3163];
+    let mut words = [0i32; CHART_WORDS];
     let answer = reader::read(chart, &mut words);
     if answer.number != 0 {
         return put_refusal(out, answer.number, answer.line);
@@ -101,7 +104,7 @@ fn put_chart(chart: &[u8], go: Go, out: &mut [u8]) -> usize
 }
 
 // What the program prints for an input: its bytes at the front of those lent, and how many they are.
-pub fn respond(input: &[u8], out: &mut [u8; 24576]) -> usize
+pub fn respond(input: &[u8], out: &mut [u8; semantics::LISTING_BYTES]) -> usize
     ensures { λ r. ⌜ r ≡ length (output (now (input .entry))) ⌝ }
     ensures { λ _. ⌜ now (out .exit) ≡ output (now (input .entry)) ++ drop (length (output (now (input .entry)))) (now (out .entry)) ⌝ }
 {

@@ -14,14 +14,14 @@ use Rattle.semantics.specs.Chart.{Value, known, top, Var, Loc, Chart, wi
 use Rattle.semantics.specs.Algorithm.{Mode, Sep, Order, Old, New, Verdict, Open, Safe, Alarm, Full, Exploration, Join}
 use Rattle.semantics.specs.Constants.{AbstractState}
 use Rattle.semantics.specs.Encoding.{var-ok}
-use Rattle.semantics.specs.Memory.{Memory, load, capacity-ok, form-tests, analysis-ok}
+use Rattle.semantics.specs.Memory.{Memory, load, capacity-ok, analysis-ok}
 use Rattle.semantics.specs.Outcomes.{text-of}
 use Rattle.semantics.specs.Listing.{mode-text, order-text, verdict-text, loc-text, val-text, mark, slot-text, slots-text, listing-text}
 use Rattle.semantics.specs.Coverage.{Every}
 use Rattle.semantics.proofs.Values.{and-left, and-right}
 use Rattle.semantics.proofs.Stored.{both-true, Good}
 use Rattle.semantics.proofs.StatesOk.{ValOk, ValsOk, StateOk, Bounds}
-use Rattle.semantics.proofs.Reloaded.{all-each, states-count, rows-states}
+use Rattle.semantics.proofs.Reloaded.{form, states-count, rows-states}
 use Rattle.semantics.proofs.Rendered.{size, dec-short, decZ-short}
 
 pub line-size : (f : List ℕ) (gs : List (List ℕ)) → length (line-of f gs) ≡ size (f ∷ gs)
@@ -75,14 +75,13 @@ verdict-short Safe = omega arith
 verdict-short Alarm = omega arith
 verdict-short Full = omega arith
 
-few-slots : (n : ℕ) → T (capacity-ok (pos n)) → n ≤ 256
+pub few-slots : (n : ℕ) → T (capacity-ok (pos n)) → n ≤ 256
 few-slots n t = leb→le n 256 (and-right (leb 1 n) (leb n 256) t)
 
 pub few-used : (c : Chart) (m : Memory) → T (analysis-ok c m) → m .analysis .used ≤ 256
-unfolding analysis-ok
 few-used c m t =
-    let h = all-each (form-tests c m) t in
-    omega (arith, leb→le (m .analysis .used) (m .analysis .capacity) (h .0), few-slots (m .analysis .capacity) (h .1 .1 .1 .1 .1 .1 .1 .1 .1 .1 .0))
+    let f = form c m t in
+    omega (arith, leb→le (m .analysis .used) (m .analysis .capacity) (f .used), few-slots (m .analysis .capacity) (f .capacity))
 
 module _ (c : Chart) (b : Bounds c) where
   slot-short : (s : ℕ) (e : AbstractState) (waits : Bool) → s ≤ 256 → StateOk c e → length (slot-text c s e waits) ≤ 82
@@ -130,13 +129,12 @@ module _ (c : Chart) (b : Bounds c) where
 
   -- and of any analysis in form, whoever made it
   pub text-short : (m : Memory) → T (analysis-ok c m) → length (text-of c m) ≤ 24576
-  unfolding load analysis-ok
+  unfolding load
   text-short m t =
       let r = m .analysis in
-      let h = all-each (form-tests c m) t in
-      let i = h .1 .1 .1 .1 .1 .1 .1 in
+      let f = form c m t in
       listing-fits (load c m)
       (omega (arith, states-count c (r .used) (m .table), few-used c m t))
-      (leb→le (r .iterations) 60000 (i .0))
-      (leb→le (r .edge .0) (length (c .edges)) (i .1 .0))
-      (rows-states c (r .used) (m .table) (h .1 .1 .0))
+      (leb→le (r .iterations) 60000 (f .iterations))
+      (leb→le (r .edge .0) (length (c .edges)) (f .edge))
+      (rows-states c (r .used) (m .table) (f .rows))

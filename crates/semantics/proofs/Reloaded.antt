@@ -6,24 +6,63 @@ use mathlib.Core.List.{List, [], _∷_, _++_, map}
 use Prim.Native.Nat.{ℕ, zero, suc, _+_, _-_, _*_, _≤_}
 use native.Mathlib.Nat.{mul-le-mul-right}
 use native.Mathlib.Omega.{arith}
-use lib.Dec.{T, ltb, leb→le, ltb→lt}
+use lib.Dec.{T, ltb, leb, eqb, leb→le, ltb→lt}
 use lib.ListN.{length, take, drop, replicate, take-append-drop, length-drop, length-map}
 use lib.Seq.{length-take-le, take-take, take-add}
 use lib.IntN.{ℤ, pos, natAbs}
 use lib.Signed.{nonNeg, pos-natAbs}
 use Rattle.semantics.specs.Lists.{each, all, all-of, all-pairs}
 use Rattle.semantics.specs.Chart.{Var, Chart, eqZ, within}
+use Rattle.semantics.specs.Algorithm.{allowed}
 use Rattle.semantics.specs.Coverage.{Every}
 use Rattle.semantics.specs.Encoding.{word, val, val-if, padded}
-use Rattle.semantics.specs.Memory.{value-ok, Memory, width, row, table-of, waitlist-of, state-in, states-in, load, below, row-ok, rows-ok, zeros, form-tests, analysis-ok}
+use Rattle.semantics.specs.Memory.{value-ok, Memory, width, row, table-of, waitlist-of, state-in, states-in, load, below, row-ok, rows-ok, each-once, zeros, is-alarm, empty-if-safe, capacity-ok, form-tests, analysis-ok}
 use Rattle.semantics.specs.Outcomes.{put-in}
 use Rattle.semantics.proofs.ListFacts.{from-true}
 use Rattle.semantics.proofs.Values.{and-left, and-right, eqZ-same}
 use Rattle.semantics.proofs.StatesOk.{ValOk, ValsOk, StateOk}
 
-pub all-each : (bs : List Bool) → T (all-of bs) → Every (λ b. T b) bs
+all-each : (bs : List Bool) → T (all-of bs) → Every (λ b. T b) bs
 all-each [] t = tt
 all-each (b ∷ bs) t = (and-left b (all-of bs) t, all-each bs (and-right b (all-of bs) t))
+
+-- ---- the tests of rule 21, by name
+
+pub record Form (c : Chart) (m : Memory) : Type 0 where
+  pub used : T (leb (m .analysis .used) (m .analysis .capacity))
+  pub waiting : T (leb (m .analysis .waiting) (m .analysis .used))
+  pub rows : T (rows-ok c (m .analysis .used) (m .table))
+  pub slots : T (all (below (m .analysis .used)) (take (m .analysis .waiting) (m .waitlist)))
+  pub once : T (each-once (take (m .analysis .waiting) (m .waitlist)))
+  pub rest : T (zeros (drop (m .analysis .used * width c) (take (m .analysis .capacity * width c) (m .table))))
+  pub free : T (zeros (drop (m .analysis .waiting) (take (m .analysis .capacity) (m .waitlist))))
+  pub iterations : T (leb (m .analysis .iterations) 60000)
+  pub edge : T (leb (m .analysis .edge .0) (length (c .edges)))
+  pub alarm : T (eqb (m .analysis .edge .0) 0 || is-alarm (m .analysis .verdict))
+  pub capacity : T (capacity-ok (pos (m .analysis .capacity)))
+  pub settings : T (allowed (m .analysis .settings .merge) (m .analysis .settings .stop))
+  pub verdict : T (empty-if-safe (m .analysis .verdict) (m .analysis .waiting))
+
+pub form : (c : Chart) (m : Memory) → T (analysis-ok c m) → Form c m
+unfolding analysis-ok
+form c m t =
+    let h = all-each (form-tests c m) t in
+    let i = h .1 .1 .1 .1 .1 .1 in
+    record {
+      used = h .0;
+      waiting = h .1 .0;
+      rows = h .1 .1 .0;
+      slots = h .1 .1 .1 .0;
+      once = h .1 .1 .1 .1 .0;
+      rest = h .1 .1 .1 .1 .1 .0;
+      free = i .0;
+      iterations = i .1 .0;
+      edge = i .1 .1 .0;
+      alarm = i .1 .1 .1 .0;
+      capacity = i .1 .1 .1 .1 .0;
+      settings = i .1 .1 .1 .1 .1 .0;
+      verdict = i .1 .1 .1 .1 .1 .1 .0;
+    }
 
 -- ---- one row
 
@@ -110,20 +149,20 @@ module _ (c : Chart) where
 
   -- storing what was loaded changes nothing
   pub put-load : (m : Memory) → m .analysis .capacity * width c ≤ length (m .table) → m .analysis .capacity ≤ length (m .waitlist) → T (analysis-ok c m) → put-in c (load c m) m ≡ m
-  unfolding load analysis-ok
+  unfolding load
   put-load m lt ll t =
       let r = m .analysis in
-      let h = all-each (form-tests c m) t in
-      let used = leb→le (r .used) (r .capacity) (h .0) in
-      let waits = leb→le (r .waiting) (r .used) (h .1 .0) in
+      let f = form c m t in
+      let used = leb→le (r .used) (r .capacity) (f .used) in
+      let waits = leb→le (r .waiting) (r .used) (f .waiting) in
       let k = width c in
       let ne : length (states-in k (r .used) (m .table)) ≡ r .used = states-count (r .used) (m .table) in
       let tw : length (take (r .waiting) (m .waitlist)) ≡ r .waiting = length-take-le (r .waiting) (m .waitlist) (omega arith) in
       let nw : length (map natAbs (take (r .waiting) (m .waitlist))) ≡ r .waiting = length-map (take (r .waiting) (m .waitlist)) natAbs ∙ tw in
       let p : table-of c (load c m) ≡ take (r .capacity * k) (m .table) =
-      ap (padded (r .capacity * k)) (rows-back (r .used) (m .table) (h .1 .1 .0)) ∙ padded-back (r .capacity * k) (r .used * k) (m .table) (mul-le-mul-right k used) lt (h .1 .1 .1 .1 .1 .0) in
+      ap (padded (r .capacity * k)) (rows-back (r .used) (m .table) (f .rows)) ∙ padded-back (r .capacity * k) (r .used * k) (m .table) (mul-le-mul-right k used) lt (f .rest) in
       let q : waitlist-of (load c m) ≡ take (r .capacity) (m .waitlist) =
-      ap (padded (r .capacity)) (slots-back (r .used) (take (r .waiting) (m .waitlist)) (h .1 .1 .1 .0)) ∙ padded-back (r .capacity) (r .waiting) (m .waitlist) (omega arith) ll (h .1 .1 .1 .1 .1 .1 .0) in
+      ap (padded (r .capacity)) (slots-back (r .used) (take (r .waiting) (m .waitlist)) (f .slots)) ∙ padded-back (r .capacity) (r .waiting) (m .waitlist) (omega arith) ll (f .free) in
       let pt = ap (λ (x : List ℤ). x ++ drop (r .capacity * k) (m .table)) p ∙ take-append-drop (r .capacity * k) (m .table) in
       let pl = ap (λ (x : List ℤ). x ++ drop (r .capacity) (m .waitlist)) q ∙ take-append-drop (r .capacity) (m .waitlist) in
       λ i. record { table = pt i; waitlist = pl i; analysis = record { settings = r .settings; capacity = r .capacity; iterations = r .iterations; used = ne i; waiting = nw i; verdict = r .verdict; edge = r .edge } }

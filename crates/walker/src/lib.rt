@@ -1,4 +1,4 @@
-// The public calls start and run. Each judges all that it is given in document 01's order; a refused call has written nothing.
+// The public calls start and run. Each judges all it is given in document 01's order; a refused call writes nothing.
 use semantics::Analysis;
 use semantics::Answer;
 use semantics::Settings;

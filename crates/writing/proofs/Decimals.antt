@@ -5,7 +5,6 @@ use mathlib.Core.List.{List, [], _∷_, _++_, append-assoc}
 use Prim.Native.Nat.{ℕ, zero, suc, _+_, _/_, _%_, _≤_, _<_}
 use native.Mathlib.Omega.{arith}
 use lib.Dec.{T, ltb}
-use lib.ListN.{length, length-append}
 use lib.IntN.{ℤ, pos, negsuc, natAbs}
 use lib.Signed.{ltZ}
 use borrow.Author.Tests.{lt-ltb, le-ltb, ltb-true, ltb-false}
@@ -51,10 +50,6 @@ decimal-more zero h = absurd (omega arith)
 decimal-more (suc n) h =
     ap (λ (t : Bool). digits-if t n (suc n) []) (le-ltb (suc n) 10 h) ∙ digits-front n (suc n / 10) (last (suc n) ∷ [])
     ∙ ap (λ (l : List ℕ). l ++ (last (suc n) ∷ [])) (digits-enough n (suc n / 10) (suc n / 10) [] (omega arith) (omega arith))
-
--- one digit less
-pub decimal-shorter : (n : ℕ) → 10 ≤ n → length (decimal n) ≡ length (decimal (n / 10)) + 1
-decimal-shorter n h = ap length (decimal-more n h) ∙ length-append (decimal (n / 10)) (last n ∷ [])
 
 -- a number with its sign
 pub decimalZ-below : (z : ℤ) → ltZ z (pos 0) ≡ true → decimalZ z ≡ 45 ∷ decimal (natAbs z)

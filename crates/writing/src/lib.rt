@@ -1,5 +1,6 @@
-// Writing bytes, numbers and names into lent bytes. A function answers the place after what it wrote. What lies past the end of the
-// bytes lent is counted and not written, so that one function tells how long a text is and writes it, and none asks that it fits.
+// Writing bytes and numbers into lent bytes. A function answers the place after what it wrote. What lies past the end
+// of the bytes lent is counted and not written, so that one function tells how long a text is and writes it, and none
+// asks that it fits.
 ghost use mathlib.Core.Path.{_≡_};
 ghost use mathlib.Core.List.{[], _∷_};
 ghost use Prim.Native.Nat.{_+_, _%_, min};
@@ -9,6 +10,7 @@ ghost use Rattle.writing.specs.Writing.{Put, limit};
 // No slice is this long: counting stops here, so that no place wraps.
 const LIMIT: usize = 9_223_372_036_854_775_808;
 
+// A place, the limit at most.
 fn cut(at: usize) -> usize
     ensures { λ r. ⌜ r ≡ min at limit ⌝ }
 {
@@ -18,6 +20,7 @@ fn cut(at: usize) -> usize
     LIMIT
 }
 
+// The place after it, the limit at most.
 fn next(at: usize) -> usize
     ensures { λ r. ⌜ r ≡ min (at + 1) limit ⌝ }
 {
@@ -66,6 +69,7 @@ pub fn put_decimal(out: &mut [u8], at: usize, n: usize) -> usize
     put_byte(out, place, last_digit(n))
 }
 
+// A number with its sign: `-`, or none.
 pub fn put_signed(out: &mut [u8], at: usize, z: i32) -> usize
     ensures { λ r. ⌜ Put at (decimalZ z) (now (out .entry)) (now (out .exit)) r ⌝ }
 {

@@ -2,7 +2,7 @@
 use mathlib.Core.Path.{_≡_, refl, sym, _∙_}
 use mathlib.Core.Bool.{true, false}
 use mathlib.Core.List.{List, [], _∷_, _++_}
-use Prim.Native.Nat.{ℕ, _+_, _-_, _≤_, _<_}
+use Prim.Native.Nat.{ℕ, _+_, _≤_, _<_}
 use native.Mathlib.Omega.{arith}
 use borrow.Author.Needs.{needs}
 use lib.IntN.{ℤ}
@@ -11,7 +11,7 @@ use Rattle.semantics.specs.Algorithm.{on, full, arrive}
 use Rattle.semantics.proofs.Tidy.{queue-few}
 use Rattle.rows.specs.Rows.{rows-of}
 use Rattle.waitlist.specs.Waits.{waits}
-use Rattle.waitlist.proofs.Laws.{held, kept}
+use Rattle.waitlist.proofs.Laws.{held}
 use Rattle.reached.specs.Reached.{Kept}
 use Rattle.reached.proofs.Table.{rows-length, rows-sized, rows-stored}
 use Rattle.reached.proofs.Forms.{in-table, next-row, kept-stored}

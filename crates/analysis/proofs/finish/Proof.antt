@@ -1,6 +1,5 @@
 -- `analysis::finish` meets its contract. Assumes nothing.
 use mathlib.Core.Path.{refl}
-use Prim.Native.Nat.{_-_}
 use native.Mathlib.Numerals.{add-one}
 use borrow.Author.Needs.{needs}
 use Rattle.waitlist.specs.Waits.{waits}

@@ -11,7 +11,6 @@ use Rattle.semantics.proofs.Tidy.{more}
 use Rattle.words.proofs.Rows.{row-in}
 use Rattle.rows.specs.Rows.{rows-of}
 use Rattle.waitlist.specs.Waits.{waits, TakenFrom}
-use Rattle.waitlist.proofs.Laws.{kept}
 use Rattle.reached.specs.Reached.{Kept}
 use Rattle.reached.proofs.Forms.{in-table}
 use Rattle.transfer.specs.Transfer.{edges-from}

@@ -12,7 +12,6 @@ use Rattle.semantics.specs.Algorithm.{Out, then, visit, leave}
 use Rattle.semantics.specs.Encoding.{count}
 use Rattle.rows.specs.Rows.{rows-of}
 use Rattle.waitlist.specs.Waits.{waits}
-use Rattle.waitlist.proofs.Laws.{kept}
 use Rattle.reached.specs.Reached.{Kept}
 use Rattle.transfer.specs.Transfer.{edge-at, post-at, post-words, edges-from}
 use Rattle.leaving.specs.Chains.{from-at}

@@ -4,8 +4,7 @@ use Prim.Native.Nat.{suc, _+_, _-_, _≤_}
 use native.Mathlib.Omega.{arith}
 use borrow.Author.Needs.{needs}
 use lib.ListN.{length}
-use Rattle.semantics.specs.Algorithm.{iteration, run}
-use Rattle.waitlist.proofs.Laws.{held, kept}
+use Rattle.semantics.specs.Algorithm.{run}
 use Rattle.transfer.specs.Transfer.{edges-from}
 use Rattle.analysis.specs.Loaded.{domain-of, load-of, Held}
 use Rattle.analysis.proofs.Iterations.{run-closed, run-open, run-none, open-waits}

@@ -1,12 +1,11 @@
 -- `analysis::start_core` meets its contract. Assumes nothing.
 use mathlib.Core.Path.{refl, sym, ap, _∙_}
 use mathlib.Core.List.{List}
-use Prim.Native.Nat.{ℕ, _-_}
+use Prim.Native.Nat.{ℕ}
 use native.Mathlib.Omega.{arith}
 use borrow.Author.Needs.{needs}
 use lib.IntN.{ℤ, pos}
 use lib.ListN.{length, replicate}
-use Rattle.waitlist.proofs.Laws.{kept}
 use Rattle.reached.specs.Reached.{Kept}
 use Rattle.reached.proofs.Forms.{empty-kept, next-row}
 use Rattle.analysis.proofs.Begin.{begun}

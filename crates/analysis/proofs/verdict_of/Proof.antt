@@ -1,5 +1,4 @@
 -- `analysis::verdict_of` meets its contract. Assumes nothing.
-use Prim.Native.Nat.{_-_}
 use native.Mathlib.Omega.{arith}
 use Rattle.analysis.proofs.Iterations.{none-safe, some-open}
 use Rattle.analysis.proofs.verdict_of.Statement.{statement}

@@ -1,12 +1,10 @@
 -- `analysis::visit` meets its contract. Assumes nothing.
 use mathlib.Core.Path.{_≡_, sym, _∙_}
 use mathlib.Core.Bool.{true, false}
-use Prim.Native.Nat.{_-_}
 use borrow.Author.Needs.{needs}
 use borrow.Author.Tests.{not-true, not-false}
 use lib.ListN.{length}
-use Rattle.semantics.specs.Algorithm.{halt, to, arrive}
-use Rattle.waitlist.proofs.Laws.{kept}
+use Rattle.semantics.specs.Algorithm.{halt, to}
 use Rattle.transfer.specs.Transfer.{post-at, error-row}
 use Rattle.analysis.proofs.visit.Statement.{statement}
 use Rattle.analysis.proofs.visit.Tie as tie

@@ -13,4 +13,4 @@ returns-2 : tie.Need-returns-2
 returns-2 c = ap (λ (b : Bool). pick b (c .before .before .args .r .iterations) 60001) (sym (c .if1 .left) ∙ c .before .codes-named .ensures)
 
 pub iterations-in-spec : {M : Type 1} → statement M
-iterations-in-spec = tie.close (tie.spec (λ c κs. search needs) returns returns-2)
+iterations-in-spec = tie.close (tie.spec (λ c κs. search needs) returns (λ c. search needs) returns-2)

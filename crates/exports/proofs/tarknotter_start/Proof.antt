@@ -17,9 +17,12 @@ memory s = lent (now (s .args .table)) (now (s .args .list)) (analysis-in (s .ar
 
 returns : tie.Need-returns
 returns c =
-    let s = c .before .before in
-    start-unnamed (now (s .args .chart)) (s .args .merge) (s .args .stop) (s .args .order) (s .args .capacity) (memory s) (s .args .«record»)
-    (sym (c .before .settings-named .ensures) ∙ not-true (c .before .settings-named .result) (c .if1 .taken))
+    let i = c .before .before in
+    let n = i .before .settings-named in
+    let s = i .before .before in
+    rw (c .replied .ensures, c .before .refused .ensures)
+    (start-unnamed (now (s .args .chart)) (s .args .merge) (s .args .stop) (s .args .order) (s .args .capacity) (memory s) (s .args .«record»)
+    (sym (n .ensures) ∙ not-true (n .result) (i .if1 .taken)))
 
 returns-2 : tie.Need-returns-2
 returns-2 c =
@@ -38,6 +41,8 @@ pub tarknotter-start-spec : {M : Type 1} → statement M
 tarknotter-start-spec =
     tie.close
     (tie.spec
+    (λ c κs. search needs)
+    (λ c κs. search needs)
     (λ c κs. search needs)
     returns
     (λ c κs. search needs)

@@ -1,15 +1,17 @@
 -- `walker::run_refusal` meets its contract: each test that passed leaves the rest of the list. Assumes nothing.
 use mathlib.Core.Path.{_≡_, refl, sym, ap, _∙_}
-use mathlib.Core.Bool.{true, false}
+use mathlib.Core.Bool.{Bool, true, false}
+use mathlib.Core.List.{[], _∷_}
 use borrow.Author.Needs.{needs}
 use borrow.Author.Tests.{not-true, not-false, eq-eqb, ne-eqb}
 use denote.Ref.{now}
+use lib.Dec.{eqb}
 use lib.ListN.{length}
 use mir.Syntax.{w32}
 use mir.ValLaws.{toZ-ofZ}
 use Rattle.semantics.specs.Encoding.{decode, well-formed}
 use Rattle.semantics.specs.Memory.{analysis-ok}
-use Rattle.semantics.specs.Outcomes.{short, budget-ok, has-verdict}
+use Rattle.semantics.specs.Outcomes.{case, refusal, short, budget-ok, has-verdict, run-cases}
 use Rattle.form.specs.Form.{lent}
 use Rattle.form.proofs.Facts.{enough}
 use Rattle.walker.proofs.run_refusal.Statement.{statement}
@@ -69,29 +71,24 @@ returns-5 c =
       sym (c .before .has-verdict .ensures) ∙ c .if5 .taken,
     ) refl
 
-returns-6 : tie.Need-returns-6
-returns-6 c =
-    let o = c .before .before in
+-- 23 or none, by the last test
+last : {t : Bool} (c : tie.Else5) → let s = c .before .before .before .before .before .before .before .before .before .before .args in eqb (s .a .iterations) 60000 ≡ t
+    → refusal (case 23 t ∷ []) ≡ refusal (run-cases (now (s .chart)) (s .budget) (lent (now (s .table)) (now (s .list)) (s .a)))
+last c e =
     rw (
-      budget-passed (o .before .before .before .before .before .before .before .before),
-      chart-passed (o .before .before .before .before .before .before),
-      lent-enough (o .before .before .before .before),
-      form-passed (o .before .before),
-      still-open o,
-      eq-eqb (o .before .before .before .before .before .before .before .before .before .before .args .a .iterations) 60000 (c .if6 .taken),
+      budget-passed (c .before .before .before .before .before .before .before .before),
+      chart-passed (c .before .before .before .before .before .before),
+      lent-enough (c .before .before .before .before),
+      form-passed (c .before .before),
+      still-open c,
+      e,
     ) refl
 
+returns-6 : tie.Need-returns-6
+returns-6 c = last (c .before .before) (eq-eqb _ 60000 (c .if6 .taken))
+
 returns-7 : tie.Need-returns-7
-returns-7 c =
-    let o = c .before .before in
-    rw (
-      budget-passed (o .before .before .before .before .before .before .before .before),
-      chart-passed (o .before .before .before .before .before .before),
-      lent-enough (o .before .before .before .before),
-      form-passed (o .before .before),
-      still-open o,
-      ne-eqb (o .before .before .before .before .before .before .before .before .before .before .args .a .iterations) 60000 (c .if6 .left),
-    ) refl
+returns-7 c = last (c .before .before) (ne-eqb _ 60000 (c .if6 .left))
 
 pub run-refusal-spec : {M : Type 1} → statement M
 run-refusal-spec =

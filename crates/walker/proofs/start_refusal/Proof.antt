@@ -1,6 +1,7 @@
 -- `walker::start_refusal` meets its contract: each test that passed leaves the rest of the list. Assumes nothing.
 use mathlib.Core.Path.{_≡_, refl, sym, ap, _∙_}
-use mathlib.Core.Bool.{true}
+use mathlib.Core.Bool.{Bool, true}
+use mathlib.Core.List.{[], _∷_}
 use native.Mathlib.Omega.{arith}
 use borrow.Author.Needs.{needs}
 use borrow.Author.Tests.{not-true, not-false}
@@ -10,6 +11,7 @@ use mir.ValLaws.{toZ-ofZ}
 use Rattle.semantics.specs.Algorithm.{allowed}
 use Rattle.semantics.specs.Encoding.{well-formed}
 use Rattle.semantics.specs.Memory.{capacity-ok}
+use Rattle.semantics.specs.Outcomes.{case, refusal, start-cases}
 use Rattle.semantics.proofs.ListFacts.{from-true}
 use Rattle.walker.proofs.Sized.{counted}
 use Rattle.walker.proofs.start_refusal.Statement.{statement}
@@ -43,27 +45,24 @@ cast-is-short c =
     let k = counted (s .args .capacity) (from-true (capacity-passed (c .before .before .before .before))) in
     rw (toZ-ofZ w32 (s .args .capacity) (s .fits .capacity)) (k .sign, omega (arith, k .few))
 
-returns-4 : tie.Need-returns-4
-returns-4 c =
-    let s = c .before .before .before .before .before .before .before .before in
+-- 14 or none, by the last test
+last : {t : Bool} (c : tie.After-is-short) → let s = c .before .before .before .before .before .before .before .args in c .is-short .result ≡ t
+    → refusal (case 14 t ∷ []) ≡ refusal (start-cases (now (s .chart)) (s .settings) (s .capacity) (s .table) (s .list))
+last c e =
+    let s = c .before .before .before .before .before .before .before in
     rw (
-      capacity-passed (c .before .before .before .before .before .before),
-      settings-passed (c .before .before .before .before),
-      chart-passed (c .before .before),
+      capacity-passed (c .before .before .before .before .before),
+      settings-passed (c .before .before .before),
+      chart-passed (c .before),
       ← toZ-ofZ w32 (s .args .capacity) (s .fits .capacity),
-      sym (c .before .is-short .ensures) ∙ c .if4 .taken,
+      sym (c .is-short .ensures) ∙ e,
     ) refl
 
+returns-4 : tie.Need-returns-4
+returns-4 c = last (c .before) (c .if4 .taken)
+
 returns-5 : tie.Need-returns-5
-returns-5 c =
-    let s = c .before .before .before .before .before .before .before .before in
-    rw (
-      capacity-passed (c .before .before .before .before .before .before),
-      settings-passed (c .before .before .before .before),
-      chart-passed (c .before .before),
-      ← toZ-ofZ w32 (s .args .capacity) (s .fits .capacity),
-      sym (c .before .is-short .ensures) ∙ c .if4 .left,
-    ) refl
+returns-5 c = last (c .before) (c .if4 .left)
 
 pub start-refusal-spec : {M : Type 1} → statement M
 start-refusal-spec =

@@ -6,7 +6,6 @@ use borrow.Author.Needs.{needs}
 use denote.Ref.{now}
 use lib.ListN.{length}
 use lib.Seq.{length-take-le}
-use Rattle.semantics.specs.Memory.{width}
 use Rattle.form.specs.Form.{lent}
 use Rattle.analysis.proofs.Stores.{start-leaves}
 use Rattle.walker.proofs.Sized.{width-is, thin, words-fit}

@@ -16,131 +16,47 @@ use Rattle.writing.proofs.put_byte.Reads as put-byte-reads
 use Rattle.writing.proofs.+put_decimal.{statement}
 use Rattle.writing.proofs.+put_decimal.Tie.{close}
 
-abbrev μ-put-decimal : Measures 1 put-decimal-kinds.ps ℕ
-μ-put-decimal κs a = a .1 .1 .0
+abbrev μ : Measures 1 put-decimal-kinds.ps ℕ
+μ κs a = a .1 .1 .0
 
-abbrev put-decimal-at : ℕ → In 1 put-decimal-kinds.ps
-put-decimal-at t =
-    and 1 put-decimal-kinds.ps (is 1 put-decimal-kinds.ps μ-put-decimal t) put-decimal.Pre
+-- a call at the measure t
+abbrev here : ℕ → In 1 put-decimal-kinds.ps
+here t = and 1 put-decimal-kinds.ps (is 1 put-decimal-kinds.ps μ t) put-decimal.Pre
 
-abbrev put-decimal-below : ℕ → In 1 put-decimal-kinds.ps
-put-decimal-below t =
-    and 1 put-decimal-kinds.ps (falls 1 put-decimal-kinds.ps _<_ μ-put-decimal t) put-decimal.Pre
-
-put-decimal-last-digit-requires : (t : ℕ) → put-decimal-lts.Need-last-digit-requires (
+-- what is cited: of `put_decimal`, calls below t
+abbrev cited : ℕ → put-decimal-lts.Claims
+cited t = (
   last-digit-reads.Asked,
   last-digit-reads.Learnt,
   put-byte-reads.Asked,
   put-byte-reads.Learnt,
-  put-decimal-below t,
+  and 1 put-decimal-kinds.ps (falls 1 put-decimal-kinds.ps _<_ μ t) put-decimal.Pre,
   put-decimal.Post,
-) (put-decimal-at t) put-decimal.Post
-put-decimal-last-digit-requires t c κs = search needs
+)
 
-put-decimal-put-byte-requires : (t : ℕ) → put-decimal-lts.Need-put-byte-requires (
-  last-digit-reads.Asked,
-  last-digit-reads.Learnt,
-  put-byte-reads.Asked,
-  put-byte-reads.Learnt,
-  put-decimal-below t,
-  put-decimal.Post,
-) (put-decimal-at t) put-decimal.Post
-put-decimal-put-byte-requires t c κs = search needs
-
-put-decimal-same-length : (t : ℕ) → put-decimal-lts.Need-same-length (
-  last-digit-reads.Asked,
-  last-digit-reads.Learnt,
-  put-byte-reads.Asked,
-  put-byte-reads.Learnt,
-  put-decimal-below t,
-  put-decimal.Post,
-) (put-decimal-at t) put-decimal.Post
-put-decimal-same-length t c = search needs
-
-put-decimal-returns : (t : ℕ) → put-decimal-lts.Need-returns (
-  last-digit-reads.Asked,
-  last-digit-reads.Learnt,
-  put-byte-reads.Asked,
-  put-byte-reads.Learnt,
-  put-decimal-below t,
-  put-decimal.Post,
-) (put-decimal-at t) put-decimal.Post
-put-decimal-returns t c =
+returns : (t : ℕ) → put-decimal-lts.Need-returns (cited t) (here t) put-decimal.Post
+returns t c =
     let s = c .before .before .before .before .before .before .before in
     put-same (ap (λ (d : ℕ). d ∷ []) (c .before .before .before .last-digit .ensures) ∙ sym (decimal-one (s .args .n) (c .before .before .before .before .before .if1 .taken))) (c .before .before .put-byte .ensures)
 
-put-decimal-put-decimal-requires : (t : ℕ) → put-decimal-lts.Need-put-decimal-requires (
-  last-digit-reads.Asked,
-  last-digit-reads.Learnt,
-  put-byte-reads.Asked,
-  put-byte-reads.Learnt,
-  put-decimal-below t,
-  put-decimal.Post,
-) (put-decimal-at t) put-decimal.Post
-put-decimal-put-decimal-requires t c κs =
-    let s = c .before .before .before in
-    (omega (arith, s .pre .0, c .before .if1 .left), tt)
+put-decimal-requires : (t : ℕ) → put-decimal-lts.Need-put-decimal-requires (cited t) (here t) put-decimal.Post
+put-decimal-requires t c κs = (omega (arith, c .before .before .before .pre .0, c .before .if1 .left), tt)
 
-put-decimal-last-digit-requires-2 : (t : ℕ) → put-decimal-lts.Need-last-digit-requires-2 (
-  last-digit-reads.Asked,
-  last-digit-reads.Learnt,
-  put-byte-reads.Asked,
-  put-byte-reads.Learnt,
-  put-decimal-below t,
-  put-decimal.Post,
-) (put-decimal-at t) put-decimal.Post
-put-decimal-last-digit-requires-2 t c κs = search needs
-
-put-decimal-put-byte-requires-2 : (t : ℕ) → put-decimal-lts.Need-put-byte-requires-2 (
-  last-digit-reads.Asked,
-  last-digit-reads.Learnt,
-  put-byte-reads.Asked,
-  put-byte-reads.Learnt,
-  put-decimal-below t,
-  put-decimal.Post,
-) (put-decimal-at t) put-decimal.Post
-put-decimal-put-byte-requires-2 t c κs = search needs
-
-put-decimal-same-length-2 : (t : ℕ) → put-decimal-lts.Need-same-length-2 (
-  last-digit-reads.Asked,
-  last-digit-reads.Learnt,
-  put-byte-reads.Asked,
-  put-byte-reads.Learnt,
-  put-decimal-below t,
-  put-decimal.Post,
-) (put-decimal-at t) put-decimal.Post
-put-decimal-same-length-2 t c = search needs
-
-put-decimal-returns-2 : (t : ℕ) → put-decimal-lts.Need-returns-2 (
-  last-digit-reads.Asked,
-  last-digit-reads.Learnt,
-  put-byte-reads.Asked,
-  put-byte-reads.Learnt,
-  put-decimal-below t,
-  put-decimal.Post,
-) (put-decimal-at t) put-decimal.Post
-put-decimal-returns-2 t c =
+returns-2 : (t : ℕ) → put-decimal-lts.Need-returns-2 (cited t) (here t) put-decimal.Post
+returns-2 t c =
     let s = c .before .before .before .before .before .before .before .before .before .before .before in
     let d = put-same (ap (λ (k : ℕ). k ∷ []) (c .before .before .before .last-digit2 .ensures)) (c .before .before .put-byte2 .ensures) in
     put-same (sym (decimal-more (s .args .n) (c .before .before .before .before .before .before .before .before .before .if1 .left))) (put-then (c .before .before .before .before .before .before .before .put-decimal .ensures) d)
 
 pub +put-decimal-spec : {M : Type 1} → statement M
-+put-decimal-spec = close μ-put-decimal λ t. put-decimal-lts.spec (
-  last-digit-reads.Asked,
-  last-digit-reads.Learnt,
-  put-byte-reads.Asked,
-  put-byte-reads.Learnt,
-  put-decimal-below t,
-  put-decimal.Post,
-)
-    (put-decimal-at t)
-    put-decimal.Post
-    (put-decimal-last-digit-requires t)
-    (put-decimal-put-byte-requires t)
-    (put-decimal-same-length t)
-    (put-decimal-returns t)
-    (put-decimal-put-decimal-requires t)
-    (put-decimal-last-digit-requires-2 t)
-    (put-decimal-put-byte-requires-2 t)
-    (put-decimal-same-length-2 t)
-    (put-decimal-returns-2 t)
++put-decimal-spec =
+    close μ λ t. put-decimal-lts.spec (cited t) (here t) put-decimal.Post
+    (λ c κs. search needs)
+    (λ c κs. search needs)
+    (λ c. search needs)
+    (returns t)
+    (put-decimal-requires t)
+    (λ c κs. search needs)
+    (λ c κs. search needs)
+    (λ c. search needs)
+    (returns-2 t)
