@@ -1,5 +1,5 @@
--- At the entry of a run call: an analysis that passes form rule 21 is held in form by the capacity's words, and they say what `load`
--- reads. Assumes nothing.
+-- At the entry of a run call: an analysis that passes form rule 21 is held in form by the capacity's words, and they
+-- say what `load` reads. Assumes nothing.
 use mathlib.Core.Path.{_≡_, refl, sym, ap, subst, _∙_}
 use mathlib.Core.Logic.{inl, inr}
 use mathlib.Core.Bool.{Bool, true, false, _||_, not}

@@ -1,5 +1,5 @@
--- The merge of all slots as the rules say it; and after merge join, the test against the join of the slots is the test against one slot.
--- Assumes nothing.
+-- The merge of all slots as the rules say it; and after merge join, the test against the join of the slots is the
+-- test against one slot. Assumes nothing.
 use mathlib.Core.Path.{_≡_, refl, sym, ap, subst, _∙_}
 use mathlib.Core.Bool.{Bool, true, false, _&&_, _||_}
 use mathlib.Core.List.{List, [], _∷_, map}

@@ -1,4 +1,5 @@
--- The sizes that a well-formed chart's words give: what `run_core` and `start_core` ask of width and edges. Assumes nothing.
+-- The sizes that a well-formed chart's words give: what `run_core` and `start_core` ask of width and edges. Assumes
+-- nothing.
 use mathlib.Core.List.{List}
 use Prim.Native.Nat.{_≤_, _<_}
 use native.Mathlib.Omega.{arith}

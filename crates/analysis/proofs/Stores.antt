@@ -1,5 +1,5 @@
--- Record and words in form are exactly those of the exploration that they say, also as the semantics' own exploration: what `run_core`
--- and `start_core` leave is what document 01's run and start put there. Assumes nothing.
+-- Record and words in form are exactly those of the exploration that they say, also as the semantics' own
+-- exploration: what `run_core` and `start_core` leave is what document 01's run and start put there. Assumes nothing.
 use mathlib.Core.Path.{_≡_, refl, sym, ap, subst, _∙_}
 use mathlib.Core.List.{List, [], _∷_, _++_, map}
 use Prim.Native.Nat.{ℕ, zero, suc, _+_, _-_, _*_, _≤_, min}

@@ -1,5 +1,5 @@
--- What record, table words and list words say, as an exploration of rows; the form that they keep; and how parts of an iteration end.
--- Assumes nothing.
+-- What record, table words and list words say, as an exploration of rows; the form that they keep; and how parts of
+-- an iteration end. Assumes nothing.
 use mathlib.Core.Path.{_≡_}
 use mathlib.Core.Bool.{Bool, true, false}
 use mathlib.Core.List.{List}

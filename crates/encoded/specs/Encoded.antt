@@ -1,5 +1,6 @@
--- The check of an encoded chart said of its words, in the order of the code's tests. A row is handed on with all words after it.
--- `..-fine` tests words; `..-ok` (semantics, Encoding) tests the chart that they decode to. Assumes nothing.
+-- The check of an encoded chart said of its words, in the order of the code's tests. A row is handed on with all
+-- words after it. `..-fine` tests words; `..-ok` (semantics, Encoding) tests the chart that they decode to. Assumes
+-- nothing.
 use mathlib.Core.Bool.{Bool, _&&_, _||_}
 use mathlib.Core.List.{List}
 use Prim.Native.Nat.{ℕ, _+_, _-_, _*_}

@@ -1,4 +1,5 @@
--- The record of an analysis reads back as that analysis, and a record with a code that names nothing is out of form. Assumes nothing.
+-- The record of an analysis reads back as that analysis, and a record with a code that names nothing is out of form.
+-- Assumes nothing.
 use mathlib.Core.Path.{_≡_, refl, ap}
 use mathlib.Core.Bool.{Bool, true, false, _&&_}
 use mathlib.Core.List.{List, [], _∷_, _++_}

@@ -10,15 +10,15 @@ use Rattle.walker.specs.declared.Called as walker
 use Rattle.walker.specs.Calls.{Ends-called}
 use Rattle.exports.specs.declared.Record.{Record}
 use Rattle.exports.specs.declared.Called.{Called}
-use Rattle.exports.specs.Replies.{reply-of}
+use Rattle.exports.specs.Replies.{as-reply}
 use Rattle.exports.specs.Records.{settings-in, settings-named}
 use Rattle.exports.specs.Calls.{start-by-codes, record-after, Ends-by-codes}
 
 -- what the walker answers, with the record before where it refuses
-pub left : {o : Outcome} {before : Record} {w : walker.Called} {r : Called} {t l : List ℤ} → Ends-called o w t l → (r .reply ≡ reply-of (w .answer)) × (r .record ≡ record-after before (w .answer) (w .analysis)) →
+pub left : {o : Outcome} {before : Record} {w : walker.Called} {r : Called} {t l : List ℤ} → Ends-called o w t l → (r .reply ≡ as-reply (w .answer)) × (r .record ≡ record-after before (w .answer) (w .analysis)) →
     Ends-by-codes o before r t l
 left {before = before} e h =
-    record { reply = h .0 ∙ ap reply-of (e .answer); after = h .1 ∙ (λ j. record-after before (e .answer j) (e .analysis j)); table = e .table; waitlist = e .waitlist }
+    record { reply = h .0 ∙ ap as-reply (e .answer); after = h .1 ∙ (λ j. record-after before (e .answer j) (e .analysis j)); table = e .table; waitlist = e .waitlist }
 
 module _ (ws : List ℤ) (merge stop order : ℕ) (r : ℤ) (m : Memory) where
   -- the start, by whether the codes name settings
@@ -31,7 +31,7 @@ module _ (ws : List ℤ) (merge stop order : ℕ) (r : ℤ) (m : Memory) where
 
   -- a code that names none: 6, and nothing changes
   pub start-unnamed : (before : Record) → settings-named merge stop order ≡ false →
-      Ends-by-codes (start-by-codes ws merge stop order r m) before (record { reply = reply-of (refused-by 6 0); «record» = before }) (m .table) (m .waitlist)
+      Ends-by-codes (start-by-codes ws merge stop order r m) before (record { reply = as-reply (refused-by 6 0); «record» = before }) (m .table) (m .waitlist)
   start-unnamed before e =
-      subst (λ (b : Bool). Ends-by-codes (start-if b) before (record { reply = reply-of (refused-by 6 0); «record» = before }) (m .table) (m .waitlist)) (sym e)
+      subst (λ (b : Bool). Ends-by-codes (start-if b) before (record { reply = as-reply (refused-by 6 0); «record» = before }) (m .table) (m .waitlist)) (sym e)
       (record { reply = refl; after = refl; table = refl; waitlist = refl })

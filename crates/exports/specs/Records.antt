@@ -1,5 +1,5 @@
--- An analysis's record in numbers alone, as other languages see it: how it is written, and how it is read. Document 01, "The memory
--- lent": "settings, room, rounds, used slots, waiting slots, verdict, edge". Assumes nothing.
+-- An analysis's record in numbers alone, as other languages see it: how it is written, and how it is read. Document
+-- 01, "The memory lent": "settings, room, rounds, used slots, waiting slots, verdict, edge". Assumes nothing.
 use mathlib.Core.Bool.{Bool, _&&_}
 use Prim.Native.Nat.{ℕ}
 use lib.Dec.{ltb, eqb}
@@ -14,7 +14,8 @@ use Rattle.semantics.specs.declared.Verdict.the-variants.{Open, Safe, Alarm, Fu
 use Rattle.semantics.specs.declared.Analysis.{Analysis}
 use Rattle.exports.specs.declared.Record.{Record}
 
--- ---- the codes: merge and stop 0 sep, 1 join; order 0 old, 1 new; verdict 0 unfinished, 1 safe, 2 alarm, 3 out of room
+-- ---- the codes: merge and stop 0 sep, 1 join; order 0 old, 1 new; verdict 0 unfinished, 1 safe, 2 alarm, 3 out of
+-- room
 
 -- the code of a merge or a stop
 abbrev pub mode-code : Mode → ℕ
@@ -73,8 +74,8 @@ settings-named merge stop order = (ltb merge 2 && ltb stop 2) && ltb order 2
 abbrev pub codes-named : Record → Bool
 codes-named r = settings-named (r .merge) (r .stop) (r .order) && ltb (r .verdict) 4
 
--- A record with a code that names nothing is out of form. It is read with 60,001 iterations, which 21 always refuses ("rounds above
--- 60,000"), and with its own capacity, so that 14 is judged before, as always.
+-- A record with a code that names nothing is out of form. It is read with 60,001 iterations, which 21 always refuses
+-- ("rounds above 60,000"), and with its own capacity, so that 14 is judged before, as always.
 abbrev pub analysis-in : Record → Analysis
 analysis-in r = record {
   settings = settings-in (r .merge) (r .stop) (r .order);

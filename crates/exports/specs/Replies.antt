@@ -3,5 +3,5 @@ use Rattle.semantics.specs.declared.Answer.{Answer}
 use Rattle.exports.specs.declared.Reply.{Reply}
 
 -- field by field
-abbrev pub reply-of : Answer → Reply
-reply-of a = record { number = a .number; line = a .line; length = a .length }
+abbrev pub as-reply : Answer → Reply
+as-reply a = record { number = a .number; line = a .line; length = a .length }

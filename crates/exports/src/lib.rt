@@ -10,7 +10,7 @@ ghost use mathlib.Core.Path.{_≡_};
 ghost use Rattle.semantics.specs.Encoding.{well-formed};
 ghost use Rattle.semantics.specs.Outcomes.{read-outcome, run-outcome, listing-outcome};
 ghost use Rattle.form.specs.Form.{lent};
-ghost use Rattle.exports.specs.Replies.{reply-of};
+ghost use Rattle.exports.specs.Replies.{as-reply};
 ghost use Rattle.exports.specs.Records.{mode-code, order-code, verdict-code, record-of, mode-in, order-in, verdict-in, settings-in, settings-named, codes-named, analysis-in};
 ghost use Rattle.exports.specs.Calls.{start-by-codes, record-after, Ends-by-codes};
 
@@ -46,7 +46,7 @@ pub struct Called {
 
 // Field by field.
 fn replied(a: semantics::Answer) -> Reply
-    ensures { λ r. ⌜ r ≡ reply-of a ⌝ }
+    ensures { λ r. ⌜ r ≡ as-reply a ⌝ }
 {
     Reply {
         number: a.number,
@@ -191,7 +191,7 @@ fn analysis_in(r: Record) -> Analysis
 
 // What the walker answers, with the record before where it refuses.
 fn answered(before: Record, c: walker::Called) -> Called
-    ensures { λ r. ⌜ (r .reply ≡ reply-of (c .answer)) × (r .record ≡ record-after before (c .answer) (c .analysis)) ⌝ }
+    ensures { λ r. ⌜ (r .reply ≡ as-reply (c .answer)) × (r .record ≡ record-after before (c .answer) (c .analysis)) ⌝ }
 {
     let answer = c.answer;
     if answer.number != 0 {
@@ -210,7 +210,7 @@ fn answered(before: Record, c: walker::Called) -> Called
 // A chart file's bytes into the words of the encoded chart.
 #[no_mangle]
 pub extern "C" fn tarknotter_read(text: &[u8], words: &mut [i32]) -> Reply
-    ensures { λ r. ⌜ r ≡ reply-of (read-outcome (now (text .entry)) (now (words .entry)) .answer) ⌝ }
+    ensures { λ r. ⌜ r ≡ as-reply (read-outcome (now (text .entry)) (now (words .entry)) .answer) ⌝ }
     ensures { λ _. ⌜ now (words .exit) ≡ read-outcome (now (text .entry)) (now (words .entry)) .words ⌝ }
 {
     replied(reader::read(text, words))
@@ -277,7 +277,7 @@ pub extern "C" fn tarknotter_listing(
     list: &[i32],
     space: &mut [u8],
 ) -> Reply
-    ensures { λ r. ⌜ r ≡ reply-of (listing-outcome (now (chart .entry)) (lent (now (table .entry)) (now (list .entry)) (analysis-in «record»)) (now (space .entry)) .answer) ⌝ }
+    ensures { λ r. ⌜ r ≡ as-reply (listing-outcome (now (chart .entry)) (lent (now (table .entry)) (now (list .entry)) (analysis-in «record»)) (now (space .entry)) .answer) ⌝ }
     ensures { λ _. ⌜ now (space .exit) ≡ listing-outcome (now (chart .entry)) (lent (now (table .entry)) (now (list .entry)) (analysis-in «record»)) (now (space .entry)) .space ⌝ }
 {
     replied(listing::listing(chart, analysis_in(record), table, list, space))

@@ -1,4 +1,5 @@
--- Form rule 21 in the two parts that the code tests one after the other: the words lent, and the record. Assumes nothing.
+-- Form rule 21 in the two parts that the code tests one after the other: the words lent, and the record. Assumes
+-- nothing.
 use mathlib.Core.Bool.{Bool, _||_}
 use mathlib.Core.List.{List, [], _∷_}
 use Prim.Native.Nat.{ℕ, _*_}

@@ -1,5 +1,5 @@
--- Where the lines of a text lie: "The reader goes down the chart file line by line, with its place in the lent text" (document 01, The
--- chart file). Assumes nothing.
+-- Where the lines of a text lie: "The reader goes down the chart file line by line, with its place in the lent text"
+-- (document 01, The chart file). Assumes nothing.
 use mathlib.Core.List.{List}
 use Prim.Native.Nat.{ℕ, _+_}
 use lib.Dec.{leb}

@@ -1,5 +1,5 @@
-// A reader that goes down a text line by line. The work is on the slice and a place; the functions over a `Reader` are thin, and
-// proved by hand.
+// A reader that goes down a text line by line. The work is on the slice and a place; the functions over a `Reader`
+// are thin, and proved by hand.
 ghost use mathlib.Core.Path.{_≡_};
 ghost use Rattle.lines.specs.Lines.{line-at, place-after};
 

@@ -1,5 +1,5 @@
--- The reached table and the waitlist together, as lent words: which slots wait again after a merge, and the form that both keep.
--- Assumes nothing.
+-- The reached table and the waitlist together, as lent words: which slots wait again after a merge, and the form that
+-- both keep. Assumes nothing.
 use mathlib.Core.Path.{_≡_}
 use mathlib.Core.List.{List, [], _∷_}
 use Prim.Native.Nat.{ℕ, suc, _-_, _*_, _≤_, _<_}

@@ -1,9 +1,11 @@
--- A `&κ mut [T]` that is lent again for a lifetime κ′ of a call, and comes back: `Denote/Lend.antt`'s `lends-again` and `comes-back`, of a slice. It says nothing of the crate.
---     LentAgain            what the holder keeps while the slice is lent again under the name γ₁: the lender's part at κ′, and its own borrow at κ, open, with both halves of its ghost variable
---     lends-again, lends   own (the `&κ mut [T]` ((b, o), γ, ys)) ∗ [κ]_q  ⊢ ⇛ ∃ γ₁. own (the `&κ′ mut [T]` ((b, o), γ₁, ys)) ∗ LentAgain γ₁
---     comes-back, back     given `Room` and that zs is as long as ys:  [†κ′] ∗ LentAgain γ₁ ∗ finally γ₁ zs  ⊢ ⇛ (own (the `&κ mut [T]` ((b, o), γ, zs)) ∗ [κ]_q)
--- `lends` and `back` are at the count that the machine's value has: in a loop that is the count of the list passed, and ys is the list of the turn.
--- Assumes `Given`.
+-- A `&κ mut [T]` that is lent again for a lifetime κ′ of a call, and comes back: `Denote/Lend.antt`'s `lends-again`
+-- and `comes-back`, of a slice. It says nothing of the crate.     LentAgain            what the holder keeps while
+-- the slice is lent again under the name γ₁: the lender's part at κ′, and its own borrow at κ, open, with both halves
+-- of its ghost variable     lends-again, lends   own (the `&κ mut [T]` ((b, o), γ, ys)) ∗ [κ]_q  ⊢ ⇛ ∃ γ₁. own (the
+-- `&κ′ mut [T]` ((b, o), γ₁, ys)) ∗ LentAgain γ₁     comes-back, back     given `Room` and that zs is as long as ys:
+-- [†κ′] ∗ LentAgain γ₁ ∗ finally γ₁ zs  ⊢ ⇛ (own (the `&κ mut [T]` ((b, o), γ, zs)) ∗ [κ]_q) `lends` and `back` are
+-- at the count that the machine's value has: in a loop that is the count of the list passed, and ys is the list of
+-- the turn. Assumes `Given`.
 use mathlib.Core.Path.{_≡_, sym, ap, subst}
 use Prim.Native.Nat.{ℕ}
 use mathlib.Core.List.{List, [], _∷_}

@@ -1,4 +1,5 @@
--- The words that the code reads of a line are those of the variable, location or edge that the definitions read. Assumes nothing.
+-- The words that the code reads of a line are those of the variable, location or edge that the definitions read.
+-- Assumes nothing.
 use mathlib.Core.Path.{_≡_, refl, sym, ap, _∙_}
 use mathlib.Core.Bool.{Bool, true, false, _&&_}
 use mathlib.Core.List.{List, [], _∷_, _++_}

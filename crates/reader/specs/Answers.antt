@@ -1,4 +1,5 @@
--- What the answers of the functions over a file and a line say: each enum as the definitions' refusal or value. Assumes nothing.
+-- What the answers of the functions over a file and a line say: each enum as the definitions' refusal or value.
+-- Assumes nothing.
 use mathlib.Core.List.{List, [], _∷_}
 use mathlib.Core.Option.{Option, none, some}
 use Prim.Native.Nat.{ℕ}

@@ -1,4 +1,5 @@
--- What was read so far as the code holds it: counts, the table of rows, and the names of the variables. Assumes nothing.
+-- What was read so far as the code holds it: counts, the table of rows, and the names of the variables. Assumes
+-- nothing.
 use mathlib.Core.Path.{_≡_}
 use mathlib.Core.Bool.{Bool, true, false}
 use mathlib.Core.List.{List, [], _∷_, _++_, map}

@@ -1,4 +1,5 @@
--- The parts of the definitions of a V, an L and an E line, as the code judges them one after the other. Assumes nothing.
+-- The parts of the definitions of a V, an L and an E line, as the code judges them one after the other. Assumes
+-- nothing.
 use mathlib.Core.Bool.{Bool, _&&_, not}
 use mathlib.Core.List.{List, [], _∷_}
 use Prim.Native.Nat.{ℕ, _+_, _*_}

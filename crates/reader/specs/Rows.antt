@@ -1,4 +1,5 @@
--- Rows of words in a table: a name's words, what storing a row leaves, and the look for a name among rows. Assumes nothing.
+-- Rows of words in a table: a name's words, what storing a row leaves, and the look for a name among rows. Assumes
+-- nothing.
 use mathlib.Core.Bool.{Bool, true, false, _&&_, _||_}
 use mathlib.Core.List.{List, [], _∷_, _++_}
 use Prim.Native.Nat.{ℕ, zero, suc}

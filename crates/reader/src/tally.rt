@@ -12,8 +12,8 @@ pub const MOST_EDGES: usize = 256;
 // A name has 16 bytes at most, and a byte takes a word.
 pub const NAME_WORDS: usize = 16;
 
-// The words of a row: a variable's low, high and init; a location's kind and name; an edge's from, to, operation, target
-// and two operands of two words each.
+// The words of a row: a variable's low, high and init; a location's kind and name; an edge's from, to, operation,
+// target and two operands of two words each.
 pub const VARIABLE_WORDS: usize = 3;
 
 pub const LOCATION_WORDS: usize = 1 + NAME_WORDS;

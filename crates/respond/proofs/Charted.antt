@@ -1,5 +1,5 @@
--- What reading answers, into 3,163 words: its refusal, or the words of the chart that it accepted; a text put at the front of bytes
--- that hold it; and the output by the go line. Assumes nothing.
+-- What reading answers, into 3,163 words: its refusal, or the words of the chart that it accepted; a text put at the
+-- front of bytes that hold it; and the output by the go line. Assumes nothing.
 use mathlib.Core.Path.{_≡_, refl, sym, ap, _∙_}
 use mathlib.Core.List.{List, _++_}
 use Prim.Native.Nat.{ℕ, _-_, _≤_}

@@ -1,5 +1,5 @@
--- One abstract state as a row of words, its location and then one word a variable: order, join and merge, with no word on the rows'
--- form; rows of a table; and the rows as a domain of the algorithm. Assumes nothing.
+-- One abstract state as a row of words, its location and then one word a variable: order, join and merge, with no
+-- word on the rows' form; rows of a table; and the rows as a domain of the algorithm. Assumes nothing.
 use mathlib.Core.Bool.{Bool, false, _&&_, _||_}
 use mathlib.Core.List.{List, [], _∷_, _++_}
 use Prim.Native.Nat.{ℕ, zero, suc}

@@ -1,7 +1,7 @@
--- The algorithm of source document 000, section 3.4, over any abstract domain: reached table, waitlist, the iteration with its
--- merge and stop, and the run of iterations. Document 01, "One round". Nothing here looks into an abstract state. Letters: e, x abstract
--- states; en the reached table; wa the waitlist; w an exploration; s, z settings; r the capacity; g an edge; k a slot; n an edge's number.
--- Assumes nothing.
+-- The algorithm of source document 000, section 3.4, over any abstract domain: reached table, waitlist, the iteration
+-- with its merge and stop, and the run of iterations. Document 01, "One round". Nothing here looks into an abstract
+-- state. Letters: e, x abstract states; en the reached table; wa the waitlist; w an exploration; s, z settings; r the
+-- capacity; g an edge; k a slot; n an edge's number. Assumes nothing.
 use mathlib.Core.Bool.{Bool, true, false}
 use mathlib.Core.List.{List, [], _∷_, _++_, map}
 use mathlib.Core.Option.{Option, none, some}
@@ -115,7 +115,8 @@ put-back New k w = without k w ++ (k ∷ [])
 
 -- ---- one iteration
 
--- how the edges of an iteration, or some of them, end: on with the next, an alarm at edge n, or a full table; with the table and list
+-- how the edges of an iteration, or some of them, end: on with the next, an alarm at edge n, or a full table; with
+-- the table and list
 pub data Out (E : Type 0) : Type 0 where
   on : List E → List ℕ → Out E
   alarmed : ℕ → List E → List ℕ → Out E

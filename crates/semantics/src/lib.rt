@@ -1,5 +1,5 @@
-// What every crate shares: types, how they are made and compared, and the numbers that several crates need. specs/ holds
-// document 01 as definitions, and proofs/ what is proved of them.
+// What every crate shares: types, how they are made and compared, and the numbers that several crates need. specs/
+// holds document 01 as definitions, and proofs/ what is proved of them.
 ghost use mathlib.Core.Path.{_≡_};
 ghost use lib.Dec.{eqb, leb};
 ghost use Rattle.semantics.specs.Outcomes.{fine, refused-by};
@@ -17,8 +17,8 @@ pub const LISTING_BYTES: usize = 24576;
 
 // ---- ids
 
-// The three kinds of number that document 01 keeps apart. An id is taken apart where a table is indexed or a line printed,
-// and compared by the functions below.
+// The three kinds of number that document 01 keeps apart. An id is taken apart where a table is indexed or a line
+// printed, and compared by the functions below.
 pub struct LocationId(pub usize);
 
 // Edges are numbered from 1; 0 stands for no edge.

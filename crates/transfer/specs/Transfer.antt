@@ -1,5 +1,5 @@
--- The transfer of an edge of the encoded chart on a row of words, the test of an error location, and the initial row, with no word on
--- the form of either: a word past the end is 0, a number's sign does not count. Assumes nothing.
+-- The transfer of an edge of the encoded chart on a row of words, the test of an error location, and the initial row,
+-- with no word on the form of either: a word past the end is 0, a number's sign does not count. Assumes nothing.
 use mathlib.Core.Bool.{Bool, true, false, _||_, not}
 use mathlib.Core.List.{List, [], _∷_}
 use Prim.Native.Nat.{ℕ, zero, suc, _+_, _*_}

@@ -1,4 +1,5 @@
--- The first refusal that holds: what a call that nothing refuses may rely on, and what a refused call leaves. Assumes nothing.
+-- The first refusal that holds: what a call that nothing refuses may rely on, and what a refused call leaves. Assumes
+-- nothing.
 use mathlib.Core.Path.{_≡_, refl, sym, ap, subst, _∙_}
 use mathlib.Core.Bool.{false, not}
 use mathlib.Core.List.{List, []}

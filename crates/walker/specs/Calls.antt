@@ -1,4 +1,5 @@
--- What a public call owes: its answer, the record and every lent word at exit are those of the outcome. Assumes nothing.
+-- What a public call owes: its answer, the record and every lent word at exit are those of the outcome. Assumes
+-- nothing.
 use mathlib.Core.Path.{_≡_}
 use mathlib.Core.List.{List}
 use Prim.Native.Nat.{ℕ, suc, _*_, _≤_}
@@ -12,7 +13,8 @@ use Rattle.semantics.specs.Encoding.{count}
 use Rattle.semantics.specs.Outcomes.{Outcome}
 use Rattle.walker.specs.declared.Called.{Called}
 
--- "determines, from the values at entry alone, the answer and every lent word at exit": these are the outcome's answer, record, table and waitlist
+-- "determines, from the values at entry alone, the answer and every lent word at exit": these are the outcome's
+-- answer, record, table and waitlist
 pub record Ends (o : Outcome) (r : Answer) (a : Analysis) (t l : List ℤ) : Type 0 where
   pub answer : r ≡ o .answer
   pub analysis : a ≡ o .memory .analysis

@@ -6,16 +6,16 @@ use native.Mathlib.Nat.{zero-add, suc-add}
 use native.Mathlib.Decide.{decLe}
 use native.Mathlib.Omega.{arith}
 use lib.ListN.{length, take, drop, set, length-append}
-use Rattle.writing.specs.Writing.{over, written, limit, Put}
+use Rattle.writing.specs.Writing.{overwritten, written, limit, Put}
 
 pub written-none : (at : ℕ) (out : List ℕ) → written at [] out ≡ out
-unfolding written over
+unfolding written overwritten
 written-none zero out = refl
 written-none (suc at) [] = refl
 written-none (suc at) (o ∷ os) = ap (λ (l : List ℕ). o ∷ l) (written-none at os)
 
-over-long : (bs out : List ℕ) → length (over bs out) ≡ length out
-unfolding over
+over-long : (bs out : List ℕ) → length (overwritten bs out) ≡ length out
+unfolding overwritten
 over-long [] out = refl
 over-long (b ∷ bs) [] = refl
 over-long (b ∷ bs) (o ∷ os) = ap suc (over-long bs os)
@@ -26,8 +26,8 @@ written-long zero bs out = over-long bs out
 written-long (suc at) bs [] = refl
 written-long (suc at) bs (o ∷ os) = ap suc (written-long at bs os)
 
-over-then : (bs cs out : List ℕ) → written (length bs) cs (over bs out) ≡ over (bs ++ cs) out
-unfolding written over
+over-then : (bs cs out : List ℕ) → written (length bs) cs (overwritten bs out) ≡ overwritten (bs ++ cs) out
+unfolding written overwritten
 over-then [] cs out = refl
 over-then (b ∷ bs) cs [] = refl
 over-then (b ∷ bs) cs (o ∷ os) = ap (λ (l : List ℕ). b ∷ l) (over-then bs cs os)
@@ -40,7 +40,7 @@ written-then (suc at) bs cs (o ∷ os) = rw suc-add (ap (λ (l : List ℕ). o �
 
 -- nothing is written past the end
 pub written-past : (at : ℕ) (bs out : List ℕ) → length out ≤ at → written at bs out ≡ out
-unfolding written over
+unfolding written overwritten
 written-past zero [] out h = refl
 written-past zero (b ∷ bs) [] h = refl
 written-past zero (b ∷ bs) (o ∷ os) h = absurd (omega arith)
@@ -49,15 +49,15 @@ written-past (suc at) bs (o ∷ os) h = ap (λ (l : List ℕ). o ∷ l) (written
 
 -- one byte
 pub written-set : (at b : ℕ) (out : List ℕ) → at < length out → written at (b ∷ []) out ≡ set out at b
-unfolding written over
+unfolding written overwritten
 written-set zero b [] h = absurd (omega arith)
 written-set zero b (o ∷ os) h = refl
 written-set (suc at) b [] h = refl
 written-set (suc at) b (o ∷ os) h = ap (λ (l : List ℕ). o ∷ l) (written-set at b os (omega arith))
 
 -- what fits is written whole
-over-fits : (bs out : List ℕ) → length bs ≤ length out → over bs out ≡ bs ++ drop (length bs) out
-unfolding over
+over-fits : (bs out : List ℕ) → length bs ≤ length out → overwritten bs out ≡ bs ++ drop (length bs) out
+unfolding overwritten
 over-fits [] out h = refl
 over-fits (b ∷ bs) [] h = absurd (omega arith)
 over-fits (b ∷ bs) (o ∷ os) h = ap (λ (l : List ℕ). b ∷ l) (over-fits bs os (omega arith))

@@ -5,14 +5,14 @@ use Prim.Native.Nat.{ℕ, zero, suc, _+_, _≤_, min}
 use lib.ListN.{length}
 
 -- the bytes over the front of what is there
-unfoldable pub over : List ℕ → List ℕ → List ℕ
-over [] out = out
-over (b ∷ bs) [] = []
-over (b ∷ bs) (o ∷ os) = b ∷ over bs os
+unfoldable pub overwritten : List ℕ → List ℕ → List ℕ
+overwritten [] out = out
+overwritten (b ∷ bs) [] = []
+overwritten (b ∷ bs) (o ∷ os) = b ∷ overwritten bs os
 
 -- the bytes over what is there, from a place on
 unfoldable pub written : ℕ → List ℕ → List ℕ → List ℕ
-written zero bs out = over bs out
+written zero bs out = overwritten bs out
 written (suc at) bs [] = []
 written (suc at) bs (o ∷ os) = o ∷ written at bs os
 

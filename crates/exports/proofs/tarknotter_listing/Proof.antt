@@ -1,7 +1,8 @@
--- `exports::tarknotter_listing` meets its contract: the reply is that of what `listing::listing` answers. Assumes nothing.
+-- `exports::tarknotter_listing` meets its contract: the reply is that of what `listing::listing` answers. Assumes
+-- nothing.
 use mathlib.Core.Path.{ap, _∙_}
 use borrow.Author.Needs.{needs}
-use Rattle.exports.specs.Replies.{reply-of}
+use Rattle.exports.specs.Replies.{as-reply}
 use Rattle.exports.proofs.tarknotter_listing.Statement.{statement}
 use Rattle.exports.proofs.tarknotter_listing.Tie as tie
 
@@ -9,7 +10,7 @@ returns : tie.Need-returns
 returns c =
     let k = c .before .before .before in
     let read = k .before .before .analysis-in .ensures in
-    (rw read at (c .replied .ensures ∙ ap reply-of (k .listing .ensures .0)), rw read at (k .listing .ensures .1))
+    (rw read at (c .replied .ensures ∙ ap as-reply (k .listing .ensures .0)), rw read at (k .listing .ensures .1))
 
 pub tarknotter-listing-spec : {M : Type 1} → statement M
 tarknotter-listing-spec =

@@ -1,4 +1,5 @@
--- `exports::tarknotter_start` meets its contract: 6, or `walker::start` on the settings and the record as they are read. Assumes nothing.
+-- `exports::tarknotter_start` meets its contract: 6, or `walker::start` on the settings and the record as they are
+-- read. Assumes nothing.
 use mathlib.Core.Path.{sym, _∙_}
 use borrow.Author.Needs.{needs}
 use borrow.Author.Tests.{not-true, not-false}

@@ -1,6 +1,7 @@
--- `lines::current` meets its contract: a walk of its MIR, by hand. The reader is taken apart, and `line_at` is called with the slice and the place. All that the proof knows of `line_at` is that it meets its contract.
--- The reader is Copy: what it owns is had twice, one copy is kept whole for the exit, and of the other what text owns goes to the callee, beside the lifetime's token, which comes back.
--- Assumes nothing.
+-- `lines::current` meets its contract: a walk of its MIR, by hand. The reader is taken apart, and `line_at` is called
+-- with the slice and the place. All that the proof knows of `line_at` is that it meets its contract. The reader is
+-- Copy: what it owns is had twice, one copy is kept whole for the exit, and of the other what text owns goes to the
+-- callee, beside the lifetime's token, which comes back. Assumes nothing.
 use mathlib.Core.Path.{_≡_, refl}
 use Prim.Native.Nat.{_<_, _^_}
 use mathlib.Core.List.{[], _∷_}

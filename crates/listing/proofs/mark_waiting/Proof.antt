@@ -1,5 +1,5 @@
--- `listing::mark_waiting` meets its contract. The invariant: setting the marks of the slots left gives those of the whole list.
--- Assumes nothing.
+-- `listing::mark_waiting` meets its contract. The invariant: setting the marks of the slots left gives those of the
+-- whole list. Assumes nothing.
 use mathlib.Core.Path.{_≡_, refl, sym, ap, _∙_}
 use mathlib.Core.Bool.{Bool, true}
 use mathlib.Core.List.{List, map}

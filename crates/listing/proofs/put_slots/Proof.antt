@@ -1,5 +1,5 @@
--- `listing::put_slots` meets its contract. The invariant: `from` is the first word of slot s, and the lines of the slots before it are written.
--- Assumes nothing.
+-- `listing::put_slots` meets its contract. The invariant: `from` is the first word of slot s, and the lines of the
+-- slots before it are written. Assumes nothing.
 use mathlib.Core.Path.{_≡_, refl, sym, ap, subst, _∙_}
 use mathlib.Core.Bool.{Bool, false}
 use mathlib.Core.List.{List, map}

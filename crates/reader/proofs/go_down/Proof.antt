@@ -1,7 +1,8 @@
--- `reader::go_down` meets its contract: a walk of its MIR, by hand, with a loop. The reader lies in a local; each turn asks it for the line at its place, moves the place on, and has the line judged, with the table and the names lent again for the call (`Again.antt`).
--- The loop goes by `types.Run`'s `loops`: a state has the place, the progress and the two lists, with what holds of them, and its whole context is a list over the state.
--- All that the proof knows of the functions called is that each meets its contract.
--- Assumes nothing.
+-- `reader::go_down` meets its contract: a walk of its MIR, by hand, with a loop. The reader lies in a local; each
+-- turn asks it for the line at its place, moves the place on, and has the line judged, with the table and the names
+-- lent again for the call (`Again.antt`). The loop goes by `types.Run`'s `loops`: a state has the place, the progress
+-- and the two lists, with what holds of them, and its whole context is a list over the state. All that the proof
+-- knows of the functions called is that each meets its contract. Assumes nothing.
 use mathlib.Core.Path.{_≡_, refl, ap, _∙_}
 use Prim.Native.Nat.{ℕ, _<_, _^_}
 use lib.WfN.{Nat·lt-wfRel}
@@ -239,7 +240,8 @@ module _ {M : Type 1} (𝓤 : URA M) (H : Heap 𝓤) (A : Atoms 𝓤) (W : Given
   moves : (m m′ : ℕ) → m′ < 2 ^ 64 → ent 𝓤 (sem 𝓤 H A (OwnR m)) (sem 𝓤 H A (OwnR m′))
   moves m m′ ok = qed W (‵ (OwnR m) ∷ []) ∵ owned ! usize (Is usize) (uint-makes 𝓤 H A W w64) m′ _ (refl, ok) $ move ! (1 ∷ 0 ∷ []) $ by ! (own-put 𝓤 H A W (T.the-type α) (T′.the-laws α) 1 (s, (m, tt)) m′ (mach (rd m)))
 
-  -- the call of `advance`: the table and the names lent again, for the lifetimes ν₁ and ν₂ and under the names δ₁ and δ₂
+  -- the call of `advance`: the table and the names lent again, for the lifetimes ν₁ and ν₂ and under the names δ₁ and
+  -- δ₂
   abbrev Args : Type 0
   Args = Descent × (RefT (List ℤ) × (RefT (List ℤ) × (RefT (List ℕ) × (Line × Unit {0}))))
 
@@ -369,7 +371,8 @@ module _ {M : Type 1} (𝓤 : URA M) (H : Heap 𝓤) (A : Atoms 𝓤) (W : Given
           land ! (from ! (fld ! refl (stop !))) (store-in ! 26 (sub ! 1 refl (whole !)) (uint-lawful 𝓤 H A W w64 .typed m′ _ m-is .0)) $
           rewrite ! 26 (λ (z : Val). ‵ (fat fullShare (T′.mir erased) l₄ 0 (vstruct (vcons v₀ (vcons z vnil))))) (ap only (m-is .0)) refl $ drop ! $
           move ! (1 ∷ []) $ use1 W (‵ (OwnR m′)) (moves (x .m) m′ (m-is .1)) $
-          -- [what the reader owns; the token; what s owns; the table's; κ₁; the names'; κ₂; _13; …]: the table and the names are lent again
+          -- [what the reader owns; the token; what s owns; the table's; κ₁; the names'; κ₂; _13; …]: the table and
+          -- the names are lent again
           assigns ! (addr ! (from ! (fld ! refl (hop ! (look-in ! 29 (sub ! 0 refl (whole !))) (stop !))))) (from ! (stop !)) (init ! 13 refl (tt, tt)) $
           assigns ! (agg ! (and-then ! (load ! (from ! (stop !)) (look ! 13 refl)) (and-then ! (load ! (from ! (fld ! refl (stop !))) (look-in ! 29 (sub ! 1 refl (whole !)))) (no-more !)))) (from ! (stop !)) (init ! 11 refl (tt, (tt, (record { fits = room₁ .0 }, tt)))) $
           assigns ! (addr ! (from ! (fld ! refl (hop ! (look-in ! 27 (sub ! 0 refl (whole !))) (stop !))))) (from ! (stop !)) (init ! 9 refl (tt, tt)) $
@@ -378,7 +381,8 @@ module _ {M : Type 1} (𝓤 : URA M) (H : Heap 𝓤) (A : Atoms 𝓤) (W : Given
           use2 W (later (some (λ (δ : GName). ‵ (MutSlice (named 0) (ν₁ ∷ []) i32 .own (x₁ δ (x .ts)) (v₁ ∷ [])) ⊛ ‵ (LentAgain i32 κ₁ (ν₁ ∷ []) q₁ γ₁ b₁ o₁ δ (x .ts))))) (lends i32 κ₁ (ν₁ ∷ []) q₁ γ₁ b₁ o₁ 𝓤 H A W (named 1) (named 0) (x .ts) (length ys) (x .t-same)) $ await ! tt $ pick ! (λ δ₁. split ! $
           lft-new ! tt (λ ν₂. move ! (7 ∷ 8 ∷ []) $
           use2 W (later (some (λ (δ : GName). ‵ (MutSlice (named 1) (ν₂ ∷ []) i32 .own (x₂ δ (x .ns)) (v₂ ∷ [])) ⊛ ‵ (LentAgain i32 κ₂ (ν₂ ∷ []) q₂ γ₂ b₂ o₂ δ (x .ns))))) (lends i32 κ₂ (ν₂ ∷ []) q₂ γ₂ b₂ o₂ 𝓤 H A W (named 2) (named 1) (x .ns) (length zs) (x .n-same)) $ await ! tt $ pick ! (λ δ₂. split ! $
-          -- [the names lent; what is kept of them; ν₂; the table lent; what is kept of it; ν₁; what the reader owns; the token; what s owns; _13; …]
+          -- [the names lent; what is kept of them; ν₂; the table lent; what is kept of it; ν₁; what the reader owns;
+          -- the token; what s owns; _13; …]
           move ! (8 ∷ []) $ use1 W (‵ OwnS ⊛ ‵ OwnS) (shr-slice-copy 𝓤 H A W (named 0) κ₀ u8 .twice s (v₀ ∷ [])) $ split ! $
           nothing ! $ owned ! S.the-row (Is S.the-row) (EL.makes S.the-type S′.the-plain 𝓤 H A) l _ l-is $ fjoin ! $ move ! (1 ∷ 0 ∷ []) $ fjoin ! $ move ! (2 ∷ 0 ∷ []) $ fjoin ! $ move ! (4 ∷ 0 ∷ []) $ fjoin ! $
           owned ! Y.the-row (Is Y.the-row) (LL.makes Y.the-type Y′.the-plain 𝓤 H A) (x .p) _ (x .p-is) $ fjoin ! $
@@ -390,7 +394,8 @@ module _ {M : Type 1} (𝓤 : URA M) (H : Heap 𝓤) (A : Atoms 𝓤) (W : Given
           use1 W (later (some (λ (r : Descent). (Toks ν₁ ν₂ ⊛ ‵ (Y.the-row .own r (u″ ∷ []))) ⊛ raw (ensured 𝓤 H A advance.ended (advance.clauses 𝓤 H A at-mem run) (ν₁ ∷ [], (ν₂ ∷ [], (κ₀, tt))) (aA (x .p) (x .ts) (x .ns) l δ₁ δ₂) tt r)))) (id⊢ 𝓤 _) $ await ! tt $ pick ! (λ r.
           split ! $ move ! (1 ∷ []) $ use1 W (some (λ (ws : Lasts). ‵ (lasts advance.ended (ν₁ ∷ [], (ν₂ ∷ [], (κ₀, tt))) (aA (x .p) (x .ts) (x .ns) l δ₁ δ₂) ws) ⊛ raw (fact 𝓤 (Advanced (now s) l (x .p) (x .ts) (x .ns) r (ws .1 .0) (ws .1 .1 .0))))) (id⊢ 𝓤 _) $ pick ! (λ ws.
           split ! $ move ! (1 ∷ []) $ heard ! (Advanced (now s) l (x .p) (x .ts) (x .ns) r (ws .1 .0) (ws .1 .1 .0)) (λ e. fsplit ! $ drop ! $ fsplit ! $ fsplit ! $ move ! (1 ∷ []) $ feqL ! (λ et. move ! (1 ∷ []) $ fsplit ! $ fsplit ! $ move ! (1 ∷ []) $ feqL ! (λ en. move ! (1 ∷ []) $ drop ! $
-          -- [the last names; the last table; the tokens and the result; what s owns; what is kept of the names; of the table; what the reader owns; _13; …]
+          -- [the last names; the last table; the tokens and the result; what s owns; what is kept of the names; of
+          -- the table; what the reader owns; _13; …]
           move ! (2 ∷ []) $ split ! $ move ! (1 ∷ []) $ peeks ! Y.the-row (Is Y.the-row) (shows 𝓤 H A Y.the-row) r (u″ ∷ []) (λ r-is. drop ! $
           -- the two lifetimes are ended, and both slices come back
           split ! $ lft-end ! tt $ move ! (0 ∷ 6 ∷ 3 ∷ []) $ use3 W (later (‵ (OwnT (ws .1 .0)) ⊛ ‵ (flft κ₁ q₁))) (back i32 κ₁ (ν₁ ∷ []) q₁ γ₁ b₁ o₁ 𝓤 H A W (named 1) (named 0) (x .ts) (length ys) (x .t-same) δ₁ (ws .1 .0) room₁ et) $ await ! tt $ split ! $

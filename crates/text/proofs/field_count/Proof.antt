@@ -1,4 +1,5 @@
--- `text::field_count` meets its contract: the fields passed and those that are left are as many as all. Assumes nothing.
+-- `text::field_count` meets its contract: the fields passed and those that are left are as many as all. Assumes
+-- nothing.
 use borrow.Author.Needs.{needs}
 use mathlib.Core.Path.{_≡_}
 use Prim.Native.Nat.{_+_, _-_, _≤_}

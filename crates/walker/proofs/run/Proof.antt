@@ -1,5 +1,7 @@
--- `walker::run` meets its contract: a walk of its MIR, by hand. The borrow of the record is opened, and the record is copied out of its cell; it goes to `advance` with the chart, the table and the list, at the slices' own lifetimes, shares and names;
--- the record that `advance` answered is stored over the old one, and the borrow is closed there. All that the proof knows of `advance` is that it meets its contract. Assumes nothing.
+-- `walker::run` meets its contract: a walk of its MIR, by hand. The borrow of the record is opened, and the record is
+-- copied out of its cell; it goes to `advance` with the chart, the table and the list, at the slices' own lifetimes,
+-- shares and names; the record that `advance` answered is stored over the old one, and the borrow is closed there.
+-- All that the proof knows of `advance` is that it meets its contract. Assumes nothing.
 use mathlib.Core.Path.{_≡_, refl, ap}
 use Prim.Native.Nat.{ℕ}
 use mathlib.Core.List.{[], _∷_, List}
@@ -162,7 +164,8 @@ module _ {M : Type 1} (𝓤 : URA M) (H : Heap 𝓤) (A : Atoms 𝓤) (W : Given
         move ! (25 ∷ []) $ fsplit ! $ move ! (1 ∷ []) $ fsplit ! $ drop ! $ fsplit ! $ fsplit3 ! $ drop ! $ move ! (28 ∷ []) $ split ! $ move ! (1 ∷ []) $ split ! $ move ! (3 ∷ 4 ∷ 0 ∷ []) $
         opens ! tt R {h = h} b o (λ vs. spelt ! R (Is R) (shows 𝓤 H A R) (LL.vals T.the-type T′.the-laws) (LL.tells T.the-type T′.the-laws) fullShare h vs b o $
         move ! (1 ∷ []) $ peeks ! R (Is R) (shows 𝓤 H A R) h (mach h ∷ []) (λ g. move ! (1 ∷ 0 ∷ []) $
-        -- [the record's cell; what a record owns; the open borrow; obs; auth; the tokens of κ₂ and κ₃; that of κ₀; what t and l own; what c owns; _11; …; _10; …; … ; _1; …; room for _0; …]
+        -- [the record's cell; what a record owns; the open borrow; obs; auth; the tokens of κ₂ and κ₃; that of κ₀;
+        -- what t and l own; what c owns; _11; …; _10; …; … ; _1; …; room for _0; …]
         assigns ! (of-opd ! (load ! (from ! (hop ! (look ! 25 refl) (stop !))) (look-raw ! 0 refl))) (from ! (stop !)) (init ! 17 refl (LL.lawful T.the-type T′.the-laws 𝓤 H A W .typed h _ g .0)) $
         assigns ! (addr ! (from ! (fld ! refl (hop ! (look-in ! 23 (sub ! 0 refl (whole !))) (stop !))))) (from ! (stop !)) (init ! 15 refl (tt, tt)) $
         assigns ! (agg ! (and-then ! (load ! (from ! (stop !)) (look ! 15 refl)) (and-then ! (load ! (from ! (fld ! refl (stop !))) (look-in ! 23 (sub ! 1 refl (whole !)))) (no-more !)))) (from ! (stop !)) (init ! 13 refl (tt, (tt, (record { fits = rt .0 }, tt)))) $
@@ -170,7 +173,8 @@ module _ {M : Type 1} (𝓤 : URA M) (H : Heap 𝓤) (A : Atoms 𝓤) (W : Given
         assigns ! (agg ! (and-then ! (load ! (from ! (stop !)) (look ! 11 refl)) (and-then ! (load ! (from ! (fld ! refl (stop !))) (look-in ! 21 (sub ! 1 refl (whole !)))) (no-more !)))) (from ! (stop !)) (init ! 9 refl (tt, (tt, (record { fits = rl .0 }, tt)))) $
         -- the chart's borrow is had twice, and what `advance` asks is put together
         move ! (8 ∷ []) $ use1 W (‵ OwnC ⊛ ‵ OwnC) (shr-slice-copy 𝓤 H A W (named 0) κ₀ i32 .twice c (vc ∷ [])) $ split ! $ move ! (9 ∷ []) $ fsplit ! $ move ! (1 ∷ []) $ fsplit ! $ move ! (1 ∷ []) $ drop ! $
-        -- [what l owns; t's; c's; c's; the cell; what a record owns; the open borrow; obs; auth; the tokens of κ₂ and κ₃; that of κ₀; the locals]
+        -- [what l owns; t's; c's; c's; the cell; what a record owns; the open borrow; obs; auth; the tokens of κ₂ and
+        -- κ₃; that of κ₀; the locals]
         nothing ! $ move ! (1 ∷ 0 ∷ []) $ fjoin ! $ move ! (1 ∷ 0 ∷ []) $ fjoin ! $ move ! (4 ∷ 0 ∷ []) $ fjoin ! $ owned ! i32 (Is i32) (sint-makes 𝓤 H A W w32) n _ n-is $ fjoin ! $ move ! (1 ∷ 0 ∷ []) $ fjoin ! $
         move ! (7 ∷ 6 ∷ []) $ join ! $ use2 W (raw (Advance 𝓤 H A at-mem at-run .pre to)) asked $
         -- [what `advance` asks; c's; the cell; the open borrow; obs; auth; _11; …; _0; …]

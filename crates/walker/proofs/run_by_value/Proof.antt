@@ -1,5 +1,6 @@
--- `walker::run_by_value` meets its contract: a walk of its MIR, by hand. The record is put in a local, the local is lent to `run` for a lifetime that is made for the call, and once that is over the local holds the record that `run` left.
--- All that the proof knows of `run` is that it meets its contract. Assumes nothing.
+-- `walker::run_by_value` meets its contract: a walk of its MIR, by hand. The record is put in a local, the local is
+-- lent to `run` for a lifetime that is made for the call, and once that is over the local holds the record that `run`
+-- left. All that the proof knows of `run` is that it meets its contract. Assumes nothing.
 use mathlib.Core.Path.{_≡_, refl, ap}
 use Prim.Native.Nat.{ℕ}
 use mathlib.Core.List.{[], _∷_, List}
@@ -104,7 +105,8 @@ module _ {M : Type 1} (𝓤 : URA M) (H : Heap 𝓤) (A : Atoms 𝓤) (W : Given
   abbrev Post : Val → SProp 𝓤
   Post = walkOf 𝓤 H A by-value.ended stayed (by-value.clauses 𝓤 H A at-mem at-run) .post (((κ₀, (κ₁, (κ₂, tt))), (q₀, (q₁, (q₂, tt))), tt, a, vals), tt)
 
-  -- what `run`'s triple binds outside: the local at b, lent for the lifetime ν under the name γ, and the slices' own lifetimes, shares and values
+  -- what `run`'s triple binds outside: the local at b, lent for the lifetime ν under the name γ, and the slices' own
+  -- lifetimes, shares and values
   abbrev ArgR : Type 0
   ArgR = RefT (List ℤ) × (ℤ × (RefT Analysis × (RefT (List ℤ) × (RefT (List ℤ) × Unit {0}))))
 
@@ -170,7 +172,8 @@ module _ {M : Type 1} (𝓤 : URA M) (H : Heap 𝓤) (A : Atoms 𝓤) (W : Given
         -- the local is lent, for a lifetime ν of the call
         move ! (14 ∷ []) $ use1 W (‵ (mem R .lies h l₆ 0)) (lies-in 𝓤 H A W h l₆ h-is) $ lft-new ! tt (λ ν. move ! (1 ∷ []) $
         use1 W (later (some (λ (γ : GName). ‵ (MutRef (named 1) (ν ∷ []) R .own (x l₆ γ) (vptr l₆ 0 ∷ [])) ⊛ ‵ (flent (ν ∷ []) (Body (mem R) l₆ 0 γ))))) (lends-ref 𝓤 H A W R (named 1) (ν ∷ []) h l₆ 0) $ await ! tt $ pick ! (λ γ. split ! $
-        -- [the reference; the lender's part; the token of ν; _13; …; …; _7; …; what frees _6; _5; …; …; room for _0; …; the tokens; what the parameters own]
+        -- [the reference; the lender's part; the token of ν; _13; …; …; _7; …; what frees _6; _5; …; …; room for _0;
+        -- …; the tokens; what the parameters own]
         move ! (31 ∷ []) $ fsplit ! $ use1 W (‵ OwnC ⊛ ‵ OwnC) (shr-slice-copy 𝓤 H A W (named 0) κ₀ i32 .twice c (vc ∷ [])) $ split ! $ move ! (2 ∷ []) $ fsplit ! $ drop ! $ fsplit ! $ drop ! $ move ! (3 ∷ 0 ∷ []) $ fjoin ! $ owned ! i32 (Is i32) (sint-makes 𝓤 H A W w32) n _ n-is $ fjoin ! $ move ! (1 ∷ 0 ∷ []) $ fjoin ! $
         move ! (31 ∷ []) $ split ! $ move ! (5 ∷ 1 ∷ []) $ join ! $ move ! (1 ∷ 0 ∷ []) $ join ! $ use2 W (raw (Run 𝓤 H A at-mem at-run .pre (to ν l₆ γ))) (asked ν l₆ γ) $
         -- [what `run` asks; c's; the lender's part; _13; …]
@@ -184,7 +187,8 @@ module _ {M : Type 1} (𝓤 : URA M) (H : Heap 𝓤) (A : Atoms 𝓤) (W : Given
         -- the lifetime is ended, and the local is had again, at the record that `run` left
         drop ! $ split ! $ move ! (1 ∷ []) $ split ! $ lft-end ! tt $ move ! (0 ∷ 7 ∷ 5 ∷ []) $ use3 W (later (‵ (mem R .lies (zs .1 .1 .0) l₆ 0))) (ref-back 𝓤 H A W R (ν ∷ []) γ (zs .1 .1 .0) l₆ 0) $ await ! tt $
         use1 W (‵ (R .own (zs .1 .1 .0) (mach (zs .1 .1 .0) ∷ [])) ⊛ ‵ (fat fullShare T′.mir l₆ 0 (mach (zs .1 .1 .0)))) (lies-out 𝓤 H A W (zs .1 .1 .0) l₆) $ split ! $ peeks ! R (Is R) (shows 𝓤 H A R) (zs .1 .1 .0) (mach (zs .1 .1 .0) ∷ []) (λ w-is. drop ! $
-        -- [_6; the tokens of κ₁ and κ₂; that of κ₀; the last list of l; of t; c's; _13; …; …; _7; …; what frees _6; _5; …; …; room for _0; …]
+        -- [_6; the tokens of κ₁ and κ₂; that of κ₀; the last list of l; of t; c's; _13; …; …; _7; …; what frees _6;
+        -- _5; …; …; room for _0; …]
         assigns ! (of-opd ! (load ! (from ! (stop !)) (look ! 0 refl))) (from ! (stop !)) (init ! 6 refl (LL.lawful T.the-type T′.the-laws 𝓤 H A W .typed (zs .1 .1 .0) _ w-is .0)) $
         assigns ! (agg ! (and-then ! (load ! (from ! (stop !)) (look ! 18 refl)) (and-then ! (load ! (from ! (stop !)) (look ! 6 refl)) (no-more !)))) (from ! (stop !)) (init ! 31 refl (LL.lawful N.the-type N′.the-laws 𝓤 H A W .typed (called r (zs .1 .1 .0)) _ (called-is r u (zs .1 .1 .0) is w-is) .0)) $
         returns ! (look ! 31 refl) $ forget ! 0 refl $ forget ! 6 refl $ forget ! 8 refl $ forget ! 10 refl $ forget ! 12 refl $ forget ! 14 refl $ forget ! 16 refl $ forget ! 18 refl $ forget ! 21 refl $ forget ! 23 refl $ forget ! 25 refl $ forget ! 27 refl $ forget ! 29 refl $ forget ! 31 refl $

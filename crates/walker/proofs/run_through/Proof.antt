@@ -1,4 +1,5 @@
--- `walker::run_through` meets its contract: the capacity's words, in form, are lent, and the run is put into them. Assumes nothing.
+-- `walker::run_through` meets its contract: the capacity's words, in form, are lent, and the run is put into them.
+-- Assumes nothing.
 use mathlib.Core.Path.{_≡_, sym, _∙_}
 use Prim.Native.Nat.{_*_, _≤_}
 use native.Mathlib.Omega.{arith}

@@ -1,4 +1,5 @@
--- `walker::start_through` meets its contract: the capacity's words are lent, and the start is put into them. Assumes nothing.
+-- `walker::start_through` meets its contract: the capacity's words are lent, and the start is put into them. Assumes
+-- nothing.
 use mathlib.Core.Path.{sym}
 use Prim.Native.Nat.{_*_, _≤_}
 use native.Mathlib.Omega.{arith}

@@ -1,4 +1,5 @@
--- `words::contains` meets its contract. The invariant: the word is in the list exactly when it is in what is left. Assumes nothing.
+-- `words::contains` meets its contract. The invariant: the word is in the list exactly when it is in what is left.
+-- Assumes nothing.
 use mathlib.Core.Path.{_≡_, refl, sym, ap, _∙_}
 use mathlib.Core.Bool.{Bool, true, false, _||_}
 use mathlib.Core.List.{List}
