@@ -165,7 +165,7 @@ fn leave(
     let mut count = waiting;
     let location = rows::location_of(copy);
     let mut id = leaving::first_leaving(heads, location);
-    while semantics::is_edge_of(edges, id) {
+    while semantics::is_edge_within(edges, id) {
         let edge = encoded::edge_of(first, id);
         let p = visit(
             chart,

@@ -50,7 +50,7 @@ loop-holds c =
 
 -- the chain names an edge of the chart
 in-chart : (c : tie.Then1 Inv-loop μ-loop) → c .before .before .loop .id .0 ≤ c .before .before .before .before .before .before .before .args .edges
-in-chart c = leb-true _ _ (sym (c .before .is-edge-of .ensures) ∙ c .if1 .taken)
+in-chart c = leb-true _ _ (sym (c .before .is-edge-within .ensures) ∙ c .if1 .taken)
 
 edge-of-requires : tie.Need-edge-of-requires Inv-loop μ-loop
 edge-of-requires c κs =
@@ -150,7 +150,7 @@ returns-2 c =
     let d = c .before .before in
     let b = d .before in
     let n = b .before .before .before .before .before .args .edges in
-    let past = leb-false (b .loop .id .0) n (sym (d .is-edge-of .ensures) ∙ c .before .if1 .left) in
+    let past = leb-false (b .loop .id .0) n (sym (d .is-edge-within .ensures) ∙ c .before .if1 .left) in
     rw (c .went-on .ensures) (record { out = sym (b .loop .inv .3 ∙ rw (edges-none (b .loop .id .0 - 1) n (omega (arith, past)))); kept = b .loop .inv .0 })
 
 pub leave-spec : {M : Type 1} → statement M

@@ -14,7 +14,7 @@ returns c =
     (leb (a .iterations) 60000)
     (leb 1 (a .capacity))
     (leb (a .capacity) 256)
-    (e .is-edge-of .ensures)
+    (e .is-edge-within .ensures)
     (c .before .edge-ok .ensures)
     (k .is-allowed .ensures)
     (c .empty-if-safe .ensures)

@@ -32,8 +32,8 @@ module _ (c : tie.After-lies-within) where
         toZ-ofZ w64 (start .args .z) (start .fits .z),
       )
 
-  is-within : c .lies-within .result ≡ within (getD (start .args .chart .now) (3 + 3 * start .args .k) (pos 0)) (getD (start .args .chart .now) (3 + 3 * start .args .k + 1) (pos 0)) (start .args .z)
-  is-within =
+  is-edge-within : c .lies-within .result ≡ within (getD (start .args .chart .now) (3 + 3 * start .args .k) (pos 0)) (getD (start .args .chart .now) (3 + 3 * start .args .k + 1) (pos 0)) (start .args .z)
+  is-edge-within =
       let p = c .before .before .variable-low .ensures in
       let q = c .before .variable-high .ensures in
       told ∙ λ i. within (p i) (q i) (start .args .z)
@@ -54,11 +54,11 @@ returns c =
     let h = c .before .before .before in
     let s = h .before .before .before .before in
     let z = s .args .z in
-    rw (sym (is-within (h .before)) ∙ h .if1 .taken, c .before .put .ensures, toZ-ofZ w64 z (s .fits .z), toZ-ofZ w32 z (fits h))
+    rw (sym (is-edge-within (h .before)) ∙ h .if1 .taken, c .before .put .ensures, toZ-ofZ w64 z (s .fits .z), toZ-ofZ w32 z (fits h))
 
 returns-2 : tie.Need-returns-2
 unfolding set-ranged
-returns-2 c = rw (sym (is-within (c .before)) ∙ c .if1 .left)
+returns-2 c = rw (sym (is-edge-within (c .before)) ∙ c .if1 .left)
 
 pub put-ranged-spec : {M : Type 1} → statement M
 put-ranged-spec =
