@@ -20,18 +20,18 @@ ghost use Rattle.transfer.specs.Transfer.{edge-at, edges-from, post-at};
 ghost use Rattle.analysis.specs.Loaded.{Edges-held, rows-only, domain-of, has-ended, went-on, Progressed, load-of, Held, Loaded, Ended, Finished};
 
 // How the edges of an iteration, or some of them, end.
-pub enum Exit {
+enum Exit {
     On,
     Alarm,
     Full,
 }
 
 // The state between two edges: how the last ended, the alarm's edge or 0, and the counts of slots in use and waiting.
-pub struct Progress {
-    pub exit: Exit,
-    pub edge: EdgeId,
-    pub used: usize,
-    pub waiting: usize,
+struct Progress {
+    exit: Exit,
+    edge: EdgeId,
+    used: usize,
+    waiting: usize,
 }
 
 // No edge so far has met an error or a full table.
@@ -46,7 +46,8 @@ fn went_on(used: usize, waiting: usize) -> Progress
     }
 }
 
-// The merge of a successor with each slot, by the setting. How many slots are waiting then.
+// The merge of a successor with each slot, by the setting. How many slots are waiting then. The capacity is there for
+// the contract alone.
 fn merge_by(
     merge: Mode,
     capacity: usize,
@@ -306,9 +307,8 @@ fn iteration(
     requires { ⌜ Held width edges a (now table) (now list) × (a .iterations < 60000) × (0 < a .waiting) × (width ≤ 9) × Edges-held (now chart) first edges (now heads) (now nexts) ⌝ }
     ensures { λ r. ⌜ Loaded width edges r (now (table .exit)) (now (list .exit)) (iteration (domain-of (now (chart .entry))) (edges-from 0 edges) (load-of width a (now (table .entry)) (now (list .entry)))) × (r .iterations ≡ a .iterations + 1) ⌝ }
 {
-    // a location and 8 variables at most
-    let mut copy = [0i32; 9];
-    let mut next = [0i32; 9];
+    let mut copy = [0i32; semantics::MOST_WIDTH];
+    let mut next = [0i32; semantics::MOST_WIDTH];
     iteration_with(
         chart,
         first,
@@ -390,10 +390,10 @@ pub fn run_core(
     ensures { λ r. ⌜ Loaded width edges r (now (table .exit)) (now (list .exit)) (run (domain-of (now (chart .entry))) (edges-from 0 edges) (min budget (60000 - a .iterations)) (load-of width a (now (table .entry)) (now (list .entry)))) ⌝ }
 {
     let first = encoded::first_edge(chart);
-    // 64 locations and 256 edges at most; the number past the last edge stands for none
+    // the number past the last edge stands for none
     let none = edges + 1;
-    let mut heads = [none; 64];
-    let mut nexts = [0usize; 256];
+    let mut heads = [none; semantics::MOST_LOCATIONS];
+    let mut nexts = [0usize; semantics::MOST_EDGES];
     leaving::chain(chart, edges, &mut heads, &mut nexts);
     let most = iterations_left(budget, a.iterations);
     play(

@@ -206,7 +206,8 @@ fn record_ok(a: Analysis, edges: usize) -> bool
     let stop = settings.stop;
     let verdict = a.verdict;
     let edge = a.edge;
-    let counts = (a.iterations <= semantics::MOST_ITERATIONS) & semantics::is_edge_within(edges, edge);
+    let counts = (a.iterations <= semantics::MOST_ITERATIONS)
+        & semantics::is_edge_within(edges, edge);
     let rest = ((1 <= a.capacity) & (a.capacity <= 256)) & is_allowed(merge, stop);
     counts & edge_ok(edge, verdict) & rest & empty_if_safe(verdict, a.waiting)
 }

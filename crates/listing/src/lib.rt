@@ -212,7 +212,7 @@ fn put_slots(
     ensures { λ r. ⌜ Put at (slots-text (decode (now (chart .entry))) (map natAbs (now (list .entry))) 0 (states-in (width (decode (now (chart .entry)))) used (now (table .entry)))) (now (out .entry)) (now (out .exit)) r ⌝ }
 {
     let w = encoded::width(chart);
-    let mut marks = [false; 256];
+    let mut marks = [false; semantics::MOST_SLOTS];
     mark_waiting(&mut marks, list);
     let mut place = writing::put_bytes(out, at, b"");
     let mut from = 0;

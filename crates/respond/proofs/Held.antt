@@ -24,13 +24,13 @@ use Rattle.form.specs.Form.{lent}
 use Rattle.walker.specs.declared.Called.{Called}
 use Rattle.walker.specs.Calls.{Ends-called}
 use Rattle.go_line.specs.declared.Go.{Go}
-use Rattle.respond.specs.Responded.{asking, Asked, Holds, Printed}
+use Rattle.respond.specs.Responded.{asking, Accepted, Holds, Printed}
 
 -- what a call leaves, by the outcome that it has
 ends-at : {o : Outcome} {r : Called} {t l : List ℤ} → Ends-called o r t l → (m : Memory) → o .memory ≡ m → lent t l (r .analysis) ≡ m
 ends-at e m p = (λ i. record { table = e .table i; waitlist = e .waitlist i; analysis = e .analysis i }) ∙ p
 
-module _ (words : List ℤ) (formed : T (well-formed words)) (go : Go) (asked : Asked go) where
+module _ (words : List ℤ) (formed : T (well-formed words)) (go : Go) (asked : Accepted go) where
   abbrev chart : Chart
   chart = decode words
 

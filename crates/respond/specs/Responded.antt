@@ -28,7 +28,7 @@ abbrev pub no-analysis : Settings → Analysis
 no-analysis z = record { settings = z; capacity = 0; iterations = 0; used = 0; waiting = 0; verdict = Open; edge = record { 0 = 0 } }
 
 -- the go line of some input asks it, and was accepted
-pub record Asked (g : Go) : Type 0 where
+pub record Accepted (g : Go) : Type 0 where
   pub input : List ℕ
   pub is : go-line input ≡ ok (asking g)
 

@@ -16,15 +16,14 @@ ghost use Rattle.semantics.specs.Outcomes.{started};
 ghost use Rattle.semantics.specs.Program.{explored, print-read, output};
 ghost use Rattle.form.specs.Form.{lent};
 ghost use Rattle.writing.specs.Writing.{Put};
-ghost use Rattle.respond.specs.Responded.{no-analysis, asking, Asked, Lends, Holds, Printed};
+ghost use Rattle.respond.specs.Responded.{no-analysis, asking, Accepted, Lends, Holds, Printed};
 
-// The words lent suffice for every chart and every capacity. A chart has three counts, 8 variables of 3 words, 64
-// locations of 17 and 256 edges of 8 at most; a table 256 slots of a location and 8 values; a waitlist 256 slots.
-const CHART_WORDS: usize = 3163;
+// The words lent suffice for every chart and every capacity: 3,163, 2,304 and 256.
+const CHART_WORDS: usize = semantics::COUNTS_WORDS + semantics::ROWS_WORDS;
 
-const TABLE_WORDS: usize = 2304;
+const TABLE_WORDS: usize = semantics::MOST_SLOTS * semantics::MOST_WIDTH;
 
-const LIST_WORDS: usize = 256;
+const LIST_WORDS: usize = semantics::MOST_SLOTS;
 
 // The line of a refusal.
 fn put_refusal(out: &mut [u8], number: u32, line: usize) -> usize
@@ -55,7 +54,7 @@ fn no_analysis(settings: Settings) -> Analysis
 // The start. It goes through, and so do the run and the listing: the go line was accepted, and the words lent are
 // enough. So no answer of theirs is looked at but the listing's length.
 fn begin(chart: &[i32], go: Go, table: &mut [i32], list: &mut [i32]) -> Analysis
-    requires { ⌜ Lends (now chart) (now table) (now list) × Asked go ⌝ }
+    requires { ⌜ Lends (now chart) (now table) (now list) × Accepted go ⌝ }
     ensures { λ r. ⌜ Holds (decode (now (chart .entry))) (started (decode (now (chart .entry))) (go .settings) (go .capacity)) (lent (now (table .exit)) (now (list .exit)) r) ⌝ }
 {
     let settings = go.settings;
@@ -66,7 +65,7 @@ fn begin(chart: &[i32], go: Go, table: &mut [i32], list: &mut [i32]) -> Analysis
 
 // The start, and the run unless the start gave a verdict.
 fn explore(chart: &[i32], go: Go, table: &mut [i32], list: &mut [i32]) -> Analysis
-    requires { ⌜ Lends (now chart) (now table) (now list) × Asked go ⌝ }
+    requires { ⌜ Lends (now chart) (now table) (now list) × Accepted go ⌝ }
     ensures { λ r. ⌜ Holds (decode (now (chart .entry))) (explored (decode (now (chart .entry))) (asking go)) (lent (now (table .exit)) (now (list .exit)) r) ⌝ }
 {
     let a = begin(chart, go, table, list);
@@ -80,7 +79,7 @@ fn explore(chart: &[i32], go: Go, table: &mut [i32], list: &mut [i32]) -> Analys
 
 // The listing of an accepted chart.
 fn put_listing(chart: &[i32], go: Go, out: &mut [u8]) -> usize
-    requires { ⌜ T (well-formed (now chart)) × (length (now out) ≡ 24576) × Asked go ⌝ }
+    requires { ⌜ T (well-formed (now chart)) × (length (now out) ≡ 24576) × Accepted go ⌝ }
     ensures { λ r. ⌜ Printed (listing-text (decode (now (chart .entry))) (explored (decode (now (chart .entry))) (asking go))) (now (out .entry)) (now (out .exit)) r ⌝ }
 {
     let mut table = [0i32; TABLE_WORDS];
@@ -92,7 +91,7 @@ fn put_listing(chart: &[i32], go: Go, out: &mut [u8]) -> usize
 
 // The chart's refusal, or its listing.
 fn put_chart(chart: &[u8], go: Go, out: &mut [u8]) -> usize
-    requires { ⌜ (length (now out) ≡ 24576) × Asked go ⌝ }
+    requires { ⌜ (length (now out) ≡ 24576) × Accepted go ⌝ }
     ensures { λ r. ⌜ Printed (print-read (asking go) (read (now (chart .entry)))) (now (out .entry)) (now (out .exit)) r ⌝ }
 {
     let mut words = [0i32; CHART_WORDS];

@@ -98,8 +98,7 @@ fn begin(
     requires { ⌜ Begins (now chart) settings capacity width (now table) (now list) × (width ≤ 9) ⌝ }
     ensures { λ r. ⌜ ((last : ℕ) → Loaded width last r (now (table .exit)) (now (list .exit)) (start (domain-of (now (chart .entry))) settings capacity (initial-row (now (chart .entry))))) ⌝ }
 {
-    // a location and 8 variables at most
-    let mut row = [0i32; 9];
+    let mut row = [0i32; semantics::MOST_WIDTH];
     begin_with(chart, settings, capacity, table, list, &mut row[..width])
 }
 
@@ -115,15 +114,15 @@ fn start_through(
     ensures { λ r. ⌜ ((a : Analysis) → put-in (decode (now (chart .entry))) (started (decode (now (chart .entry))) settings (pos capacity)) (lent (now (table .entry)) (now (list .entry)) a) ≡ lent (now (table .exit)) (now (list .exit)) r) ⌝ }
 {
     let width = encoded::width(chart);
-    let places = capacity as usize;
-    let size = places * width;
+    let slots = capacity as usize;
+    let size = slots * width;
     begin(
         chart,
         settings,
         capacity,
         width,
         &mut table[..size],
-        &mut list[..places],
+        &mut list[..slots],
     )
 }
 
@@ -140,8 +139,8 @@ fn run_through(
 {
     let width = encoded::width(chart);
     let edges = encoded::edge_count(chart);
-    let places = a.capacity as usize;
-    let size = places * width;
+    let slots = a.capacity as usize;
+    let size = slots * width;
     analysis::run_core(
         chart,
         edges,
@@ -149,7 +148,7 @@ fn run_through(
         a,
         budget,
         &mut table[..size],
-        &mut list[..places],
+        &mut list[..slots],
     )
 }
 
