@@ -16,7 +16,7 @@ pub enum Fault {
 fn byte_ok(b: u8) -> bool
     ensures { λ r. ⌜ r ≡ byte-ok b ⌝ }
 {
-    (b == semantics::TAB) | (b == semantics::LF) | ((33 <= b) & (b <= 126))
+    (b == semantics::TAB) | (b == semantics::LF) | ((b'!' <= b) & (b <= b'~'))
 }
 
 // One line more after an LF.

@@ -117,7 +117,10 @@ pub fn filled(line: &[u8], count: usize) -> bool
 fn name_byte(b: u8) -> bool
     ensures { λ r. ⌜ r ≡ name-byte b ⌝ }
 {
-    ((65 <= b) & (b <= 90)) | ((97 <= b) & (b <= 122)) | ((48 <= b) & (b <= 57)) | (b == 45)
+    ((b'A' <= b) & (b <= b'Z'))
+        | ((b'a' <= b) & (b <= b'z'))
+        | ((b'0' <= b) & (b <= b'9'))
+        | (b == b'-')
 }
 
 // 1 to 16 such bytes.
@@ -140,23 +143,25 @@ pub fn name_ok(f: &[u8]) -> bool
     true
 }
 
-// A number without sign, cut at 100,000.
+// Beyond this no test tells two numbers apart; cut there, digits of any length never overflow.
+const CUT: u32 = 100_000;
+
+// A number without sign, cut.
 enum Natural {
     Malformed,
     Is(u32),
 }
 
-// A number, its magnitude cut at 100,000. Named so since a function is called `number`.
+// A number, its magnitude cut. Named so since a function is called `number`.
 pub enum NumberRead {
     Malformed,
     Is(i32),
 }
 
-// Beyond 100,000 no test tells two numbers apart; cut there, digits of any length never overflow.
 fn cut(n: u32) -> u32
     ensures { λ r. ⌜ r ≡ min n 100000 ⌝ }
 {
-    if n < 100000 { n } else { 100000 }
+    if n < CUT { n } else { CUT }
 }
 
 // A byte in 32 bits.
@@ -166,7 +171,7 @@ fn wide(b: u8) -> u32
     b as u32
 }
 
-// The number that digits write; 0 where there are none.
+// The number that digits write; 0 where there are none. 48 is '0' and 57 is '9'.
 fn digits_in(f: &[u8]) -> Natural
     ensures { λ r. ⌜ r ≡ natural-read (digits 0 (now (f .entry))) ⌝ }
 {
@@ -193,7 +198,7 @@ fn natural_in(f: &[u8]) -> Natural
     if f.len() == 0 {
         return Natural::Malformed;
     }
-    if f[0] != 48 {
+    if f[0] != b'0' {
         return digits_in(f);
     }
     if f.len() == 1 {
@@ -241,7 +246,7 @@ pub fn number(f: &[u8]) -> NumberRead
     if f.len() == 0 {
         return NumberRead::Malformed;
     }
-    if f[0] == 45 {
+    if f[0] == b'-' {
         return minus(natural_in(&f[1..]));
     }
     unsigned(f)
@@ -359,7 +364,7 @@ pub fn target_field(count: usize, f: &[u8]) -> Index
     if f.len() == 0 {
         return Index::Refused(6);
     }
-    if f[0] != 36 {
+    if f[0] != b'$' {
         return Index::Refused(6);
     }
     below(count, unsigned(&f[1..]))
@@ -397,7 +402,7 @@ pub fn operand_field(count: usize, f: &[u8]) -> Operand
     requires { ⌜ count ≤ 256 ⌝ }
     ensures { λ r. ⌜ operand-res r ≡ operand-field count (now (f .entry)) ⌝ }
 {
-    if first(f) == 36 {
+    if first(f) == b'$' {
         return as_variable(target_field(count, f));
     }
     as_number(number_field(f))
