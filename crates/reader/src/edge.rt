@@ -1,4 +1,5 @@
 // `E from to operation ..`: the line is judged, and its row stored.
+use semantics::MOST_EDGES;
 ghost use mathlib.Core.Path.{_≡_};
 ghost use mathlib.Core.Bool.{_&&_};
 ghost use mathlib.Core.List.{List};
@@ -19,7 +20,6 @@ use super::operation;
 use super::operation::OpLine;
 use super::operation::OpRow;
 use super::store;
-use super::tally::MOST_EDGES;
 use super::tally::Step;
 use super::tally::Tally;
 use super::tally::used_words;

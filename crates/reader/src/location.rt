@@ -1,4 +1,7 @@
 // `L name kind`: the line is judged, and its row stored.
+use semantics::LOCATION_WORDS;
+use semantics::MOST_LOCATIONS;
+use semantics::VARIABLE_WORDS;
 ghost use mathlib.Core.Path.{_≡_};
 ghost use mathlib.Core.Bool.{true};
 ghost use mathlib.Core.List.{List};
@@ -11,11 +14,8 @@ ghost use Rattle.text.specs.Fields.{flag-res};
 ghost use Rattle.reader.specs.Lines.{loc-judged, loc-named};
 ghost use Rattle.reader.specs.Held.{Few, Rows, Names, Stepped};
 use super::store;
-use super::tally::LOCATION_WORDS;
-use super::tally::MOST_LOCATIONS;
 use super::tally::Step;
 use super::tally::Tally;
-use super::tally::VARIABLE_WORDS;
 use super::tally::used_words;
 
 // All the fields: their count, then the name, then the kind, which is the answer.

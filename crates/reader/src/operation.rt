@@ -1,5 +1,6 @@
 // The operation of an E line: what follows the two locations, as six words. `table` is that of the chart's rows, which
 // begin with the variables' ranges.
+use semantics::VARIABLE_WORDS;
 ghost use mathlib.Core.Path.{_≡_};
 ghost use mathlib.Core.Bool.{_&&_};
 ghost use Prim.Native.Nat.{_<_, _≤_};
@@ -12,7 +13,6 @@ ghost use Rattle.semantics.specs.Reading.{nth, ok, number-field, operand-field,
 ghost use Rattle.reader.specs.Answers.{operand-field-res, op-res, the-word, the-rel};
 ghost use Rattle.reader.specs.Lines.{in-table, operand-read, one-read, second-read, two-read, input-high-read, input-read, assume-read, op-read};
 ghost use Rattle.reader.specs.Lines.{targeted as targeted-read, after-target as after-target-read};
-use super::tally::VARIABLE_WORDS;
 
 // A refusal's number, or an operand's tag (0 for a number, 1 for a variable) and value.
 enum OperandField {

@@ -1,4 +1,5 @@
 // Rows of words in a table: how they are stored, and the look for a name among them.
+use semantics::NAME_WORDS;
 ghost use mathlib.Core.Path.{_≡_};
 ghost use mathlib.Core.List.{_∷_};
 ghost use Prim.Native.Nat.{_+_, _*_, _≤_, _<_};
@@ -6,7 +7,6 @@ ghost use lib.IntN.{pos};
 ghost use lib.ListN.{length, getD, drop};
 ghost use Rattle.semantics.specs.Encoding.{kind-word};
 ghost use Rattle.reader.specs.Rows.{name-row, names-it, seen, stored};
-use super::tally::NAME_WORDS;
 
 // The byte at a place as a word; 0 past the end.
 fn byte_at(name: &[u8], i: usize) -> i32

@@ -1,4 +1,7 @@
 // `V name lo hi init`: the line is judged, and its row stored.
+use semantics::MOST_VARIABLES;
+use semantics::NAME_WORDS;
+use semantics::VARIABLE_WORDS;
 ghost use mathlib.Core.Path.{_≡_};
 ghost use mathlib.Core.Bool.{true};
 ghost use Prim.Native.Nat.{_<_};
@@ -9,11 +12,8 @@ ghost use Rattle.reader.specs.Answers.{var-of, var-res};
 ghost use Rattle.reader.specs.Lines.{var-init, var-high, var-low, var-judged, var-named};
 ghost use Rattle.reader.specs.Held.{Few, Rows, Names, Stepped};
 use super::store;
-use super::tally::MOST_VARIABLES;
-use super::tally::NAME_WORDS;
 use super::tally::Step;
 use super::tally::Tally;
-use super::tally::VARIABLE_WORDS;
 
 // The three words of a variable's row.
 struct VarRow {
