@@ -5,7 +5,7 @@ ghost use mathlib.Core.Bool.{_&&_};
 ghost use mathlib.Core.List.{List};
 ghost use Prim.Native.Nat.{_<_};
 ghost use lib.Dec.{leb};
-ghost use lib.IntN.{ℤ};
+ghost use lib.IntN.{ℤ, pos};
 ghost use lib.ListN.{length};
 ghost use Rattle.semantics.specs.Text.{fields};
 ghost use Rattle.semantics.specs.Reading.{So-far, none-empty, edge-line};
@@ -52,6 +52,14 @@ fn field_count(w: text::OpWord) -> usize
     }
 }
 
+// The word of a location's number.
+fn location_word(l: semantics::LocationId) -> i32
+    requires { ⌜ l .0 < 1000 ⌝ }
+    ensures { λ r. ⌜ r ≡ pos (l .0) ⌝ }
+{
+    l.0 as i32
+}
+
 // The edge's words, from the operation's.
 fn with_op(from: semantics::LocationId, to: semantics::LocationId, op: OpLine) -> EdgeLine
     requires { ⌜ (from .0 < 1000) × (to .0 < 1000) ⌝ }
@@ -60,8 +68,8 @@ fn with_op(from: semantics::LocationId, to: semantics::LocationId, op: OpLine) -
     match op {
         OpLine::Refused(k) => EdgeLine::Refused(k),
         OpLine::Is(o) => EdgeLine::Is(EdgeRow {
-            from: operation::index_word(from.0),
-            to: operation::index_word(to.0),
+            from: location_word(from),
+            to: location_word(to),
             op: o,
         }),
     }

@@ -36,8 +36,8 @@ pub enum OpLine {
     Is(OpRow),
 }
 
-// The word of a location's or a variable's number.
-pub fn index_word(k: usize) -> i32
+// The word of a variable's number.
+fn variable_word(k: usize) -> i32
     requires { ⌜ k < 1000 ⌝ }
     ensures { λ r. ⌜ r ≡ pos k ⌝ }
 {
@@ -52,7 +52,7 @@ fn operand_of(vars: usize, f: &[u8]) -> OperandField
     match text::operand_field(vars, f) {
         text::Operand::Refused(k) => OperandField::Refused(k),
         text::Operand::Number(z) => OperandField::Is(0, z),
-        text::Operand::Var(v) => OperandField::Is(1, index_word(v)),
+        text::Operand::Var(v) => OperandField::Is(1, variable_word(v)),
     }
 }
 
@@ -65,7 +65,7 @@ fn one_operand(code: i32, v: usize, vars: usize, f: &[u8]) -> OpLine
         OperandField::Refused(k) => OpLine::Refused(k),
         OperandField::Is(t, x) => OpLine::Is(OpRow {
             code: code,
-            target: index_word(v),
+            target: variable_word(v),
             tag1: t,
             value1: x,
             tag2: 0,
@@ -83,7 +83,7 @@ fn second_operand(code: i32, v: usize, t: i32, x: i32, vars: usize, f: &[u8]) ->
         OperandField::Refused(k) => OpLine::Refused(k),
         OperandField::Is(u, y) => OpLine::Is(OpRow {
             code: code,
-            target: index_word(v),
+            target: variable_word(v),
             tag1: t,
             value1: x,
             tag2: u,
@@ -131,7 +131,7 @@ fn input_high(table: &[i32], v: usize, p: i32, f: &[u8]) -> OpLine
             if up_to(table, v, p, q) {
                 return OpLine::Is(OpRow {
                     code: 4,
-                    target: index_word(v),
+                    target: variable_word(v),
                     tag1: 0,
                     value1: p,
                     tag2: 0,
