@@ -38,17 +38,17 @@ enum EdgeLine {
 }
 
 // How many fields a line with this operation has.
-fn field_count(w: text::OpWord) -> usize
+fn field_count(w: text::OpWordRead) -> usize
     ensures { λ r. ⌜ r ≡ field-count-of (the-word w) ⌝ }
 {
     match w {
-        text::OpWord::Refused(_) => 4,
-        text::OpWord::Set => 6,
-        text::OpWord::Add => 7,
-        text::OpWord::Sub => 7,
-        text::OpWord::In => 7,
-        text::OpWord::If => 7,
-        text::OpWord::Skip => 4,
+        text::OpWordRead::Refused(_) => 4,
+        text::OpWordRead::Set => 6,
+        text::OpWordRead::Add => 7,
+        text::OpWordRead::Sub => 7,
+        text::OpWordRead::In => 7,
+        text::OpWordRead::If => 7,
+        text::OpWordRead::Skip => 4,
     }
 }
 
@@ -78,7 +78,7 @@ fn with_op(from: semantics::LocationId, to: semantics::LocationId, op: OpLine) -
 // The fields from `to` on.
 fn with_from(
     from: semantics::LocationId,
-    w: text::OpWord,
+    w: text::OpWordRead,
     t: Tally,
     table: &[i32],
     line: &[u8],
@@ -93,7 +93,7 @@ fn with_from(
 }
 
 // The fields from `from` on.
-fn judged(w: text::OpWord, t: Tally, table: &[i32], line: &[u8]) -> EdgeLine
+fn judged(w: text::OpWordRead, t: Tally, table: &[i32], line: &[u8]) -> EdgeLine
     requires { ⌜ Few t ⌝ }
     ensures { λ r. ⌜ edge-res r ≡ edge-read (t .locs) (op-read (now (table .entry)) (t .vars) (the-word w) (fields (now (line .entry)))) (fields (now (line .entry))) ⌝ }
 {
@@ -124,7 +124,7 @@ fn push(t: Tally, table: &mut [i32], g: EdgeRow)
 }
 
 // A line whose operation is known: 5 by its count, then its fields.
-fn worded(w: text::OpWord, t: Tally, table: &mut [i32], line: &[u8]) -> Step
+fn worded(w: text::OpWordRead, t: Tally, table: &mut [i32], line: &[u8]) -> Step
     requires { ⌜ Few t × (t .edges < 256) × (length (now table) ≡ 3160) ⌝ }
     ensures { λ r. ⌜ ((s : So-far) (names : List ℤ) → Rows t (now (table .entry)) (s .chart) → Names (t .vars) names (s .names) → Stepped r (edge-worded s (the-word w) (fields (now (line .entry)))) (now (table .exit)) names) ⌝ }
 {
@@ -164,7 +164,7 @@ pub fn read_line(t: Tally, table: &mut [i32], line: &[u8]) -> Step
     }
     let w = text::op_word_field(text::field(line, 3));
     match w {
-        text::OpWord::Refused(k) => Step::Refused(k),
+        text::OpWordRead::Refused(k) => Step::Refused(k),
         _ => worded(w, t, table, line),
     }
 }

@@ -50,9 +50,9 @@ fn operand_of(vars: usize, f: &[u8]) -> OperandField
     ensures { λ r. ⌜ operand-field-res r ≡ operand-read (operand-field vars (now (f .entry))) ⌝ }
 {
     match text::operand_field(vars, f) {
-        text::Operand::Refused(k) => OperandField::Refused(k),
-        text::Operand::Number(z) => OperandField::Is(0, z),
-        text::Operand::Var(v) => OperandField::Is(1, variable_word(v)),
+        text::OperandRead::Refused(k) => OperandField::Refused(k),
+        text::OperandRead::Number(z) => OperandField::Is(0, z),
+        text::OperandRead::Var(v) => OperandField::Is(1, variable_word(v)),
     }
 }
 
@@ -112,8 +112,8 @@ fn in_range(table: &[i32], v: usize, z: i32) -> bool
     words::lies_within(words::word_at(table, at), words::word_at(table, at + 1), z)
 }
 
-// Whether p..q ends in the range of variable v.
-fn up_to(table: &[i32], v: usize, p: i32, q: i32) -> bool
+// Whether q lies in the range of variable v and not below p.
+fn high_ok(table: &[i32], v: usize, p: i32, q: i32) -> bool
     requires { ⌜ v < 1000 ⌝ }
     ensures { λ r. ⌜ r ≡ in-table (now (table .entry)) v q && leZ p q ⌝ }
 {
@@ -126,9 +126,9 @@ fn input_high(table: &[i32], v: usize, p: i32, f: &[u8]) -> OpLine
     ensures { λ r. ⌜ op-res r ≡ input-high-read (now (table .entry)) v p (number-field (now (f .entry))) ⌝ }
 {
     match text::number_field(f) {
-        text::Word::Refused(k) => OpLine::Refused(k),
-        text::Word::Is(q) => {
-            if up_to(table, v, p, q) {
+        text::WordRead::Refused(k) => OpLine::Refused(k),
+        text::WordRead::Is(q) => {
+            if high_ok(table, v, p, q) {
                 return OpLine::Is(OpRow {
                     code: 4,
                     target: variable_word(v),
@@ -149,8 +149,8 @@ fn input(table: &[i32], v: usize, line: &[u8]) -> OpLine
     ensures { λ r. ⌜ op-res r ≡ input-read (now (table .entry)) v (number-field (nth (fields (now (line .entry))) 5)) (number-field (nth (fields (now (line .entry))) 6)) ⌝ }
 {
     match text::number_field(text::field(line, 5)) {
-        text::Word::Refused(k) => OpLine::Refused(k),
-        text::Word::Is(p) => {
+        text::WordRead::Refused(k) => OpLine::Refused(k),
+        text::WordRead::Is(p) => {
             if in_range(table, v, p) {
                 return input_high(table, v, p, text::field(line, 6));
             }
@@ -160,17 +160,17 @@ fn input(table: &[i32], v: usize, line: &[u8]) -> OpLine
 }
 
 // The code of `if` with this relation.
-fn code_of(r: text::Relation) -> i32
+fn code_of(r: text::RelationRead) -> i32
     ensures { λ x. ⌜ x ≡ pos (rel-code (the-rel r)) ⌝ }
 {
     match r {
-        text::Relation::Refused(_) => 10,
-        text::Relation::Eq => 5,
-        text::Relation::Ne => 6,
-        text::Relation::Lt => 7,
-        text::Relation::Le => 8,
-        text::Relation::Gt => 9,
-        text::Relation::Ge => 10,
+        text::RelationRead::Refused(_) => 10,
+        text::RelationRead::Eq => 5,
+        text::RelationRead::Ne => 6,
+        text::RelationRead::Lt => 7,
+        text::RelationRead::Le => 8,
+        text::RelationRead::Gt => 9,
+        text::RelationRead::Ge => 10,
     }
 }
 
@@ -181,7 +181,7 @@ fn assume(v: usize, vars: usize, line: &[u8]) -> OpLine
 {
     let r = text::rel_field(text::field(line, 5));
     match r {
-        text::Relation::Refused(k) => OpLine::Refused(k),
+        text::RelationRead::Refused(k) => OpLine::Refused(k),
         _ => one_operand(code_of(r), v, vars, text::field(line, 6)),
     }
 }
@@ -201,39 +201,39 @@ fn unchanged() -> OpLine
 }
 
 // The fields after the target.
-fn after_target(w: text::OpWord, v: usize, vars: usize, table: &[i32], line: &[u8]) -> OpLine
+fn after_target(w: text::OpWordRead, v: usize, vars: usize, table: &[i32], line: &[u8]) -> OpLine
     requires { ⌜ (vars ≤ 8) × (v < 1000) ⌝ }
     ensures { λ r. ⌜ op-res r ≡ after-target-read (now (table .entry)) vars (the-word w) v (fields (now (line .entry))) ⌝ }
 {
     match w {
-        text::OpWord::Set => one_operand(1, v, vars, text::field(line, 5)),
-        text::OpWord::Add => two_operands(2, v, vars, line),
-        text::OpWord::Sub => two_operands(3, v, vars, line),
-        text::OpWord::In => input(table, v, line),
-        text::OpWord::If => assume(v, vars, line),
+        text::OpWordRead::Set => one_operand(1, v, vars, text::field(line, 5)),
+        text::OpWordRead::Add => two_operands(2, v, vars, line),
+        text::OpWordRead::Sub => two_operands(3, v, vars, line),
+        text::OpWordRead::In => input(table, v, line),
+        text::OpWordRead::If => assume(v, vars, line),
         _ => unchanged(),
     }
 }
 
 // The fields from the target on.
-fn targeted(w: text::OpWord, vars: usize, table: &[i32], line: &[u8]) -> OpLine
+fn targeted(w: text::OpWordRead, vars: usize, table: &[i32], line: &[u8]) -> OpLine
     requires { ⌜ vars ≤ 8 ⌝ }
     ensures { λ r. ⌜ op-res r ≡ targeted-read (now (table .entry)) vars (the-word w) (fields (now (line .entry))) ⌝ }
 {
     match text::target_field(vars, text::field(line, 4)) {
-        text::Index::Refused(k) => OpLine::Refused(k),
-        text::Index::Is(v) => after_target(w, v, vars, table, line),
+        text::VariableRead::Refused(k) => OpLine::Refused(k),
+        text::VariableRead::Is(v) => after_target(w, v, vars, table, line),
     }
 }
 
 // The fields after the operation's word.
-pub fn read(w: text::OpWord, vars: usize, table: &[i32], line: &[u8]) -> OpLine
+pub fn read(w: text::OpWordRead, vars: usize, table: &[i32], line: &[u8]) -> OpLine
     requires { ⌜ vars ≤ 8 ⌝ }
     ensures { λ r. ⌜ op-res r ≡ op-read (now (table .entry)) vars (the-word w) (fields (now (line .entry))) ⌝ }
 {
     match w {
-        text::OpWord::Refused(_) => unchanged(),
-        text::OpWord::Skip => unchanged(),
+        text::OpWordRead::Refused(_) => unchanged(),
+        text::OpWordRead::Skip => unchanged(),
         _ => targeted(w, vars, table, line),
     }
 }
