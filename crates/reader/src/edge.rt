@@ -1,4 +1,5 @@
-// `E from to operation ..`: the line is judged, and its row stored.
+// `E from to operation ..`: the line is judged, and its row stored. The bound 1,000 of a location's number only keeps
+// its word from wrapping.
 use semantics::MOST_EDGES;
 ghost use mathlib.Core.Path.{_≡_};
 ghost use mathlib.Core.Bool.{_&&_};
@@ -37,7 +38,7 @@ enum EdgeLine {
     Is(EdgeRow),
 }
 
-// How many fields a line with this operation has.
+// How many fields a line with this operation has. A refused word is never met: refused before.
 fn field_count(w: text::OpWordRead) -> usize
     ensures { λ r. ⌜ r ≡ field-count-of (the-word w) ⌝ }
 {

@@ -1,5 +1,6 @@
 // The operation of an E line: what follows the two locations, as six words. `table` is that of the chart's rows, which
-// begin with the variables' ranges.
+// begin with the variables' ranges. The bound 1,000 of a variable's number only keeps its word, and the place of its
+// range, from wrapping.
 use semantics::VARIABLE_WORDS;
 ghost use mathlib.Core.Path.{_≡_};
 ghost use mathlib.Core.Bool.{_&&_};
@@ -120,7 +121,7 @@ fn high_ok(table: &[i32], v: usize, p: i32, q: i32) -> bool
     in_range(table, v, q) & (p <= q)
 }
 
-// q, after p.
+// The upper end q of `in`, in the field f, after the lower end p.
 fn input_high(table: &[i32], v: usize, p: i32, f: &[u8]) -> OpLine
     requires { ⌜ v < 1000 ⌝ }
     ensures { λ r. ⌜ op-res r ≡ input-high-read (now (table .entry)) v p (number-field (now (f .entry))) ⌝ }
@@ -143,7 +144,7 @@ fn input_high(table: &[i32], v: usize, p: i32, f: &[u8]) -> OpLine
     }
 }
 
-// p and q of `in`.
+// The lower end p of `in`, then the upper end q.
 fn input(table: &[i32], v: usize, line: &[u8]) -> OpLine
     requires { ⌜ v < 1000 ⌝ }
     ensures { λ r. ⌜ op-res r ≡ input-read (now (table .entry)) v (number-field (nth (fields (now (line .entry))) 5)) (number-field (nth (fields (now (line .entry))) 6)) ⌝ }
@@ -159,7 +160,7 @@ fn input(table: &[i32], v: usize, line: &[u8]) -> OpLine
     }
 }
 
-// The code of `if` with this relation.
+// The code of `if` with this relation. A refused one is never met: refused before.
 fn code_of(r: text::RelationRead) -> i32
     ensures { λ x. ⌜ x ≡ pos (rel-code (the-rel r)) ⌝ }
 {
@@ -200,7 +201,7 @@ fn unchanged() -> OpLine
     })
 }
 
-// The fields after the target.
+// The fields after the target. `skip`, which has none, and a refused word are never met.
 fn after_target(w: text::OpWordRead, v: usize, vars: usize, table: &[i32], line: &[u8]) -> OpLine
     requires { ⌜ (vars ≤ 8) × (v < 1000) ⌝ }
     ensures { λ r. ⌜ op-res r ≡ after-target-read (now (table .entry)) vars (the-word w) v (fields (now (line .entry))) ⌝ }
@@ -226,7 +227,7 @@ fn targeted(w: text::OpWordRead, vars: usize, table: &[i32], line: &[u8]) -> OpL
     }
 }
 
-// The fields after the operation's word.
+// The fields after the operation's word. A refused word is never met: refused before.
 pub fn read(w: text::OpWordRead, vars: usize, table: &[i32], line: &[u8]) -> OpLine
     requires { ⌜ vars ≤ 8 ⌝ }
     ensures { λ r. ⌜ op-res r ≡ op-read (now (table .entry)) vars (the-word w) (fields (now (line .entry))) ⌝ }

@@ -19,7 +19,7 @@ fn byte_ok(b: u8) -> bool
     (b == semantics::TAB) | (b == semantics::LF) | ((b'!' <= b) & (b <= b'~'))
 }
 
-// One line more after an LF.
+// One line more after an LF. The bound only keeps the sum from wrapping.
 fn line_after(n: usize, b: u8) -> usize
     requires { ⌜ n < 10000000000000000000 ⌝ }
     ensures { λ r. ⌜ r ≡ pick (eqb b 10) (suc n) n ⌝ }

@@ -99,7 +99,7 @@ operand-res (operand.Refused k) = fail k
 operand-res (operand.Number z) = ok (num z)
 operand-res (operand.Var k) = ok (var k)
 
--- whether a location is bad
+-- whether a location is an error location
 unfoldable pub kind-res : KindRead → Res Bool
 kind-res (kind.Refused k) = fail k
 kind-res (kind.Is b) = ok b

@@ -152,7 +152,7 @@ enum Natural {
     Is(u32),
 }
 
-// A number, its magnitude cut. Named so since a function is called `number`.
+// A number, its magnitude cut.
 pub enum NumberRead {
     Malformed,
     Is(i32),
@@ -252,7 +252,9 @@ pub fn number(f: &[u8]) -> NumberRead
     unsigned(f)
 }
 
-// What a field says, or the refusal's number. First, a variable by its number.
+// ---- fields: the refusal's number, or what the field says
+
+// A variable, by its number.
 pub enum VariableRead {
     Refused(u32),
     Is(usize),
@@ -305,7 +307,7 @@ pub enum OpWordRead {
     Skip,
 }
 
-// 6 in form, 7 outside of -32,768..32,767.
+// 6 where malformed, 7 outside of -32,768..32,767.
 fn small_word(n: NumberRead) -> WordRead
     ensures { λ r. ⌜ word-res r ≡ small-or (number-said n) ⌝ }
 {
@@ -326,7 +328,7 @@ pub fn number_field(f: &[u8]) -> WordRead
     small_word(number(f))
 }
 
-// A number from 0 up to, not including, `count`: 6 in form, else 10.
+// A number from 0 up to, not including, `count`: 6 where malformed, 10 where it is another.
 fn below(count: usize, n: NumberRead) -> VariableRead
     ensures { λ r. ⌜ variable-res r ≡ below-or count (number-said n) ⌝ }
 {
@@ -345,7 +347,8 @@ fn below(count: usize, n: NumberRead) -> VariableRead
     }
 }
 
-// One of `count` locations.
+// One of `count` locations. Here and below, `count ≤ 256` only keeps it under the cut: a number that was cut is refused
+// as the number itself is.
 pub fn location_field(count: usize, f: &[u8]) -> LocationRead
     requires { ⌜ count ≤ 256 ⌝ }
     ensures { λ r. ⌜ location-res r ≡ location-field count (now (f .entry)) ⌝ }
