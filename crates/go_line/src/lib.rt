@@ -156,7 +156,7 @@ fn judged(line: &[u8]) -> Asked
 fn byte_ok(b: u8) -> bool
     ensures { λ r. ⌜ r ≡ line-byte b ⌝ }
 {
-    (b == semantics::TAB) | ((33 <= b) & (b <= 126))
+    (b == semantics::TAB) | ((b'!' <= b) & (b <= b'~'))
 }
 
 fn bytes_ok(line: &[u8]) -> bool

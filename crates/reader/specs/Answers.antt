@@ -7,8 +7,8 @@ use lib.IntN.{ℤ}
 use Rattle.semantics.specs.Chart.{Var, Rel, eq, ne, lt, le, gt, ge}
 use Rattle.semantics.specs.Encoding.{val}
 use Rattle.semantics.specs.Reading.{Res, fail, ok, OpWord, do-set, do-add, do-sub, do-in, do-if, do-skip}
-use Rattle.text.specs.declared.Relation.{Relation}
-use Rattle.text.specs.declared.OpWord.{OpWord as Said}
+use Rattle.text.specs.declared.RelationRead.{RelationRead}
+use Rattle.text.specs.declared.OpWordRead.{OpWordRead}
 use Rattle.reader.specs.declared.scan.Fault.{Fault}
 use Rattle.reader.specs.declared.variable.VarRow.{VarRow}
 use Rattle.reader.specs.declared.variable.VarLine.{VarLine}
@@ -18,8 +18,8 @@ use Rattle.reader.specs.declared.operation.OpLine.{OpLine}
 use Rattle.reader.specs.declared.edge.EdgeRow.{EdgeRow}
 use Rattle.reader.specs.declared.edge.EdgeLine.{EdgeLine}
 use Rattle.reader.specs.declared.scan.Fault.the-variants as fault
-use Rattle.text.specs.declared.Relation.the-variants as relation
-use Rattle.text.specs.declared.OpWord.the-variants as said
+use Rattle.text.specs.declared.RelationRead.the-variants as relation
+use Rattle.text.specs.declared.OpWordRead.the-variants as op-word
 use Rattle.reader.specs.declared.variable.VarLine.the-variants as var-line
 use Rattle.reader.specs.declared.operation.OperandField.the-variants as operand
 use Rattle.reader.specs.declared.operation.OpLine.the-variants as op-line
@@ -63,17 +63,17 @@ edge-res (edge-line.Refused k) = fail k
 edge-res (edge-line.Is g) = ok (edge-row g)
 
 -- the word that an answer names; a refused one stands for none
-abbrev pub the-word : Said → OpWord
-the-word (said.Refused k) = do-skip
-the-word said.Set = do-set
-the-word said.Add = do-add
-the-word said.Sub = do-sub
-the-word said.In = do-in
-the-word said.If = do-if
-the-word said.Skip = do-skip
+abbrev pub the-word : OpWordRead → OpWord
+the-word (op-word.Refused k) = do-skip
+the-word op-word.Set = do-set
+the-word op-word.Add = do-add
+the-word op-word.Sub = do-sub
+the-word op-word.In = do-in
+the-word op-word.If = do-if
+the-word op-word.Skip = do-skip
 
 -- the relation that an answer names; a refused one stands for the last
-abbrev pub the-rel : Relation → Rel
+abbrev pub the-rel : RelationRead → Rel
 the-rel (relation.Refused k) = ge
 the-rel relation.Eq = eq
 the-rel relation.Ne = ne

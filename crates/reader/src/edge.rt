@@ -1,10 +1,12 @@
-// `E from to operation ..`: the line is judged, and its row stored.
+// `E from to operation ..`: the line is judged, and its row stored. The bound 1,000 of a location's number only keeps
+// its word from wrapping.
+use semantics::MOST_EDGES;
 ghost use mathlib.Core.Path.{_≡_};
 ghost use mathlib.Core.Bool.{_&&_};
 ghost use mathlib.Core.List.{List};
 ghost use Prim.Native.Nat.{_<_};
 ghost use lib.Dec.{leb};
-ghost use lib.IntN.{ℤ};
+ghost use lib.IntN.{ℤ, pos};
 ghost use lib.ListN.{length};
 ghost use Rattle.semantics.specs.Text.{fields};
 ghost use Rattle.semantics.specs.Reading.{So-far, none-empty, edge-line};
@@ -19,7 +21,6 @@ use super::operation;
 use super::operation::OpLine;
 use super::operation::OpRow;
 use super::store;
-use super::tally::MOST_EDGES;
 use super::tally::Step;
 use super::tally::Tally;
 use super::tally::used_words;
@@ -37,19 +38,27 @@ enum EdgeLine {
     Is(EdgeRow),
 }
 
-// How many fields a line with this operation has.
-fn field_count(w: text::OpWord) -> usize
+// How many fields a line with this operation has. A refused word is never met: refused before.
+fn field_count(w: text::OpWordRead) -> usize
     ensures { λ r. ⌜ r ≡ field-count-of (the-word w) ⌝ }
 {
     match w {
-        text::OpWord::Refused(_) => 4,
-        text::OpWord::Set => 6,
-        text::OpWord::Add => 7,
-        text::OpWord::Sub => 7,
-        text::OpWord::In => 7,
-        text::OpWord::If => 7,
-        text::OpWord::Skip => 4,
+        text::OpWordRead::Refused(_) => 4,
+        text::OpWordRead::Set => 6,
+        text::OpWordRead::Add => 7,
+        text::OpWordRead::Sub => 7,
+        text::OpWordRead::In => 7,
+        text::OpWordRead::If => 7,
+        text::OpWordRead::Skip => 4,
     }
+}
+
+// The word of a location's number.
+fn location_word(l: semantics::LocationId) -> i32
+    requires { ⌜ l .0 < 1000 ⌝ }
+    ensures { λ r. ⌜ r ≡ pos (l .0) ⌝ }
+{
+    l.0 as i32
 }
 
 // The edge's words, from the operation's.
@@ -60,8 +69,8 @@ fn with_op(from: semantics::LocationId, to: semantics::LocationId, op: OpLine) -
     match op {
         OpLine::Refused(k) => EdgeLine::Refused(k),
         OpLine::Is(o) => EdgeLine::Is(EdgeRow {
-            from: operation::index_word(from.0),
-            to: operation::index_word(to.0),
+            from: location_word(from),
+            to: location_word(to),
             op: o,
         }),
     }
@@ -70,7 +79,7 @@ fn with_op(from: semantics::LocationId, to: semantics::LocationId, op: OpLine) -
 // The fields from `to` on.
 fn with_from(
     from: semantics::LocationId,
-    w: text::OpWord,
+    w: text::OpWordRead,
     t: Tally,
     table: &[i32],
     line: &[u8],
@@ -85,7 +94,7 @@ fn with_from(
 }
 
 // The fields from `from` on.
-fn judged(w: text::OpWord, t: Tally, table: &[i32], line: &[u8]) -> EdgeLine
+fn judged(w: text::OpWordRead, t: Tally, table: &[i32], line: &[u8]) -> EdgeLine
     requires { ⌜ Few t ⌝ }
     ensures { λ r. ⌜ edge-res r ≡ edge-read (t .locs) (op-read (now (table .entry)) (t .vars) (the-word w) (fields (now (line .entry)))) (fields (now (line .entry))) ⌝ }
 {
@@ -116,7 +125,7 @@ fn push(t: Tally, table: &mut [i32], g: EdgeRow)
 }
 
 // A line whose operation is known: 5 by its count, then its fields.
-fn worded(w: text::OpWord, t: Tally, table: &mut [i32], line: &[u8]) -> Step
+fn worded(w: text::OpWordRead, t: Tally, table: &mut [i32], line: &[u8]) -> Step
     requires { ⌜ Few t × (t .edges < 256) × (length (now table) ≡ 3160) ⌝ }
     ensures { λ r. ⌜ ((s : So-far) (names : List ℤ) → Rows t (now (table .entry)) (s .chart) → Names (t .vars) names (s .names) → Stepped r (edge-worded s (the-word w) (fields (now (line .entry)))) (now (table .exit)) names) ⌝ }
 {
@@ -156,7 +165,7 @@ pub fn read_line(t: Tally, table: &mut [i32], line: &[u8]) -> Step
     }
     let w = text::op_word_field(text::field(line, 3));
     match w {
-        text::OpWord::Refused(k) => Step::Refused(k),
+        text::OpWordRead::Refused(k) => Step::Refused(k),
         _ => worded(w, t, table, line),
     }
 }

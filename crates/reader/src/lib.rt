@@ -20,9 +20,10 @@ mod store;
 mod tally;
 mod variable;
 
+use semantics::COUNTS_WORDS;
+use semantics::ROWS_WORDS;
 use tally::NAMES_WORDS;
 use tally::Step;
-use tally::TABLE_WORDS;
 use tally::Tally;
 use tally::used_words;
 
@@ -36,12 +37,12 @@ fn hold(t: Tally, table: &[i32], words: &mut [i32]) -> semantics::Answer
     ensures { λ _. ⌜ ((c : Chart) → Rows t (now (table .entry)) c → now (words .exit) ≡ held-unless (ltb (length (now (words .entry))) (length (encode c))) c (now (words .entry)) .words) ⌝ }
 {
     let size = used_words(t);
-    if words.len() < size + 3 {
+    if words.len() < size + COUNTS_WORDS {
         return semantics::refused(14, 0);
     }
     let counts = [t.vars as i32, t.locs as i32, t.edges as i32];
     store::push_row(words, 0, &counts);
-    store::push_row(words, 3, &table[..size]);
+    store::push_row(words, COUNTS_WORDS, &table[..size]);
     semantics::gone_through(0)
 }
 
@@ -151,7 +152,7 @@ fn read_lines(text: &[u8], words: &mut [i32]) -> semantics::Answer
     ensures { λ r. ⌜ r ≡ held-by (lines-judged (now (text .entry))) (now (words .entry)) .answer ⌝ }
     ensures { λ _. ⌜ now (words .exit) ≡ held-by (lines-judged (now (text .entry))) (now (words .entry)) .words ⌝ }
 {
-    let mut table = [0i32; TABLE_WORDS];
+    let mut table = [0i32; ROWS_WORDS];
     let mut names = [0i32; NAMES_WORDS];
     let p = go_down(text, &mut table, &mut names);
     let s = p.step;

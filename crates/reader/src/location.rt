@@ -1,4 +1,7 @@
 // `L name kind`: the line is judged, and its row stored.
+use semantics::LOCATION_WORDS;
+use semantics::MOST_LOCATIONS;
+use semantics::VARIABLE_WORDS;
 ghost use mathlib.Core.Path.{_≡_};
 ghost use mathlib.Core.Bool.{true};
 ghost use mathlib.Core.List.{List};
@@ -7,26 +10,23 @@ ghost use lib.IntN.{ℤ};
 ghost use lib.ListN.{length};
 ghost use Rattle.semantics.specs.Text.{fields, name-ok};
 ghost use Rattle.semantics.specs.Reading.{So-far, loc-line};
-ghost use Rattle.text.specs.Fields.{flag-res};
+ghost use Rattle.text.specs.Fields.{kind-res};
 ghost use Rattle.reader.specs.Lines.{loc-judged, loc-named};
 ghost use Rattle.reader.specs.Held.{Few, Rows, Names, Stepped};
 use super::store;
-use super::tally::LOCATION_WORDS;
-use super::tally::MOST_LOCATIONS;
 use super::tally::Step;
 use super::tally::Tally;
-use super::tally::VARIABLE_WORDS;
 use super::tally::used_words;
 
 // All the fields: their count, then the name, then the kind, which is the answer.
-fn judged(line: &[u8]) -> text::Flag
-    ensures { λ r. ⌜ flag-res r ≡ loc-judged (fields (now (line .entry))) ⌝ }
+fn judged(line: &[u8]) -> text::KindRead
+    ensures { λ r. ⌜ kind-res r ≡ loc-judged (fields (now (line .entry))) ⌝ }
 {
     if !text::filled(line, 3) {
-        return text::Flag::Refused(5);
+        return text::KindRead::Refused(5);
     }
     if !text::name_ok(text::field(line, 1)) {
-        return text::Flag::Refused(6);
+        return text::KindRead::Refused(6);
     }
     text::kind_field(text::field(line, 2))
 }
@@ -66,7 +66,7 @@ pub fn read_line(t: Tally, table: &mut [i32], line: &[u8]) -> Step
         return Step::Refused(8);
     }
     match judged(line) {
-        text::Flag::Refused(k) => Step::Refused(k),
-        text::Flag::Is(error) => named(t, table, error, text::field(line, 1)),
+        text::KindRead::Refused(k) => Step::Refused(k),
+        text::KindRead::Is(error) => named(t, table, error, text::field(line, 1)),
     }
 }

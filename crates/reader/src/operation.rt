@@ -1,5 +1,7 @@
 // The operation of an E line: what follows the two locations, as six words. `table` is that of the chart's rows, which
-// begin with the variables' ranges.
+// begin with the variables' ranges. The bound 1,000 of a variable's number only keeps its word, and the place of its
+// range, from wrapping.
+use semantics::VARIABLE_WORDS;
 ghost use mathlib.Core.Path.{_≡_};
 ghost use mathlib.Core.Bool.{_&&_};
 ghost use Prim.Native.Nat.{_<_, _≤_};
@@ -12,7 +14,6 @@ ghost use Rattle.semantics.specs.Reading.{nth, ok, number-field, operand-field,
 ghost use Rattle.reader.specs.Answers.{operand-field-res, op-res, the-word, the-rel};
 ghost use Rattle.reader.specs.Lines.{in-table, operand-read, one-read, second-read, two-read, input-high-read, input-read, assume-read, op-read};
 ghost use Rattle.reader.specs.Lines.{targeted as targeted-read, after-target as after-target-read};
-use super::tally::VARIABLE_WORDS;
 
 // A refusal's number, or an operand's tag (0 for a number, 1 for a variable) and value.
 enum OperandField {
@@ -36,8 +37,8 @@ pub enum OpLine {
     Is(OpRow),
 }
 
-// The word of a location's or a variable's number.
-pub fn index_word(k: usize) -> i32
+// The word of a variable's number.
+fn variable_word(k: usize) -> i32
     requires { ⌜ k < 1000 ⌝ }
     ensures { λ r. ⌜ r ≡ pos k ⌝ }
 {
@@ -50,9 +51,9 @@ fn operand_of(vars: usize, f: &[u8]) -> OperandField
     ensures { λ r. ⌜ operand-field-res r ≡ operand-read (operand-field vars (now (f .entry))) ⌝ }
 {
     match text::operand_field(vars, f) {
-        text::Operand::Refused(k) => OperandField::Refused(k),
-        text::Operand::Number(z) => OperandField::Is(0, z),
-        text::Operand::Var(v) => OperandField::Is(1, index_word(v)),
+        text::OperandRead::Refused(k) => OperandField::Refused(k),
+        text::OperandRead::Number(z) => OperandField::Is(0, z),
+        text::OperandRead::Var(v) => OperandField::Is(1, variable_word(v)),
     }
 }
 
@@ -65,7 +66,7 @@ fn one_operand(code: i32, v: usize, vars: usize, f: &[u8]) -> OpLine
         OperandField::Refused(k) => OpLine::Refused(k),
         OperandField::Is(t, x) => OpLine::Is(OpRow {
             code: code,
-            target: index_word(v),
+            target: variable_word(v),
             tag1: t,
             value1: x,
             tag2: 0,
@@ -83,7 +84,7 @@ fn second_operand(code: i32, v: usize, t: i32, x: i32, vars: usize, f: &[u8]) ->
         OperandField::Refused(k) => OpLine::Refused(k),
         OperandField::Is(u, y) => OpLine::Is(OpRow {
             code: code,
-            target: index_word(v),
+            target: variable_word(v),
             tag1: t,
             value1: x,
             tag2: u,
@@ -112,26 +113,26 @@ fn in_range(table: &[i32], v: usize, z: i32) -> bool
     words::lies_within(words::word_at(table, at), words::word_at(table, at + 1), z)
 }
 
-// Whether p..q ends in the range of variable v.
-fn up_to(table: &[i32], v: usize, p: i32, q: i32) -> bool
+// Whether q lies in the range of variable v and not below p.
+fn high_ok(table: &[i32], v: usize, p: i32, q: i32) -> bool
     requires { ⌜ v < 1000 ⌝ }
     ensures { λ r. ⌜ r ≡ in-table (now (table .entry)) v q && leZ p q ⌝ }
 {
     in_range(table, v, q) & (p <= q)
 }
 
-// q, after p.
+// The upper end q of `in`, in the field f, after the lower end p.
 fn input_high(table: &[i32], v: usize, p: i32, f: &[u8]) -> OpLine
     requires { ⌜ v < 1000 ⌝ }
     ensures { λ r. ⌜ op-res r ≡ input-high-read (now (table .entry)) v p (number-field (now (f .entry))) ⌝ }
 {
     match text::number_field(f) {
-        text::Word::Refused(k) => OpLine::Refused(k),
-        text::Word::Is(q) => {
-            if up_to(table, v, p, q) {
+        text::WordRead::Refused(k) => OpLine::Refused(k),
+        text::WordRead::Is(q) => {
+            if high_ok(table, v, p, q) {
                 return OpLine::Is(OpRow {
                     code: 4,
-                    target: index_word(v),
+                    target: variable_word(v),
                     tag1: 0,
                     value1: p,
                     tag2: 0,
@@ -143,14 +144,14 @@ fn input_high(table: &[i32], v: usize, p: i32, f: &[u8]) -> OpLine
     }
 }
 
-// p and q of `in`.
+// The lower end p of `in`, then the upper end q.
 fn input(table: &[i32], v: usize, line: &[u8]) -> OpLine
     requires { ⌜ v < 1000 ⌝ }
     ensures { λ r. ⌜ op-res r ≡ input-read (now (table .entry)) v (number-field (nth (fields (now (line .entry))) 5)) (number-field (nth (fields (now (line .entry))) 6)) ⌝ }
 {
     match text::number_field(text::field(line, 5)) {
-        text::Word::Refused(k) => OpLine::Refused(k),
-        text::Word::Is(p) => {
+        text::WordRead::Refused(k) => OpLine::Refused(k),
+        text::WordRead::Is(p) => {
             if in_range(table, v, p) {
                 return input_high(table, v, p, text::field(line, 6));
             }
@@ -159,18 +160,18 @@ fn input(table: &[i32], v: usize, line: &[u8]) -> OpLine
     }
 }
 
-// The code of `if` with this relation.
-fn code_of(r: text::Relation) -> i32
+// The code of `if` with this relation. A refused one is never met: refused before.
+fn code_of(r: text::RelationRead) -> i32
     ensures { λ x. ⌜ x ≡ pos (rel-code (the-rel r)) ⌝ }
 {
     match r {
-        text::Relation::Refused(_) => 10,
-        text::Relation::Eq => 5,
-        text::Relation::Ne => 6,
-        text::Relation::Lt => 7,
-        text::Relation::Le => 8,
-        text::Relation::Gt => 9,
-        text::Relation::Ge => 10,
+        text::RelationRead::Refused(_) => 10,
+        text::RelationRead::Eq => 5,
+        text::RelationRead::Ne => 6,
+        text::RelationRead::Lt => 7,
+        text::RelationRead::Le => 8,
+        text::RelationRead::Gt => 9,
+        text::RelationRead::Ge => 10,
     }
 }
 
@@ -181,7 +182,7 @@ fn assume(v: usize, vars: usize, line: &[u8]) -> OpLine
 {
     let r = text::rel_field(text::field(line, 5));
     match r {
-        text::Relation::Refused(k) => OpLine::Refused(k),
+        text::RelationRead::Refused(k) => OpLine::Refused(k),
         _ => one_operand(code_of(r), v, vars, text::field(line, 6)),
     }
 }
@@ -200,40 +201,40 @@ fn unchanged() -> OpLine
     })
 }
 
-// The fields after the target.
-fn after_target(w: text::OpWord, v: usize, vars: usize, table: &[i32], line: &[u8]) -> OpLine
+// The fields after the target. `skip`, which has none, and a refused word are never met.
+fn after_target(w: text::OpWordRead, v: usize, vars: usize, table: &[i32], line: &[u8]) -> OpLine
     requires { ⌜ (vars ≤ 8) × (v < 1000) ⌝ }
     ensures { λ r. ⌜ op-res r ≡ after-target-read (now (table .entry)) vars (the-word w) v (fields (now (line .entry))) ⌝ }
 {
     match w {
-        text::OpWord::Set => one_operand(1, v, vars, text::field(line, 5)),
-        text::OpWord::Add => two_operands(2, v, vars, line),
-        text::OpWord::Sub => two_operands(3, v, vars, line),
-        text::OpWord::In => input(table, v, line),
-        text::OpWord::If => assume(v, vars, line),
+        text::OpWordRead::Set => one_operand(1, v, vars, text::field(line, 5)),
+        text::OpWordRead::Add => two_operands(2, v, vars, line),
+        text::OpWordRead::Sub => two_operands(3, v, vars, line),
+        text::OpWordRead::In => input(table, v, line),
+        text::OpWordRead::If => assume(v, vars, line),
         _ => unchanged(),
     }
 }
 
 // The fields from the target on.
-fn targeted(w: text::OpWord, vars: usize, table: &[i32], line: &[u8]) -> OpLine
+fn targeted(w: text::OpWordRead, vars: usize, table: &[i32], line: &[u8]) -> OpLine
     requires { ⌜ vars ≤ 8 ⌝ }
     ensures { λ r. ⌜ op-res r ≡ targeted-read (now (table .entry)) vars (the-word w) (fields (now (line .entry))) ⌝ }
 {
     match text::target_field(vars, text::field(line, 4)) {
-        text::Index::Refused(k) => OpLine::Refused(k),
-        text::Index::Is(v) => after_target(w, v, vars, table, line),
+        text::VariableRead::Refused(k) => OpLine::Refused(k),
+        text::VariableRead::Is(v) => after_target(w, v, vars, table, line),
     }
 }
 
-// The fields after the operation's word.
-pub fn read(w: text::OpWord, vars: usize, table: &[i32], line: &[u8]) -> OpLine
+// The fields after the operation's word. A refused word is never met: refused before.
+pub fn read(w: text::OpWordRead, vars: usize, table: &[i32], line: &[u8]) -> OpLine
     requires { ⌜ vars ≤ 8 ⌝ }
     ensures { λ r. ⌜ op-res r ≡ op-read (now (table .entry)) vars (the-word w) (fields (now (line .entry))) ⌝ }
 {
     match w {
-        text::OpWord::Refused(_) => unchanged(),
-        text::OpWord::Skip => unchanged(),
+        text::OpWordRead::Refused(_) => unchanged(),
+        text::OpWordRead::Skip => unchanged(),
         _ => targeted(w, vars, table, line),
     }
 }

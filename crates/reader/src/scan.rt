@@ -16,10 +16,10 @@ pub enum Fault {
 fn byte_ok(b: u8) -> bool
     ensures { λ r. ⌜ r ≡ byte-ok b ⌝ }
 {
-    (b == semantics::TAB) | (b == semantics::LF) | ((33 <= b) & (b <= 126))
+    (b == semantics::TAB) | (b == semantics::LF) | ((b'!' <= b) & (b <= b'~'))
 }
 
-// One line more after an LF.
+// One line more after an LF. The bound only keeps the sum from wrapping.
 fn line_after(n: usize, b: u8) -> usize
     requires { ⌜ n < 10000000000000000000 ⌝ }
     ensures { λ r. ⌜ r ≡ pick (eqb b 10) (suc n) n ⌝ }

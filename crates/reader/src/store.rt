@@ -1,4 +1,6 @@
-// Rows of words in a table: how they are stored, and the look for a name among them.
+// Rows of words in a table: how they are stored, and the look for a name among them. The bound 100,000 only keeps a
+// place from wrapping.
+use semantics::NAME_WORDS;
 ghost use mathlib.Core.Path.{_≡_};
 ghost use mathlib.Core.List.{_∷_};
 ghost use Prim.Native.Nat.{_+_, _*_, _≤_, _<_};
@@ -6,7 +8,6 @@ ghost use lib.IntN.{pos};
 ghost use lib.ListN.{length, getD, drop};
 ghost use Rattle.semantics.specs.Encoding.{kind-word};
 ghost use Rattle.reader.specs.Rows.{name-row, names-it, seen, stored};
-use super::tally::NAME_WORDS;
 
 // The byte at a place as a word; 0 past the end.
 fn byte_at(name: &[u8], i: usize) -> i32
@@ -79,7 +80,7 @@ pub fn push_name(table: &mut [i32], at: usize, name: &[u8])
     fill_name(&mut table[at..end], name);
 }
 
-// A location's kind: 1 where it is bad.
+// A location's kind: 1 where it is an error location.
 fn kind_word(error: bool) -> i32
     ensures { λ r. ⌜ r ≡ kind-word error ⌝ }
 {

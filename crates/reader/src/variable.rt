@@ -1,4 +1,7 @@
 // `V name lo hi init`: the line is judged, and its row stored.
+use semantics::MOST_VARIABLES;
+use semantics::NAME_WORDS;
+use semantics::VARIABLE_WORDS;
 ghost use mathlib.Core.Path.{_≡_};
 ghost use mathlib.Core.Bool.{true};
 ghost use Prim.Native.Nat.{_<_};
@@ -9,11 +12,8 @@ ghost use Rattle.reader.specs.Answers.{var-of, var-res};
 ghost use Rattle.reader.specs.Lines.{var-init, var-high, var-low, var-judged, var-named};
 ghost use Rattle.reader.specs.Held.{Few, Rows, Names, Stepped};
 use super::store;
-use super::tally::MOST_VARIABLES;
-use super::tally::NAME_WORDS;
 use super::tally::Step;
 use super::tally::Tally;
-use super::tally::VARIABLE_WORDS;
 
 // The three words of a variable's row.
 struct VarRow {
@@ -33,8 +33,8 @@ fn init(lo: i32, hi: i32, f: &[u8]) -> VarLine
     ensures { λ r. ⌜ var-res r ≡ var-init lo hi (now (f .entry)) ⌝ }
 {
     match text::init_field(lo, hi, f) {
-        text::Word::Refused(k) => VarLine::Refused(k),
-        text::Word::Is(x) => VarLine::Is(VarRow {
+        text::WordRead::Refused(k) => VarLine::Refused(k),
+        text::WordRead::Is(x) => VarLine::Is(VarRow {
             lo: lo,
             hi: hi,
             init: x,
@@ -47,8 +47,8 @@ fn high(lo: i32, line: &[u8]) -> VarLine
     ensures { λ r. ⌜ var-res r ≡ var-high lo (fields (now (line .entry))) ⌝ }
 {
     match text::number_field(text::field(line, 3)) {
-        text::Word::Refused(k) => VarLine::Refused(k),
-        text::Word::Is(hi) => {
+        text::WordRead::Refused(k) => VarLine::Refused(k),
+        text::WordRead::Is(hi) => {
             if lo <= hi {
                 return init(lo, hi, text::field(line, 4));
             }
@@ -62,8 +62,8 @@ fn low(line: &[u8]) -> VarLine
     ensures { λ r. ⌜ var-res r ≡ var-low (fields (now (line .entry))) ⌝ }
 {
     match text::number_field(text::field(line, 2)) {
-        text::Word::Refused(k) => VarLine::Refused(k),
-        text::Word::Is(lo) => high(lo, line),
+        text::WordRead::Refused(k) => VarLine::Refused(k),
+        text::WordRead::Is(lo) => high(lo, line),
     }
 }
 

@@ -9,29 +9,27 @@ use lib.Dec.{eqb}
 use lib.ListN.{length, drop}
 use lib.IntN.{ℤ, pos, negsuc}
 use Rattle.semantics.specs.Lists.{pick}
-use Rattle.semantics.specs.Chart.{Value, Rel, eq, ne, lt, le, gt, ge, num, var}
-use Rattle.semantics.specs.Chart.{Operand as ChartOperand}
+use Rattle.semantics.specs.Chart.{Value, Operand, num, var, Rel, eq, ne, lt, le, gt, ge}
 use Rattle.semantics.specs.Encoding.{val}
-use Rattle.semantics.specs.Reading.{Res, fail, ok, do-set, do-add, do-sub, do-in, do-if, do-skip}
-use Rattle.semantics.specs.Reading.{OpWord as ReadingOpWord}
+use Rattle.semantics.specs.Reading.{Res, fail, ok, OpWord, do-set, do-add, do-sub, do-in, do-if, do-skip}
 use Rattle.text.specs.declared.Natural.{Natural}
 use Rattle.text.specs.declared.Natural.the-variants as natural
 use Rattle.text.specs.declared.NumberRead.{NumberRead}
 use Rattle.text.specs.declared.NumberRead.the-variants as number
-use Rattle.text.specs.declared.Index.{Index}
-use Rattle.text.specs.declared.Index.the-variants as index
+use Rattle.text.specs.declared.VariableRead.{VariableRead}
+use Rattle.text.specs.declared.VariableRead.the-variants as variable
 use Rattle.text.specs.declared.LocationRead.{LocationRead}
 use Rattle.text.specs.declared.LocationRead.the-variants as location
-use Rattle.text.specs.declared.Word.{Word}
-use Rattle.text.specs.declared.Word.the-variants as signed
-use Rattle.text.specs.declared.Operand.{Operand}
-use Rattle.text.specs.declared.Operand.the-variants as operand
-use Rattle.text.specs.declared.Flag.{Flag}
-use Rattle.text.specs.declared.Flag.the-variants as flag
-use Rattle.text.specs.declared.Relation.{Relation}
-use Rattle.text.specs.declared.Relation.the-variants as relation
-use Rattle.text.specs.declared.OpWord.{OpWord}
-use Rattle.text.specs.declared.OpWord.the-variants as op-word
+use Rattle.text.specs.declared.WordRead.{WordRead}
+use Rattle.text.specs.declared.WordRead.the-variants as word
+use Rattle.text.specs.declared.OperandRead.{OperandRead}
+use Rattle.text.specs.declared.OperandRead.the-variants as operand
+use Rattle.text.specs.declared.KindRead.{KindRead}
+use Rattle.text.specs.declared.KindRead.the-variants as kind
+use Rattle.text.specs.declared.RelationRead.{RelationRead}
+use Rattle.text.specs.declared.RelationRead.the-variants as relation
+use Rattle.text.specs.declared.OpWordRead.{OpWordRead}
+use Rattle.text.specs.declared.OpWordRead.the-variants as op-word
 
 -- ---- places in a text
 
@@ -76,9 +74,9 @@ number-said (number.Is z) = some z
 -- ---- fields: the refusal's number, or what the field says
 
 -- a variable by its number
-unfoldable pub index-res : Index → Res ℕ
-index-res (index.Refused k) = fail k
-index-res (index.Is n) = ok n
+unfoldable pub variable-res : VariableRead → Res ℕ
+variable-res (variable.Refused k) = fail k
+variable-res (variable.Is n) = ok n
 
 -- a location, by the number of its id
 unfoldable pub location-res : LocationRead → Res ℕ
@@ -86,28 +84,28 @@ location-res (location.Refused k) = fail k
 location-res (location.Is l) = ok (l .0)
 
 -- a number
-unfoldable pub word-res : Word → Res ℤ
-word-res (signed.Refused k) = fail k
-word-res (signed.Is z) = ok z
+unfoldable pub word-res : WordRead → Res ℤ
+word-res (word.Refused k) = fail k
+word-res (word.Is z) = ok z
 
 -- the word of an initial value, with top written 32,768
-unfoldable pub init-res : Word → Res Value
-init-res (signed.Refused k) = fail k
-init-res (signed.Is z) = ok (val z)
+unfoldable pub init-res : WordRead → Res Value
+init-res (word.Refused k) = fail k
+init-res (word.Is z) = ok (val z)
 
 -- "An operand is a number or `$k`"
-unfoldable pub operand-res : Operand → Res ChartOperand
+unfoldable pub operand-res : OperandRead → Res Operand
 operand-res (operand.Refused k) = fail k
 operand-res (operand.Number z) = ok (num z)
 operand-res (operand.Var k) = ok (var k)
 
--- whether a location is bad
-unfoldable pub flag-res : Flag → Res Bool
-flag-res (flag.Refused k) = fail k
-flag-res (flag.Is b) = ok b
+-- whether a location is an error location
+unfoldable pub kind-res : KindRead → Res Bool
+kind-res (kind.Refused k) = fail k
+kind-res (kind.Is b) = ok b
 
 -- a relation word
-unfoldable pub rel-res : Relation → Res Rel
+unfoldable pub rel-res : RelationRead → Res Rel
 rel-res (relation.Refused k) = fail k
 rel-res relation.Eq = ok eq
 rel-res relation.Ne = ok ne
@@ -117,7 +115,7 @@ rel-res relation.Gt = ok gt
 rel-res relation.Ge = ok ge
 
 -- an operation word
-unfoldable pub op-word-res : OpWord → Res ReadingOpWord
+unfoldable pub op-word-res : OpWordRead → Res OpWord
 op-word-res (op-word.Refused k) = fail k
 op-word-res op-word.Set = ok do-set
 op-word-res op-word.Add = ok do-add

@@ -9,7 +9,7 @@ ghost use Rattle.semantics.specs.Text.{same-bytes, fields, name-byte, name-ok, 
 ghost use Rattle.semantics.specs.Chart.{within, known, num, var};
 ghost use Rattle.semantics.specs.Reading.{ok, check, if-ok, nth, none-empty, small-or, number-field, below-or, location-field, target-field, operand-field, init-field, kind-field, rel-field, op-word-field};
 ghost use Rattle.semantics.specs.Reading.{filled as filled-with};
-ghost use Rattle.text.specs.Fields.{Found, natural-read, number-read, natural-said, number-said, index-res, location-res, word-res, init-res, operand-res, flag-res, rel-res, op-word-res};
+ghost use Rattle.text.specs.Fields.{Found, natural-read, number-read, natural-said, number-said, variable-res, location-res, word-res, init-res, operand-res, kind-res, rel-res, op-word-res};
 
 pub fn same_bytes(a: &[u8], b: &[u8]) -> bool
     ensures { λ r. ⌜ r ≡ same-bytes (now (a .entry)) (now (b .entry)) ⌝ }
@@ -117,7 +117,10 @@ pub fn filled(line: &[u8], count: usize) -> bool
 fn name_byte(b: u8) -> bool
     ensures { λ r. ⌜ r ≡ name-byte b ⌝ }
 {
-    ((65 <= b) & (b <= 90)) | ((97 <= b) & (b <= 122)) | ((48 <= b) & (b <= 57)) | (b == 45)
+    ((b'A' <= b) & (b <= b'Z'))
+        | ((b'a' <= b) & (b <= b'z'))
+        | ((b'0' <= b) & (b <= b'9'))
+        | (b == b'-')
 }
 
 // 1 to 16 such bytes.
@@ -140,40 +143,42 @@ pub fn name_ok(f: &[u8]) -> bool
     true
 }
 
-// A number without sign, cut at 100,000.
+// Beyond this no test tells two numbers apart; cut there, digits of any length never overflow.
+const CUT: u32 = 100_000;
+
+// A number without sign, cut.
 enum Natural {
     Malformed,
     Is(u32),
 }
 
-// A number, its magnitude cut at 100,000. Named so since a function is called `number`.
+// A number, its magnitude cut.
 pub enum NumberRead {
     Malformed,
     Is(i32),
 }
 
-// Beyond 100,000 no test tells two numbers apart; cut there, digits of any length never overflow.
 fn cut(n: u32) -> u32
     ensures { λ r. ⌜ r ≡ min n 100000 ⌝ }
 {
-    if n < 100000 { n } else { 100000 }
+    if n < CUT { n } else { CUT }
 }
 
 // A byte in 32 bits.
-fn wide(b: u8) -> u32
+fn digit_word(b: u8) -> u32
     ensures { λ r. ⌜ r ≡ b ⌝ }
 {
     b as u32
 }
 
-// The number that digits write; 0 where there are none.
+// The number that digits write; 0 where there are none. 48 is '0' and 57 is '9'.
 fn digits_in(f: &[u8]) -> Natural
     ensures { λ r. ⌜ r ≡ natural-read (digits 0 (now (f .entry))) ⌝ }
 {
     let mut n: u32 = 0;
     let mut i = 0;
     while i < f.len() {
-        let b = wide(f[i]);
+        let b = digit_word(f[i]);
         if b < 48 {
             return Natural::Malformed;
         }
@@ -193,7 +198,7 @@ fn natural_in(f: &[u8]) -> Natural
     if f.len() == 0 {
         return Natural::Malformed;
     }
-    if f[0] != 48 {
+    if f[0] != b'0' {
         return digits_in(f);
     }
     if f.len() == 1 {
@@ -241,14 +246,16 @@ pub fn number(f: &[u8]) -> NumberRead
     if f.len() == 0 {
         return NumberRead::Malformed;
     }
-    if f[0] == 45 {
+    if f[0] == b'-' {
         return minus(natural_in(&f[1..]));
     }
     unsigned(f)
 }
 
-// What a field says, or the refusal's number. First, a variable by its number.
-pub enum Index {
+// ---- fields: the refusal's number, or what the field says
+
+// A variable, by its number.
+pub enum VariableRead {
     Refused(u32),
     Is(usize),
 }
@@ -260,26 +267,26 @@ pub enum LocationRead {
 }
 
 // A number, or the word of an initial value.
-pub enum Word {
+pub enum WordRead {
     Refused(u32),
     Is(i32),
 }
 
 // A number or `$k`.
-pub enum Operand {
+pub enum OperandRead {
     Refused(u32),
     Number(i32),
     Var(usize),
 }
 
 // Whether the kind is `e`.
-pub enum Flag {
+pub enum KindRead {
     Refused(u32),
     Is(bool),
 }
 
 // `eq` to `ge`.
-pub enum Relation {
+pub enum RelationRead {
     Refused(u32),
     Eq,
     Ne,
@@ -290,7 +297,7 @@ pub enum Relation {
 }
 
 // The operation's word.
-pub enum OpWord {
+pub enum OpWordRead {
     Refused(u32),
     Set,
     Add,
@@ -300,67 +307,68 @@ pub enum OpWord {
     Skip,
 }
 
-// 6 in form, 7 outside of -32,768..32,767.
-fn small_word(n: NumberRead) -> Word
+// 6 where malformed, 7 outside of -32,768..32,767.
+fn small_word(n: NumberRead) -> WordRead
     ensures { λ r. ⌜ word-res r ≡ small-or (number-said n) ⌝ }
 {
     match n {
-        NumberRead::Malformed => Word::Refused(6),
+        NumberRead::Malformed => WordRead::Refused(6),
         NumberRead::Is(z) => {
             if words::lies_within(-32768, 32767, z) {
-                return Word::Is(z);
+                return WordRead::Is(z);
             }
-            Word::Refused(7)
+            WordRead::Refused(7)
         }
     }
 }
 
-pub fn number_field(f: &[u8]) -> Word
+pub fn number_field(f: &[u8]) -> WordRead
     ensures { λ r. ⌜ word-res r ≡ number-field (now (f .entry)) ⌝ }
 {
     small_word(number(f))
 }
 
-// A number from 0 up to, not including, `count`: 6 in form, else 10.
-fn below(count: usize, n: NumberRead) -> Index
-    ensures { λ r. ⌜ index-res r ≡ below-or count (number-said n) ⌝ }
+// A number from 0 up to, not including, `count`: 6 where malformed, 10 where it is another.
+fn below(count: usize, n: NumberRead) -> VariableRead
+    ensures { λ r. ⌜ variable-res r ≡ below-or count (number-said n) ⌝ }
 {
     match n {
-        NumberRead::Malformed => Index::Refused(6),
+        NumberRead::Malformed => VariableRead::Refused(6),
         NumberRead::Is(z) => {
             if z < 0 {
-                return Index::Refused(10);
+                return VariableRead::Refused(10);
             }
             let k = words::magnitude(z);
             if k < count {
-                return Index::Is(k);
+                return VariableRead::Is(k);
             }
-            Index::Refused(10)
+            VariableRead::Refused(10)
         }
     }
 }
 
-// One of `count` locations.
+// One of `count` locations. Here and below, `count ≤ 256` only keeps it under the cut: a number that was cut is refused
+// as the number itself is.
 pub fn location_field(count: usize, f: &[u8]) -> LocationRead
     requires { ⌜ count ≤ 256 ⌝ }
     ensures { λ r. ⌜ location-res r ≡ location-field count (now (f .entry)) ⌝ }
 {
     match below(count, number(f)) {
-        Index::Refused(n) => LocationRead::Refused(n),
-        Index::Is(k) => LocationRead::Is(LocationId(k)),
+        VariableRead::Refused(n) => LocationRead::Refused(n),
+        VariableRead::Is(k) => LocationRead::Is(LocationId(k)),
     }
 }
 
 // One of `count` variables, as `$k`.
-pub fn target_field(count: usize, f: &[u8]) -> Index
+pub fn target_field(count: usize, f: &[u8]) -> VariableRead
     requires { ⌜ count ≤ 256 ⌝ }
-    ensures { λ r. ⌜ index-res r ≡ target-field count (now (f .entry)) ⌝ }
+    ensures { λ r. ⌜ variable-res r ≡ target-field count (now (f .entry)) ⌝ }
 {
     if f.len() == 0 {
-        return Index::Refused(6);
+        return VariableRead::Refused(6);
     }
-    if f[0] != 36 {
-        return Index::Refused(6);
+    if f[0] != b'$' {
+        return VariableRead::Refused(6);
     }
     below(count, unsigned(&f[1..]))
 }
@@ -375,118 +383,118 @@ fn first(f: &[u8]) -> u8
     f[0]
 }
 
-fn as_variable(k: Index) -> Operand
-    ensures { λ r. ⌜ operand-res r ≡ if-ok (index-res k) (λ n. ok (var n)) ⌝ }
+fn as_variable(k: VariableRead) -> OperandRead
+    ensures { λ r. ⌜ operand-res r ≡ if-ok (variable-res k) (λ n. ok (var n)) ⌝ }
 {
     match k {
-        Index::Refused(n) => Operand::Refused(n),
-        Index::Is(v) => Operand::Var(v),
+        VariableRead::Refused(n) => OperandRead::Refused(n),
+        VariableRead::Is(v) => OperandRead::Var(v),
     }
 }
 
-fn as_number(w: Word) -> Operand
+fn as_number(w: WordRead) -> OperandRead
     ensures { λ r. ⌜ operand-res r ≡ if-ok (word-res w) (λ z. ok (num z)) ⌝ }
 {
     match w {
-        Word::Refused(n) => Operand::Refused(n),
-        Word::Is(z) => Operand::Number(z),
+        WordRead::Refused(n) => OperandRead::Refused(n),
+        WordRead::Is(z) => OperandRead::Number(z),
     }
 }
 
-pub fn operand_field(count: usize, f: &[u8]) -> Operand
+pub fn operand_field(count: usize, f: &[u8]) -> OperandRead
     requires { ⌜ count ≤ 256 ⌝ }
     ensures { λ r. ⌜ operand-res r ≡ operand-field count (now (f .entry)) ⌝ }
 {
-    if first(f) == 36 {
+    if first(f) == b'$' {
         return as_variable(target_field(count, f));
     }
     as_number(number_field(f))
 }
 
 // An initial value that is a number.
-fn init_number(lo: i32, hi: i32, f: &[u8]) -> Word
+fn init_number(lo: i32, hi: i32, f: &[u8]) -> WordRead
     ensures { λ r. ⌜ init-res r ≡ if-ok (number-field (now (f .entry))) (λ z. check (within lo hi z) 7 (ok (known z))) ⌝ }
 {
     match number_field(f) {
-        Word::Refused(n) => Word::Refused(n),
-        Word::Is(z) => {
+        WordRead::Refused(n) => WordRead::Refused(n),
+        WordRead::Is(z) => {
             if words::lies_within(lo, hi, z) {
-                return Word::Is(z);
+                return WordRead::Is(z);
             }
-            Word::Refused(7)
+            WordRead::Refused(7)
         }
     }
 }
 
 // The word of an initial value: for `*`, the word of top.
-pub fn init_field(lo: i32, hi: i32, f: &[u8]) -> Word
+pub fn init_field(lo: i32, hi: i32, f: &[u8]) -> WordRead
     ensures { λ r. ⌜ init-res r ≡ init-field lo hi (now (f .entry)) ⌝ }
 {
     if same_bytes(f, b"*") {
-        return Word::Is(words::TOP);
+        return WordRead::Is(words::TOP);
     }
     init_number(lo, hi, f)
 }
 
 // Whether the location is an error location.
-pub fn kind_field(f: &[u8]) -> Flag
-    ensures { λ r. ⌜ flag-res r ≡ kind-field (now (f .entry)) ⌝ }
+pub fn kind_field(f: &[u8]) -> KindRead
+    ensures { λ r. ⌜ kind-res r ≡ kind-field (now (f .entry)) ⌝ }
 {
     if same_bytes(f, b"o") {
-        return Flag::Is(false);
+        return KindRead::Is(false);
     }
     if same_bytes(f, b"e") {
-        return Flag::Is(true);
+        return KindRead::Is(true);
     }
-    Flag::Refused(6)
+    KindRead::Refused(6)
 }
 
 // One of the six relation words.
-pub fn rel_field(f: &[u8]) -> Relation
+pub fn rel_field(f: &[u8]) -> RelationRead
     ensures { λ r. ⌜ rel-res r ≡ rel-field (now (f .entry)) ⌝ }
 {
     if same_bytes(f, b"eq") {
-        return Relation::Eq;
+        return RelationRead::Eq;
     }
     if same_bytes(f, b"ne") {
-        return Relation::Ne;
+        return RelationRead::Ne;
     }
     if same_bytes(f, b"lt") {
-        return Relation::Lt;
+        return RelationRead::Lt;
     }
     if same_bytes(f, b"le") {
-        return Relation::Le;
+        return RelationRead::Le;
     }
     if same_bytes(f, b"gt") {
-        return Relation::Gt;
+        return RelationRead::Gt;
     }
     if same_bytes(f, b"ge") {
-        return Relation::Ge;
+        return RelationRead::Ge;
     }
-    Relation::Refused(6)
+    RelationRead::Refused(6)
 }
 
 // One of the six operation words.
-pub fn op_word_field(f: &[u8]) -> OpWord
+pub fn op_word_field(f: &[u8]) -> OpWordRead
     ensures { λ r. ⌜ op-word-res r ≡ op-word-field (now (f .entry)) ⌝ }
 {
     if same_bytes(f, b"set") {
-        return OpWord::Set;
+        return OpWordRead::Set;
     }
     if same_bytes(f, b"add") {
-        return OpWord::Add;
+        return OpWordRead::Add;
     }
     if same_bytes(f, b"sub") {
-        return OpWord::Sub;
+        return OpWordRead::Sub;
     }
     if same_bytes(f, b"in") {
-        return OpWord::In;
+        return OpWordRead::In;
     }
     if same_bytes(f, b"if") {
-        return OpWord::If;
+        return OpWordRead::If;
     }
     if same_bytes(f, b"skip") {
-        return OpWord::Skip;
+        return OpWordRead::Skip;
     }
-    OpWord::Refused(6)
+    OpWordRead::Refused(6)
 }

@@ -52,7 +52,7 @@ pub fn put_bytes(out: &mut [u8], at: usize, s: &[u8]) -> usize
     place
 }
 
-// The byte of the last digit.
+// The byte of the last digit. 48 is '0'.
 fn last_digit(n: usize) -> u8
     ensures { λ r. ⌜ r ≡ 48 + n % 10 ⌝ }
 {
@@ -74,7 +74,7 @@ pub fn put_signed(out: &mut [u8], at: usize, z: i32) -> usize
     ensures { λ r. ⌜ Put at (decimalZ z) (now (out .entry)) (now (out .exit)) r ⌝ }
 {
     if z < 0 {
-        let place = put_byte(out, at, 45);
+        let place = put_byte(out, at, b'-');
         return put_decimal(out, place, words::magnitude(z));
     }
     put_decimal(out, at, words::magnitude(z))

@@ -6,13 +6,13 @@ use lib.IntN.{pos, natAbs}
 use lib.Signed.{ltZ}
 use mir.Syntax.{w32}
 use mir.Val.{toZ, ofZ}
-use Rattle.text.specs.Fields.{number-said, index-res}
+use Rattle.text.specs.Fields.{number-said, variable-res}
 use Rattle.text.proofs.Judged.{below-neg, below-yes, below-no}
 use Rattle.text.proofs.below.Statement.{statement}
 use Rattle.text.proofs.below.Tie as tie
 
 returns : tie.Need-returns
-unfolding index-res number-said
+unfolding variable-res number-said
 returns c =
     let a = c .before .before in
     let z = a .n .given .0 .0 in
@@ -21,7 +21,7 @@ returns c =
     simp (a .n .given .1) (sym (below-neg _ z t))
 
 returns-2 : tie.Need-returns-2
-unfolding index-res number-said
+unfolding variable-res number-said
 returns-2 c =
     let a = c .before .before .before .before in
     let z = a .n .given .0 .0 in
@@ -31,11 +31,11 @@ returns-2 c =
     simp (a .n .given .1) (below-yes _ _ z t e (c .if2 .taken))
 
 returns-3 : tie.Need-returns-3
-unfolding index-res number-said
+unfolding variable-res number-said
 returns-3 c = simp (c .enum-told .given .1)
 
 returns-4 : tie.Need-returns-4
-unfolding index-res number-said
+unfolding variable-res number-said
 returns-4 c =
     let a = c .before .before .before .before in
     let z = a .n .given .0 .0 in

@@ -1,13 +1,13 @@
 -- `text::kind_field` meets its contract. Assumes nothing.
 use borrow.Author.Needs.{needs}
 use Rattle.semantics.specs.Reading.{kind-field}
-use Rattle.text.specs.Fields.{flag-res}
+use Rattle.text.specs.Fields.{kind-res}
 use Rattle.text.proofs.Judged.{word-by-word}
 use Rattle.text.proofs.kind_field.Statement.{statement}
 use Rattle.text.proofs.kind_field.Tie as tie
 
 pub kind-field-spec : {M : Type 1} → statement M
-unfolding kind-field flag-res
+unfolding kind-field kind-res
 kind-field-spec =
     tie.close
     (tie.spec

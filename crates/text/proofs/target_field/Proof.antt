@@ -2,7 +2,7 @@
 use borrow.Author.Needs.{needs}
 use mathlib.Core.Path.{sym, ap, _∙_}
 use Rattle.semantics.specs.Reading.{below-or}
-use Rattle.text.specs.Fields.{number-said, index-res}
+use Rattle.text.specs.Fields.{number-said, variable-res}
 use Rattle.text.specs.declared.NumberRead.{NumberRead}
 use Rattle.text.proofs.Digits.{below-or-cut}
 use Rattle.text.proofs.Judged.{target-none, target-other, target-is}
@@ -10,11 +10,11 @@ use Rattle.text.proofs.target_field.Statement.{statement}
 use Rattle.text.proofs.target_field.Tie as tie
 
 returns : tie.Need-returns
-unfolding index-res
+unfolding variable-res
 returns c = sym (target-none _ _ (c .if1 .taken))
 
 returns-2 : tie.Need-returns-2
-unfolding index-res
+unfolding variable-res
 returns-2 c = sym (target-other _ _ (c .if2 .taken))
 
 returns-3 : tie.Need-returns-3

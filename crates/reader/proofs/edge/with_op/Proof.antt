@@ -10,7 +10,7 @@ returns : tie.Need-returns
 returns c = sym (then-fail _ (ap op-res (c .before .op .given .1)))
 
 returns-2 : tie.Need-returns-2
-returns-2 c = rw (then-ok _ (ap op-res (c .before .before .before .op2 .given .1)), sym (c .before .index-word .ensures), sym (c .index-word2 .ensures)) (search needs)
+returns-2 c = rw (then-ok _ (ap op-res (c .before .before .before .op2 .given .1)), sym (c .before .location-word .ensures), sym (c .location-word2 .ensures)) (search needs)
 
 pub with-op-spec : {M : Type 1} → statement M
 with-op-spec =

@@ -4,17 +4,17 @@ use borrow.Author.Tests.{not-true, not-false}
 use borrow.Author.Needs.{needs}
 use Rattle.semantics.specs.Reading.{kind-field}
 use Rattle.semantics.specs.Text.{name-ok}
-use Rattle.text.specs.Fields.{flag-res}
+use Rattle.text.specs.Fields.{kind-res}
 use Rattle.reader.proofs.Judging.{check-no, check-yes, said}
 use Rattle.reader.proofs.location.judged.Statement.{statement}
 use Rattle.reader.proofs.location.judged.Tie as tie
 
 returns : tie.Need-returns
-unfolding flag-res
+unfolding kind-res
 returns c = sym (check-no _ _ (sym (c .before .filled .ensures) ∙ not-true _ (c .if1 .taken)))
 
 returns-2 : tie.Need-returns-2
-unfolding flag-res
+unfolding kind-res
 returns-2 c = let f = sym (c .before .before .before .before .filled .ensures) ∙ not-false _ (c .before .before .before .if1 .left) in
     let n = said name-ok (c .before .before .field .ensures) (c .before .name-ok .ensures) (not-true _ (c .if2 .taken)) in
     sym (check-yes _ _ f ∙ check-no _ _ n)

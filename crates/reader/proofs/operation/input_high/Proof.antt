@@ -10,7 +10,7 @@ returns : tie.Need-returns
 unfolding word-res
 returns c = let k = c .before .before .before .before in
     let e = sym (k .before .before .number-field .ensures) ∙ ap word-res (k .q .given .1) in
-    rw (sym (c .index-word .ensures)) ((search needs) ∙ sym (then-ok _ e ∙ check-yes _ _ ((search needs) ∙ sym (c .before .before .up-to .ensures) ∙ c .before .if1 .taken)))
+    rw (sym (c .variable-word .ensures)) ((search needs) ∙ sym (then-ok _ e ∙ check-yes _ _ ((search needs) ∙ sym (c .before .before .high-ok .ensures) ∙ c .before .if1 .taken)))
 
 returns-2 : tie.Need-returns-2
 unfolding word-res
@@ -20,7 +20,7 @@ returns-3 : tie.Need-returns-3
 unfolding word-res
 returns-3 c = let k = c .before .before .before in
     let e = sym (k .before .before .number-field .ensures) ∙ ap word-res (k .q .given .1) in
-    sym (then-ok _ e ∙ check-no _ _ ((search needs) ∙ sym (c .before .up-to .ensures) ∙ c .if1 .left))
+    sym (then-ok _ e ∙ check-no _ _ ((search needs) ∙ sym (c .before .high-ok .ensures) ∙ c .if1 .left))
 
 pub input-high-spec : {M : Type 1} → statement M
 input-high-spec =

@@ -11,7 +11,7 @@ returns c = sym (one-fail _ _ _ (sym (c .before .before .before .operand-of .ens
 
 returns-2 : tie.Need-returns-2
 returns-2 c = let e = sym (c .before .before .before .before .operand-of .ensures) ∙ ap operand-field-res (c .before .before .t .given .1) in
-    rw (one-ok _ _ _ e, sym (c .index-word .ensures)) (search needs)
+    rw (one-ok _ _ _ e, sym (c .variable-word .ensures)) (search needs)
 
 pub one-operand-spec : {M : Type 1} → statement M
 one-operand-spec =

@@ -9,9 +9,9 @@ use Rattle.reader.proofs.Judging.{then-fail, then-ok, operand-below}
 use Rattle.reader.proofs.operation.operand_of.Statement.{statement}
 use Rattle.reader.proofs.operation.operand_of.Tie as tie
 
-index-word-requires : tie.Need-index-word-requires
+variable-word-requires : tie.Need-variable-word-requires
 unfolding operand-res
-index-word-requires c κs = let a = c .before .before .before .before .before .args in
+variable-word-requires c κs = let a = c .before .before .before .before .before .args in
     let h : c .before .v .given .0 .0 < a .vars = operand-below (a .vars) (now (a .f)) (sym (c .before .before .before .operand-field .ensures) ∙ ap operand-res (c .before .v .given .1)) in
     let g : c .before .v .given .0 .0 < 1000 = omega arith in
     g
@@ -28,7 +28,7 @@ returns-2 c = let e = sym (c .before .before .before .operand-field .ensures) �
 returns-3 : tie.Need-returns-3
 unfolding operand-res
 returns-3 c = let e = sym (c .before .before .before .before .operand-field .ensures) ∙ ap operand-res (c .before .before .v .given .1) in
-    rw (then-ok _ e, sym (c .index-word .ensures)) (search needs)
+    rw (then-ok _ e, sym (c .variable-word .ensures)) (search needs)
 
 pub operand-of-spec : {M : Type 1} → statement M
 operand-of-spec =
@@ -38,7 +38,7 @@ operand-of-spec =
     (λ c. search needs)
     (λ c. search needs)
     (λ c. search needs)
-    index-word-requires
+    variable-word-requires
     returns
     returns-2
     returns-3)

@@ -11,7 +11,7 @@ returns c = sym (second-fail _ _ _ _ _ (sym (c .before .before .before .operand-
 
 returns-2 : tie.Need-returns-2
 returns-2 c = let e = sym (c .before .before .before .before .operand-of .ensures) ∙ ap operand-field-res (c .before .before .u .given .1) in
-    rw (second-ok _ _ _ _ _ e, sym (c .index-word .ensures)) (search needs)
+    rw (second-ok _ _ _ _ _ e, sym (c .variable-word .ensures)) (search needs)
 
 pub second-operand-spec : {M : Type 1} → statement M
 second-operand-spec =

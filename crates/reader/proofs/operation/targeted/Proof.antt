@@ -6,15 +6,15 @@ use denote.Ref.{now}
 use borrow.Author.Needs.{needs}
 use Rattle.semantics.specs.Text.{fields}
 use Rattle.semantics.specs.Reading.{ok, nth, target-field}
-use Rattle.text.specs.Fields.{index-res}
+use Rattle.text.specs.Fields.{variable-res}
 use Rattle.reader.proofs.Judging.{then-fail, then-ok, target-below, said}
 use Rattle.reader.proofs.operation.targeted.Statement.{statement}
 use Rattle.reader.proofs.operation.targeted.Tie as tie
 
 -- the target, as the line has it
 target-read : (c : tie.After-v) → target-field (c .before .before .before .before .before .args .vars) (nth (fields (now (c .before .before .before .before .before .args .line))) 4) ≡ ok (c .v .given .0 .0)
-unfolding index-res
-target-read c = said (target-field _) (c .before .before .before .field .ensures) (c .before .before .target-field .ensures) (ap index-res (c .v .given .1))
+unfolding variable-res
+target-read c = said (target-field _) (c .before .before .before .field .ensures) (c .before .before .target-field .ensures) (ap variable-res (c .v .given .1))
 
 after-target-requires : tie.Need-after-target-requires
 after-target-requires c κs = let a = c .before .before .before .before .before .before .args in
@@ -23,8 +23,8 @@ after-target-requires c κs = let a = c .before .before .before .before .before 
     g
 
 returns : tie.Need-returns
-unfolding index-res
-returns c = sym (then-fail _ (said (target-field _) (c .before .before .before .before .field .ensures) (c .before .before .before .target-field .ensures) (ap index-res (c .before .k .given .1))))
+unfolding variable-res
+returns c = sym (then-fail _ (said (target-field _) (c .before .before .before .before .field .ensures) (c .before .before .before .target-field .ensures) (ap variable-res (c .before .k .given .1))))
 
 returns-2 : tie.Need-returns-2
 returns-2 c = c .after-target .ensures ∙ sym (then-ok _ (target-read (c .before .before)))
