@@ -206,8 +206,10 @@ fn record_ok(a: Analysis, edges: usize) -> bool
     let stop = settings.stop;
     let verdict = a.verdict;
     let edge = a.edge;
-    let counts = (a.iterations <= semantics::MOST_ITERATIONS) & semantics::is_edge_within(edges, edge);
-    let rest = ((1 <= a.capacity) & (a.capacity <= 256)) & is_allowed(merge, stop);
+    let counts = (a.iterations <= semantics::MOST_ITERATIONS)
+        & semantics::is_edge_within(edges, edge);
+    let rest = ((1 <= a.capacity) & (a.capacity <= semantics::MOST_SLOTS as u32))
+        & is_allowed(merge, stop);
     counts & edge_ok(edge, verdict) & rest & empty_if_safe(verdict, a.waiting)
 }
 
@@ -217,7 +219,7 @@ fn record_ok(a: Analysis, edges: usize) -> bool
 pub fn capacity_ok(capacity: i32) -> bool
     ensures { λ r. ⌜ r ≡ capacity-ok capacity ⌝ }
 {
-    (1 <= capacity) & (capacity <= 256)
+    (1 <= capacity) & (capacity <= semantics::MOST_SLOTS as i32)
 }
 
 // A budget that 13 lets pass.
