@@ -64,27 +64,27 @@ pub fn edge_count(chart: &[i32]) -> usize
 pub fn width(chart: &[i32]) -> usize
     ensures { λ r. ⌜ (r ≡ suc (count (now (chart .entry)) 0)) × (r < 2147483650) ⌝ }
 {
-    words::number_at(chart, 0) + 1
+    var_count(chart) + 1
 }
 
 // Where the words of the locations begin, and those of the edges.
 fn locations_at(chart: &[i32]) -> usize
     ensures { λ r. ⌜ (r ≡ locations-at (now (chart .entry))) × (r < 8589934592) ⌝ }
 {
-    semantics::COUNTS_WORDS + semantics::VARIABLE_WORDS * words::number_at(chart, 0)
+    semantics::COUNTS_WORDS + semantics::VARIABLE_WORDS * var_count(chart)
 }
 
 fn edges_at(chart: &[i32]) -> usize
     ensures { λ r. ⌜ (r ≡ edges-at (now (chart .entry))) × (r < 51539607552) ⌝ }
 {
-    locations_at(chart) + semantics::LOCATION_WORDS * words::number_at(chart, 1)
+    locations_at(chart) + semantics::LOCATION_WORDS * location_count(chart)
 }
 
 // How many words the chart takes.
 fn end_of(chart: &[i32]) -> usize
     ensures { λ r. ⌜ r ≡ edges-at (now (chart .entry)) + 8 * count (now (chart .entry)) 2 ⌝ }
 {
-    edges_at(chart) + semantics::EDGE_WORDS * words::number_at(chart, 2)
+    edges_at(chart) + semantics::EDGE_WORDS * edge_count(chart)
 }
 
 // Whether there are 0 to 8 variables, 1 to 64 locations and 0 to 256 edges.
@@ -390,6 +390,8 @@ pub fn well_formed(chart: &[i32]) -> bool
 
 // ---- what the words say of a variable, a location and an edge, for those who use the chart
 
+// The accessors are total on the words. They ask for a bound on a number or a place only to keep a sum from wrapping.
+
 // A variable's range, and its initial value.
 pub fn variable_low(chart: &[i32], k: usize) -> i32
     requires { ⌜ k < 2305843009213693952 ⌝ }
@@ -445,7 +447,7 @@ pub fn first_edge(chart: &[i32]) -> Edge
 
 // An edge by its number, from the first.
 pub fn edge_of(first: Edge, id: EdgeId) -> Edge
-    requires { ⌜ (first .at < 68719476736) × (1 ≤ id .0) × (id .0 < 4294967297) ⌝ }
+    requires { ⌜ (first .at < 4294967296) × (1 ≤ id .0) × (id .0 < 4294967297) ⌝ }
     ensures { λ r. ⌜ (r .id .0 ≡ id .0) × (r .at ≡ first .at + 8 * (id .0 - 1)) ⌝ }
 {
     let before = id.0 - 1;
@@ -466,21 +468,21 @@ pub fn edge_from(chart: &[i32], edge: Edge) -> LocationId
 }
 
 pub fn edge_to(chart: &[i32], edge: Edge) -> LocationId
-    requires { ⌜ edge .at < 68719476736 ⌝ }
+    requires { ⌜ edge .at < 4294967296 ⌝ }
     ensures { λ r. ⌜ (r .0 ≡ count (now (chart .entry)) (edge .at + 1)) × (r .0 < 2147483649) ⌝ }
 {
     LocationId(words::number_at(chart, edge.at + 1))
 }
 
 pub fn edge_operation(chart: &[i32], edge: Edge) -> usize
-    requires { ⌜ edge .at < 68719476736 ⌝ }
+    requires { ⌜ edge .at < 4294967296 ⌝ }
     ensures { λ r. ⌜ (r ≡ count (now (chart .entry)) (edge .at + 2)) × (r < 2147483649) ⌝ }
 {
     words::number_at(chart, edge.at + 2)
 }
 
 pub fn edge_target(chart: &[i32], edge: Edge) -> usize
-    requires { ⌜ edge .at < 68719476736 ⌝ }
+    requires { ⌜ edge .at < 4294967296 ⌝ }
     ensures { λ r. ⌜ (r ≡ count (now (chart .entry)) (edge .at + 3)) × (r < 2147483649) ⌝ }
 {
     words::number_at(chart, edge.at + 3)
@@ -488,35 +490,35 @@ pub fn edge_target(chart: &[i32], edge: Edge) -> usize
 
 // Its two operands: what each is, and the word that it holds; the first as the number of a variable.
 pub fn first_tag(chart: &[i32], edge: Edge) -> i32
-    requires { ⌜ edge .at < 68719476736 ⌝ }
+    requires { ⌜ edge .at < 4294967296 ⌝ }
     ensures { λ r. ⌜ r ≡ getD (now (chart .entry)) (edge .at + 4) (pos 0) ⌝ }
 {
     words::word_at(chart, edge.at + 4)
 }
 
 pub fn first_value(chart: &[i32], edge: Edge) -> i32
-    requires { ⌜ edge .at < 68719476736 ⌝ }
+    requires { ⌜ edge .at < 4294967296 ⌝ }
     ensures { λ r. ⌜ r ≡ getD (now (chart .entry)) (edge .at + 5) (pos 0) ⌝ }
 {
     words::word_at(chart, edge.at + 5)
 }
 
 pub fn first_variable(chart: &[i32], edge: Edge) -> usize
-    requires { ⌜ edge .at < 68719476736 ⌝ }
+    requires { ⌜ edge .at < 4294967296 ⌝ }
     ensures { λ r. ⌜ (r ≡ count (now (chart .entry)) (edge .at + 5)) × (r < 2147483649) ⌝ }
 {
     words::number_at(chart, edge.at + 5)
 }
 
 pub fn second_tag(chart: &[i32], edge: Edge) -> i32
-    requires { ⌜ edge .at < 68719476736 ⌝ }
+    requires { ⌜ edge .at < 4294967296 ⌝ }
     ensures { λ r. ⌜ r ≡ getD (now (chart .entry)) (edge .at + 6) (pos 0) ⌝ }
 {
     words::word_at(chart, edge.at + 6)
 }
 
 pub fn second_value(chart: &[i32], edge: Edge) -> i32
-    requires { ⌜ edge .at < 68719476736 ⌝ }
+    requires { ⌜ edge .at < 4294967296 ⌝ }
     ensures { λ r. ⌜ r ≡ getD (now (chart .entry)) (edge .at + 7) (pos 0) ⌝ }
 {
     words::word_at(chart, edge.at + 7)
