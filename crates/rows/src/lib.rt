@@ -1,4 +1,6 @@
 // One abstract state as a row of words, its location and then one word a variable: order, join and merge.
+// The locations of two rows are compared as words, not as ids: nothing is asked of a row's form, and a word and its
+// negation say the same id.
 use semantics::LocationId;
 ghost use mathlib.Core.Path.{_≡_};
 ghost use Prim.Native.Nat.{_<_};
