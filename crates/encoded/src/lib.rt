@@ -552,7 +552,7 @@ pub fn name(chart: &[i32], l: LocationId) -> &[i32]
     &chart[0..0]
 }
 
-// The byte in a word of a name; a name in form has no other words.
+// The byte in a word of a name; 0 where the word is no byte.
 pub fn name_byte(w: i32) -> u8
     ensures { λ r. ⌜ r ≡ byte-of (natAbs w) ⌝ }
 {
