@@ -64,27 +64,27 @@ pub fn edge_count(chart: &[i32]) -> usize
 pub fn width(chart: &[i32]) -> usize
     ensures { λ r. ⌜ (r ≡ suc (count (now (chart .entry)) 0)) × (r < 2147483650) ⌝ }
 {
-    words::number_at(chart, 0) + 1
+    var_count(chart) + 1
 }
 
 // Where the words of the locations begin, and those of the edges.
 fn locations_at(chart: &[i32]) -> usize
     ensures { λ r. ⌜ (r ≡ locations-at (now (chart .entry))) × (r < 8589934592) ⌝ }
 {
-    3 + 3 * words::number_at(chart, 0)
+    semantics::COUNTS_WORDS + semantics::VARIABLE_WORDS * var_count(chart)
 }
 
 fn edges_at(chart: &[i32]) -> usize
     ensures { λ r. ⌜ (r ≡ edges-at (now (chart .entry))) × (r < 51539607552) ⌝ }
 {
-    locations_at(chart) + 17 * words::number_at(chart, 1)
+    locations_at(chart) + semantics::LOCATION_WORDS * location_count(chart)
 }
 
 // How many words the chart takes.
 fn end_of(chart: &[i32]) -> usize
     ensures { λ r. ⌜ r ≡ edges-at (now (chart .entry)) + 8 * count (now (chart .entry)) 2 ⌝ }
 {
-    edges_at(chart) + 8 * words::number_at(chart, 2)
+    edges_at(chart) + semantics::EDGE_WORDS * edge_count(chart)
 }
 
 // Whether there are 0 to 8 variables, 1 to 64 locations and 0 to 256 edges.
@@ -94,7 +94,10 @@ fn counts_ok(chart: &[i32]) -> bool
     let v = words::word_at(chart, 0);
     let l = words::word_at(chart, 1);
     let e = words::word_at(chart, 2);
-    is_at_most(8, v) & is_at_most(64, l) & (1 <= words::magnitude(l)) & is_at_most(256, e)
+    is_at_most(semantics::MOST_VARIABLES, v)
+        & is_at_most(semantics::MOST_LOCATIONS, l)
+        & (1 <= words::magnitude(l))
+        & is_at_most(semantics::MOST_EDGES, e)
 }
 
 // ---- variables
@@ -129,7 +132,7 @@ fn vars_ok(vars: &[i32], n: usize) -> bool
     let mut at = 0;
     while i < n {
         ok = ok & var_row_ok(&vars[at..]);
-        at += 3;
+        at += semantics::VARIABLE_WORDS;
         i += 1;
     }
     ok
@@ -142,7 +145,7 @@ fn row_name_length(row: &[i32]) -> usize
     ensures { λ r. ⌜ (r ≡ length (loc-in (now (row .entry)) .name)) × (r ≤ 16) ⌝ }
 {
     let mut i = 0;
-    while i < 16 {
+    while i < semantics::NAME_WORDS {
         let w = words::word_at(row, i + 1);
         if w == 0 {
             return i;
@@ -176,7 +179,7 @@ fn location_row_ok(row: &[i32]) -> bool
     ((kind == 0) | (kind == 1))
         & (1 <= n)
         & name_bytes_ok(&row[1..end])
-        & words::all_zero(&row[end..17])
+        & words::all_zero(&row[end..semantics::LOCATION_WORDS])
 }
 
 // The words of n locations.
@@ -189,7 +192,7 @@ fn locations_ok(locations: &[i32], n: usize) -> bool
     let mut at = 0;
     while i < n {
         ok = ok & location_row_ok(&locations[at..]);
-        at += 17;
+        at += semantics::LOCATION_WORDS;
         i += 1;
     }
     ok
@@ -200,7 +203,7 @@ fn same_name(a: &[i32], b: &[i32]) -> bool
     ensures { λ r. ⌜ r ≡ same-bytes (loc-in (now (a .entry)) .name) (loc-in (now (b .entry)) .name) ⌝ }
 {
     let mut i = 0;
-    while i < 16 {
+    while i < semantics::NAME_WORDS {
         let x = words::number_at(a, i + 1);
         let y = words::number_at(b, i + 1);
         if x != y {
@@ -224,7 +227,7 @@ fn name_is_new(row: &[i32], locations: &[i32], n: usize) -> bool
     let mut at = 0;
     while i < n {
         ok = ok & !same_name(row, &locations[at..]);
-        at += 17;
+        at += semantics::LOCATION_WORDS;
         i += 1;
     }
     ok
@@ -239,7 +242,7 @@ fn names_differ(locations: &[i32], n: usize) -> bool
     let mut left = n;
     let mut at = 0;
     while left > 0 {
-        let next = at + 17;
+        let next = at + semantics::LOCATION_WORDS;
         left -= 1;
         ok = ok & name_is_new(&locations[at..], &locations[next..], left);
         at = next;
@@ -264,7 +267,7 @@ fn in_var_range(vars: &[i32], k: usize, w: i32) -> bool
     requires { ⌜ k < 2147483649 ⌝ }
     ensures { λ r. ⌜ r ≡ ranged (now (vars .entry)) k w ⌝ }
 {
-    let at = 3 * k;
+    let at = semantics::VARIABLE_WORDS * k;
     words::lies_within(words::word_at(vars, at), words::word_at(vars, at + 1), w)
 }
 
@@ -320,7 +323,7 @@ fn operation_ok(vars: &[i32], v: usize, row: &[i32]) -> bool
 {
     let n = words::number_at(row, 2);
     if n == 0 {
-        return words::all_zero(&row[3..8]);
+        return words::all_zero(&row[3..semantics::EDGE_WORDS]);
     }
     words::is_below(v, words::word_at(row, 3)) & operands_ok(n, vars, v, row)
 }
@@ -346,7 +349,7 @@ fn edges_ok(vars: &[i32], v: usize, l: usize, edges: &[i32], n: usize) -> bool
     let mut at = 0;
     while i < n {
         ok = ok & edge_row_ok(vars, v, l, &edges[at..]);
-        at += 8;
+        at += semantics::EDGE_WORDS;
         i += 1;
     }
     ok
@@ -364,7 +367,7 @@ fn rows_ok(chart: &[i32]) -> bool
     let e = edge_count(chart);
     let at = locations_at(chart);
     let from = edges_at(chart);
-    let vars = &chart[3..];
+    let vars = &chart[semantics::COUNTS_WORDS..];
     let locations = &chart[at..];
     vars_ok(vars, v)
         & locations_ok(locations, l)
@@ -387,26 +390,31 @@ pub fn well_formed(chart: &[i32]) -> bool
 
 // ---- what the words say of a variable, a location and an edge, for those who use the chart
 
+// The accessors are total on the words. They ask for a bound on a number or a place only to keep a sum from wrapping.
+
 // A variable's range, and its initial value.
 pub fn variable_low(chart: &[i32], k: usize) -> i32
     requires { ⌜ k < 2305843009213693952 ⌝ }
     ensures { λ r. ⌜ r ≡ getD (now (chart .entry)) (3 + 3 * k) (pos 0) ⌝ }
 {
-    words::word_at(chart, 3 + 3 * k)
+    let at = semantics::COUNTS_WORDS + semantics::VARIABLE_WORDS * k;
+    words::word_at(chart, at)
 }
 
 pub fn variable_high(chart: &[i32], k: usize) -> i32
     requires { ⌜ k < 2305843009213693952 ⌝ }
     ensures { λ r. ⌜ r ≡ getD (now (chart .entry)) (3 + 3 * k + 1) (pos 0) ⌝ }
 {
-    words::word_at(chart, 3 + 3 * k + 1)
+    let at = semantics::COUNTS_WORDS + semantics::VARIABLE_WORDS * k;
+    words::word_at(chart, at + 1)
 }
 
 pub fn variable_init(chart: &[i32], k: usize) -> i32
     requires { ⌜ k < 2305843009213693952 ⌝ }
     ensures { λ r. ⌜ r ≡ getD (now (chart .entry)) (3 + 3 * k + 2) (pos 0) ⌝ }
 {
-    words::word_at(chart, 3 + 3 * k + 2)
+    let at = semantics::COUNTS_WORDS + semantics::VARIABLE_WORDS * k;
+    words::word_at(chart, at + 2)
 }
 
 // Whether the location's kind is that of an error location.
@@ -415,7 +423,7 @@ pub fn is_error_location(chart: &[i32], l: LocationId) -> bool
     ensures { λ r. ⌜ r ≡ eqZ (getD (now (chart .entry)) (locations-at (now (chart .entry)) + 17 * l .0) (pos 0)) (pos 1) ⌝ }
 {
     let k = l.0;
-    let kind = words::word_at(chart, locations_at(chart) + 17 * k);
+    let kind = words::word_at(chart, locations_at(chart) + semantics::LOCATION_WORDS * k);
     kind == 1
 }
 
@@ -439,15 +447,18 @@ pub fn first_edge(chart: &[i32]) -> Edge
 
 // An edge by its number, from the first.
 pub fn edge_of(first: Edge, id: EdgeId) -> Edge
-    requires { ⌜ (first .at < 68719476736) × (1 ≤ id .0) × (id .0 < 4294967297) ⌝ }
+    requires { ⌜ (first .at < 4294967296) × (1 ≤ id .0) × (id .0 < 4294967297) ⌝ }
     ensures { λ r. ⌜ (r .id .0 ≡ id .0) × (r .at ≡ first .at + 8 * (id .0 - 1)) ⌝ }
 {
     let before = id.0 - 1;
     Edge {
         id,
-        at: first.at + 8 * before,
+        at: first.at + semantics::EDGE_WORDS * before,
     }
 }
+
+// An edge's words, by their place in its row: 0 from, 1 to, 2 the operation's code, 3 the target, 4 and 5 the first
+// operand's tag and value, 6 and 7 the second's.
 
 // The locations that it leaves and goes to, its operation's code, and the variable that it sets or tests.
 pub fn edge_from(chart: &[i32], edge: Edge) -> LocationId
@@ -457,21 +468,21 @@ pub fn edge_from(chart: &[i32], edge: Edge) -> LocationId
 }
 
 pub fn edge_to(chart: &[i32], edge: Edge) -> LocationId
-    requires { ⌜ edge .at < 68719476736 ⌝ }
+    requires { ⌜ edge .at < 4294967296 ⌝ }
     ensures { λ r. ⌜ (r .0 ≡ count (now (chart .entry)) (edge .at + 1)) × (r .0 < 2147483649) ⌝ }
 {
     LocationId(words::number_at(chart, edge.at + 1))
 }
 
 pub fn edge_operation(chart: &[i32], edge: Edge) -> usize
-    requires { ⌜ edge .at < 68719476736 ⌝ }
+    requires { ⌜ edge .at < 4294967296 ⌝ }
     ensures { λ r. ⌜ (r ≡ count (now (chart .entry)) (edge .at + 2)) × (r < 2147483649) ⌝ }
 {
     words::number_at(chart, edge.at + 2)
 }
 
 pub fn edge_target(chart: &[i32], edge: Edge) -> usize
-    requires { ⌜ edge .at < 68719476736 ⌝ }
+    requires { ⌜ edge .at < 4294967296 ⌝ }
     ensures { λ r. ⌜ (r ≡ count (now (chart .entry)) (edge .at + 3)) × (r < 2147483649) ⌝ }
 {
     words::number_at(chart, edge.at + 3)
@@ -479,35 +490,35 @@ pub fn edge_target(chart: &[i32], edge: Edge) -> usize
 
 // Its two operands: what each is, and the word that it holds; the first as the number of a variable.
 pub fn first_tag(chart: &[i32], edge: Edge) -> i32
-    requires { ⌜ edge .at < 68719476736 ⌝ }
+    requires { ⌜ edge .at < 4294967296 ⌝ }
     ensures { λ r. ⌜ r ≡ getD (now (chart .entry)) (edge .at + 4) (pos 0) ⌝ }
 {
     words::word_at(chart, edge.at + 4)
 }
 
 pub fn first_value(chart: &[i32], edge: Edge) -> i32
-    requires { ⌜ edge .at < 68719476736 ⌝ }
+    requires { ⌜ edge .at < 4294967296 ⌝ }
     ensures { λ r. ⌜ r ≡ getD (now (chart .entry)) (edge .at + 5) (pos 0) ⌝ }
 {
     words::word_at(chart, edge.at + 5)
 }
 
 pub fn first_variable(chart: &[i32], edge: Edge) -> usize
-    requires { ⌜ edge .at < 68719476736 ⌝ }
+    requires { ⌜ edge .at < 4294967296 ⌝ }
     ensures { λ r. ⌜ (r ≡ count (now (chart .entry)) (edge .at + 5)) × (r < 2147483649) ⌝ }
 {
     words::number_at(chart, edge.at + 5)
 }
 
 pub fn second_tag(chart: &[i32], edge: Edge) -> i32
-    requires { ⌜ edge .at < 68719476736 ⌝ }
+    requires { ⌜ edge .at < 4294967296 ⌝ }
     ensures { λ r. ⌜ r ≡ getD (now (chart .entry)) (edge .at + 6) (pos 0) ⌝ }
 {
     words::word_at(chart, edge.at + 6)
 }
 
 pub fn second_value(chart: &[i32], edge: Edge) -> i32
-    requires { ⌜ edge .at < 68719476736 ⌝ }
+    requires { ⌜ edge .at < 4294967296 ⌝ }
     ensures { λ r. ⌜ r ≡ getD (now (chart .entry)) (edge .at + 7) (pos 0) ⌝ }
 {
     words::word_at(chart, edge.at + 7)
@@ -521,7 +532,7 @@ fn location_row(chart: &[i32], l: LocationId) -> &[i32]
 {
     let k = l.0;
     if k < location_count(chart) {
-        let at = locations_at(chart) + 17 * k;
+        let at = locations_at(chart) + semantics::LOCATION_WORDS * k;
         if at <= chart.len() {
             return &chart[at..];
         }
@@ -541,7 +552,7 @@ pub fn name(chart: &[i32], l: LocationId) -> &[i32]
     &chart[0..0]
 }
 
-// The byte in a word of a name; a name in form has no other words.
+// The byte in a word of a name; 0 where the word is no byte.
 pub fn name_byte(w: i32) -> u8
     ensures { λ r. ⌜ r ≡ byte-of (natAbs w) ⌝ }
 {

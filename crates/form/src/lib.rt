@@ -1,5 +1,6 @@
 // The tests of 11 to 14, and form rule 21: whether lent words and a record are an analysis of a chart. Leaves look at
-// one row or one part of the words and are total; the counts are tested first, since they bound what is read after.
+// one row or one part of the words; the counts are tested first, since they bound what is read after. What looks at a
+// row or a table asks that it has enough words, since 14 is judged before 21; all else is total.
 use semantics::Analysis;
 use semantics::EdgeId;
 use semantics::Mode;
@@ -208,7 +209,8 @@ fn record_ok(a: Analysis, edges: usize) -> bool
     let edge = a.edge;
     let counts = (a.iterations <= semantics::MOST_ITERATIONS)
         & semantics::is_edge_within(edges, edge);
-    let rest = ((1 <= a.capacity) & (a.capacity <= 256)) & is_allowed(merge, stop);
+    let rest = ((1 <= a.capacity) & (a.capacity <= semantics::MOST_SLOTS as u32))
+        & is_allowed(merge, stop);
     counts & edge_ok(edge, verdict) & rest & empty_if_safe(verdict, a.waiting)
 }
 
@@ -218,7 +220,7 @@ fn record_ok(a: Analysis, edges: usize) -> bool
 pub fn capacity_ok(capacity: i32) -> bool
     ensures { λ r. ⌜ r ≡ capacity-ok capacity ⌝ }
 {
-    (1 <= capacity) & (capacity <= 256)
+    (1 <= capacity) & (capacity <= semantics::MOST_SLOTS as i32)
 }
 
 // A budget that 13 lets pass.
@@ -233,8 +235,8 @@ pub fn is_short(chart: &[i32], capacity: u32, table: usize, list: usize) -> bool
     ensures { λ r. ⌜ r ≡ short (decode (now (chart .entry))) capacity table list ⌝ }
 {
     let width = encoded::width(chart);
-    let places = capacity as usize;
-    (table < places * width) | (list < places)
+    let slots = capacity as usize;
+    (table < slots * width) | (list < slots)
 }
 
 // Form rule 21. That the words lent are enough (14) is judged before.

@@ -53,11 +53,7 @@ pub fn chain(chart: &[i32], edges: usize, heads: &mut [usize], nexts: &mut [usiz
 pub fn first_leaving(heads: &[usize], l: LocationId) -> EdgeId
     ensures { λ r. ⌜ r .0 ≡ max 1 (getD (now (heads .entry)) (l .0) 0) ⌝ }
 {
-    let number = number_at(heads, l.0);
-    if number == 0 {
-        return EdgeId(1);
-    }
-    EdgeId(number)
+    semantics::later_edge(EdgeId(1), EdgeId(number_at(heads, l.0)))
 }
 
 // The edge to look at next. The chain of this one serves if it leaves the location.
@@ -66,15 +62,10 @@ pub fn next_leaving(chart: &[i32], edge: Edge, nexts: &[usize], l: LocationId) -
     ensures { λ r. ⌜ (edge .id .0 < r .0) × Passed (now (chart .entry)) (l .0) (edge .id .0) (r .0 - 1) ⌝ }
 {
     let id = edge.id;
-    let number = id.0;
-    let step = number + 1;
+    let after = semantics::edge_after(id);
     let from = encoded::edge_from(chart, edge);
     if !semantics::same_location(from, l) {
-        return EdgeId(step);
+        return after;
     }
-    let next = number_at(nexts, number - 1);
-    if next < step {
-        return EdgeId(step);
-    }
-    EdgeId(next)
+    semantics::later_edge(after, EdgeId(number_at(nexts, id.0 - 1)))
 }

@@ -1,4 +1,6 @@
 // One abstract state as a row of words, its location and then one word a variable: order, join and merge.
+// The locations of two rows are compared as words, not as ids: nothing is asked of a row's form, and a word and its
+// negation say the same id.
 use semantics::LocationId;
 ghost use mathlib.Core.Path.{_≡_};
 ghost use Prim.Native.Nat.{_<_};
@@ -60,7 +62,7 @@ pub fn leq_row(e: &[i32], s: &[i32]) -> bool
 }
 
 // Joins e into s, a row of the same location. Whether s is the same as before.
-pub fn join_row(s: &mut [i32], e: &[i32]) -> bool
+fn join_row(s: &mut [i32], e: &[i32]) -> bool
     requires { ⌜ (length (now s) ≡ length (now e)) × (0 < length (now e)) ⌝ }
     ensures { λ r. ⌜ (r ≡ same-words (row-join (now (e .entry)) (now (s .entry))) (now (s .entry))) × (now (s .exit) ≡ row-join (now (e .entry)) (now (s .entry))) ⌝ }
 {

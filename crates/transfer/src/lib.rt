@@ -249,7 +249,7 @@ pub fn is_error(chart: &[i32], row: &[i32]) -> bool
     encoded::is_error_location(chart, rows::location_of(row))
 }
 
-// The row of the initial abstract state.
+// The row of the initial abstract state. The start is location 0.
 pub fn initial(chart: &[i32], out: &mut [i32])
     requires { ⌜ length (now out) ≡ 1 + count (now chart) 0 ⌝ }
     ensures { λ _. ⌜ now (out .exit) ≡ initial-row (now (chart .entry)) ⌝ }

@@ -1,6 +1,7 @@
 // The waitlist in lent words: its slot numbers, longest waiting first, then zeros. Each function is given the count of
 // slots that wait. A function that puts a slot on the list or takes a named one off returns the count after it; the
 // take of the next slot returns that slot, and leaves one fewer.
+// The bounds of 65,536 only keep a slot's number in a word.
 use semantics::Order;
 use semantics::SlotId;
 ghost use mathlib.Core.Path.{_≡_};
@@ -26,7 +27,7 @@ fn slot_word(slot: SlotId) -> i32
 }
 
 // Whether the slot is waiting.
-pub fn contains(list: &[i32], count: usize, slot: SlotId) -> bool
+fn contains(list: &[i32], count: usize, slot: SlotId) -> bool
     requires { ⌜ Stored (now list) count (waits count (now list)) × (slot .0 < 65536) ⌝ }
     ensures { λ r. ⌜ r ≡ some-of (eqb (slot .0)) (waits count (now (list .entry))) ⌝ }
 {
@@ -44,7 +45,7 @@ pub fn append(list: &mut [i32], count: usize, slot: SlotId) -> usize
 }
 
 // The slot waits: it joins the waitlist unless it is on it.
-pub fn wait(list: &mut [i32], count: usize, slot: SlotId) -> usize
+fn wait(list: &mut [i32], count: usize, slot: SlotId) -> usize
     requires { ⌜ Stored (now list) count (waits count (now list)) × (slot .0 < length (now list)) × (length (now list) < 65536) × Queue (length (now list)) (waits count (now list)) ⌝ }
     ensures { λ r. ⌜ Stored (now (list .exit)) r (wait (slot .0) (waits count (now (list .entry)))) ⌝ }
 {
@@ -156,7 +157,7 @@ pub fn take_slot(order: Order, list: &mut [i32], count: usize) -> SlotId
 }
 
 // Takes the slot out of the waitlist, if it is on it.
-pub fn remove(list: &mut [i32], count: usize, slot: SlotId) -> usize
+fn remove(list: &mut [i32], count: usize, slot: SlotId) -> usize
     requires { ⌜ Stored (now list) count (waits count (now list)) × (slot .0 < 65536) ⌝ }
     ensures { λ r. ⌜ Stored (now (list .exit)) r (without (slot .0) (waits count (now (list .entry)))) ⌝ }
 {
@@ -164,7 +165,7 @@ pub fn remove(list: &mut [i32], count: usize, slot: SlotId) -> usize
 }
 
 // The slot joins the waitlist at its front.
-pub fn prepend(list: &mut [i32], count: usize, slot: SlotId) -> usize
+fn prepend(list: &mut [i32], count: usize, slot: SlotId) -> usize
     requires { ⌜ Stored (now list) count (waits count (now list)) × (count < length (now list)) × (slot .0 < 65536) ⌝ }
     ensures { λ r. ⌜ Stored (now (list .exit)) r (slot .0 ∷ waits count (now (list .entry))) ⌝ }
 {

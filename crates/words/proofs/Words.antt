@@ -73,10 +73,6 @@ module _ {z : ℤ} (fits : SFits w32 z) where
   pub widened : toZ w64 (ofZ w64 (toZ w32 (ofZ w32 z))) ≡ z
   widened = ap (λ (y : ℤ). toZ w64 (ofZ w64 y)) (toZ-ofZ w32 z fits) ∙ toZ-ofZ w64 z (sfits-widen tt fits)
 
-pub nonNeg-pos : (z : ℤ) → T (nonNeg z) → z ≡ pos (natAbs z)
-nonNeg-pos (pos n) t = refl
-nonNeg-pos (negsuc n) t = absurd t
-
 -- ---- sums
 
 cond-mag : (t : Bool) (x y : ℤ) (n : ℕ) → mag x ≤ n → mag y ≤ n → mag (cond t x y) ≤ n

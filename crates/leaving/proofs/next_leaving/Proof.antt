@@ -9,26 +9,29 @@ use Rattle.leaving.specs.Chains.{from-at}
 use Rattle.leaving.proofs.next_leaving.Statement.{statement}
 use Rattle.leaving.proofs.next_leaving.Tie as tie
 
-returns-3 : tie.Need-returns-3
-returns-3 c =
+returns-2 : tie.Need-returns-2
+returns-2 c =
     let n = c .before .number-at in
-    let t = c .before .before .before in
+    let t = c .before .before .before .before in
     let f = t .before .edge-from in
-    let s = t .before .before .before .before in
+    let after = t .before .before .edge-after in
+    let s = t .before .before .before .before .before in
     let same : from-at (s .args .chart .now) (s .args .edge .id .0 - 1) ≡ s .args .l .0 =
     ap (count (s .args .chart .now)) (sym (s .pre .1)) ∙ sym (f .ensures .0)
-    ∙ eqb-true (f .result .0) (s .args .l .0) (sym (t .same-location .ensures) ∙ not-false (t .same-location .result) (c .before .before .if1 .left)) in
-    (omega (arith, c .if2 .left), λ j lo hi e. s .pre .0 j lo (rw (n .ensures) at hi) (e ∙ sym same))
+    ∙ eqb-true (f .result .0) (s .args .l .0) (sym (t .same-location .ensures) ∙ not-false (t .same-location .result) (c .before .before .before .if1 .left)) in (
+      omega (arith, c .later-edge .ensures, after .ensures),
+      λ j lo hi e. s .pre .0 j lo (omega (arith, lo, hi, c .later-edge .ensures, after .ensures, n .ensures)) (e ∙ sym same),
+    )
 
 pub next-leaving-spec : {M : Type 1} → statement M
 next-leaving-spec =
     tie.close
     (tie.spec
+    (λ c κs. search needs)
+    (λ c κs. search needs)
+    (λ c κs. search needs)
+    (λ c. search needs)
     (λ c. search needs)
     (λ c κs. search needs)
     (λ c κs. search needs)
-    (λ c. search needs)
-    (λ c. search needs)
-    (λ c κs. search needs)
-    (λ c. search needs)
-    returns-3)
+    returns-2)
