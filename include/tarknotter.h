@@ -1,11 +1,17 @@
-/* The calls of target/staticlib/libexports.a, which `rt staticlib exports` writes, for x86-64 Linux.
-   What they are lent must not overlap, and no pointer is NULL, even with length 0. They keep nothing. */
+/* The calls of target/staticlib/libexports.a, which `rt staticlib exports` writes, for x86-64 Linux, from C11 or C++11 on.
+   A buffer is lent by a pointer and a length that counts its elements: words for int32_t, bytes for uint8_t. The
+   pointer is aligned for its elements, words to 4 bytes, and never NULL, even with length 0. What a call is lent must
+   not overlap. Calls keep nothing. */
 #ifndef TARKNOTTER_H
 #define TARKNOTTER_H
 
 #include <stdbool.h>
 #include <stddef.h>
 #include <stdint.h>
+
+#ifdef __cplusplus
+extern "C" {
+#endif
 
 /* The words that the largest chart takes. */
 #define TARKNOTTER_CHART_WORDS 3163
@@ -88,5 +94,9 @@ struct tarknotter_reply tarknotter_listing(const int32_t *chart, size_t chart_le
                                            const int32_t *table, size_t table_length,
                                            const int32_t *list, size_t list_length,
                                            uint8_t *space, size_t space_length);
+
+#ifdef __cplusplus
+}
+#endif
 
 #endif

@@ -1,44 +1,78 @@
-/* Reads a chart from standard input and walks it with sep, sep, old, room 16 and allowance 100. Prints the listing, then the numbers
-   with which three more calls are refused: a start with a merge that there is not, a run past the verdict, a listing into too little space. */
+/* Reads a chart of three variables from standard input and walks it with room 6 under each of the settings. After each call it
+   prints every field of the reply and the record and every word lent, and after a listing the listing. C and C++. */
 #include <stdio.h>
 
-#include "tarknotter.h"
+#include "layout.h"
 
-enum { ROOM = 16, ALLOWANCE = 100, NO_MERGE = 7 };
+enum { ROOM = 6, TABLE = ROOM * (3 + 1), NO_MERGE = 7 };
 
 static uint8_t text[40000], space[TARKNOTTER_LISTING_BYTES];
-static int32_t chart[TARKNOTTER_CHART_WORDS], table[TARKNOTTER_TABLE_WORDS], list[TARKNOTTER_LIST_WORDS];
+static int32_t chart[TARKNOTTER_CHART_WORDS], table[TABLE], list[ROOM];
+static struct tarknotter_record record;
 
-static struct tarknotter_called start(uint32_t merge, struct tarknotter_record record) {
-    return tarknotter_start(chart, TARKNOTTER_CHART_WORDS, merge, TARKNOTTER_SEP, TARKNOTTER_OLD, ROOM, record,
-                            table, TARKNOTTER_TABLE_WORDS, list, TARKNOTTER_LIST_WORDS);
+static void print_words(const char *name, const int32_t *words, size_t length) {
+    printf(", %s", name);
+    for (size_t place = 0; place < length; place++) {
+        printf(" %d", (int)words[place]);
+    }
 }
 
-static struct tarknotter_called run(struct tarknotter_record record) {
-    return tarknotter_run(chart, TARKNOTTER_CHART_WORDS, ALLOWANCE, record,
-                          table, TARKNOTTER_TABLE_WORDS, list, TARKNOTTER_LIST_WORDS);
+static void print_call(const char *name, struct tarknotter_reply reply) {
+    printf("%s: %u %zu %zu", name, (unsigned)reply.number, reply.line, reply.length);
+    printf(", record %u %u %u", (unsigned)record.merge, (unsigned)record.stop, (unsigned)record.order);
+    printf(" %u %u", (unsigned)record.capacity, (unsigned)record.iterations);
+    printf(" %zu %zu %u %zu", record.used, record.waiting, (unsigned)record.verdict, record.edge);
+    print_words("table", table, TABLE);
+    print_words("list", list, ROOM);
+    printf("\n");
 }
 
-static struct tarknotter_reply listing(struct tarknotter_record record, size_t space_length) {
-    return tarknotter_listing(chart, TARKNOTTER_CHART_WORDS, record,
-                              table, TARKNOTTER_TABLE_WORDS, list, TARKNOTTER_LIST_WORDS, space, space_length);
+static void start(uint32_t merge, uint32_t stop, uint32_t order, size_t table_length) {
+    struct tarknotter_called called =
+        tarknotter_start(chart, TARKNOTTER_CHART_WORDS, merge, stop, order, ROOM, record, table, table_length, list, ROOM);
+    record = called.record;
+    print_call("start", called.reply);
+}
+
+static void run(int32_t budget) {
+    struct tarknotter_called called =
+        tarknotter_run(chart, TARKNOTTER_CHART_WORDS, budget, record, table, TABLE, list, ROOM);
+    record = called.record;
+    print_call("run", called.reply);
+}
+
+static size_t listing(size_t space_length) {
+    struct tarknotter_reply reply = tarknotter_listing(chart, TARKNOTTER_CHART_WORDS, record, table, TABLE, list, ROOM,
+                                                       space, space_length);
+    print_call("listing", reply);
+    fwrite(space, 1, reply.length, stdout);
+    return reply.length;
+}
+
+/* In small budgets and then to the verdict, with a refusal of each call. */
+static void walk(uint32_t merge, uint32_t stop, uint32_t order) {
+    start(merge, stop, order, TABLE - 1);
+    start(merge, stop, order, TABLE);
+    run(0);
+    run(1);
+    run(2);
+    run(100);
+    run(100);
+    size_t length = listing(sizeof space);
+    listing(length - 1);
+    start(NO_MERGE, stop, order, TABLE);
 }
 
 int main(void) {
+    printf("%d %d %d %d\n", TARKNOTTER_CHART_WORDS, TARKNOTTER_TABLE_WORDS, TARKNOTTER_LIST_WORDS,
+           TARKNOTTER_LISTING_BYTES);
     size_t length = fread(text, 1, sizeof text, stdin);
-    struct tarknotter_reply reply = tarknotter_read(text, length, chart, TARKNOTTER_CHART_WORDS);
-    struct tarknotter_record none = {0};
-    struct tarknotter_called begun = start(TARKNOTTER_SEP, none);
-    struct tarknotter_called done = run(begun.record);
-    struct tarknotter_reply listed = listing(done.record, sizeof space);
-    if (reply.number || begun.reply.number || done.reply.number || listed.number) {
-        return 1;
-    }
-    fwrite(space, 1, listed.length, stdout);
-
-    begun = start(NO_MERGE, done.record);
-    done = run(begun.record);
-    reply = listing(done.record, listed.length - 1);
-    printf("%u\t%u\t%u\n", (unsigned)begun.reply.number, (unsigned)done.reply.number, (unsigned)reply.number);
+    print_call("read", tarknotter_read(text, length, chart, TARKNOTTER_CHART_WORDS));
+    walk(TARKNOTTER_SEP, TARKNOTTER_SEP, TARKNOTTER_OLD);
+    walk(TARKNOTTER_SEP, TARKNOTTER_SEP, TARKNOTTER_NEW);
+    walk(TARKNOTTER_JOIN, TARKNOTTER_SEP, TARKNOTTER_OLD);
+    walk(TARKNOTTER_JOIN, TARKNOTTER_SEP, TARKNOTTER_NEW);
+    walk(TARKNOTTER_JOIN, TARKNOTTER_JOIN, TARKNOTTER_OLD);
+    walk(TARKNOTTER_JOIN, TARKNOTTER_JOIN, TARKNOTTER_NEW);
     return 0;
 }

@@ -46,6 +46,44 @@ pub struct Called {
     pub record: Record,
 }
 
+/// The layout of the three in `include/tarknotter.h`, which `c/layout.h` holds in C to the same numbers.
+const _: () = {
+    use std::mem::{align_of, offset_of, size_of};
+    assert!(size_of::<Reply>() == 24 && align_of::<Reply>() == 8);
+    assert!(offset_of!(Reply, number) == 0);
+    assert!(offset_of!(Reply, line) == 8);
+    assert!(offset_of!(Reply, length) == 16);
+    assert!(size_of::<Record>() == 56 && align_of::<Record>() == 8);
+    assert!(offset_of!(Record, merge) == 0);
+    assert!(offset_of!(Record, stop) == 4);
+    assert!(offset_of!(Record, order) == 8);
+    assert!(offset_of!(Record, capacity) == 12);
+    assert!(offset_of!(Record, iterations) == 16);
+    assert!(offset_of!(Record, used) == 24);
+    assert!(offset_of!(Record, waiting) == 32);
+    assert!(offset_of!(Record, verdict) == 40);
+    assert!(offset_of!(Record, edge) == 48);
+    assert!(size_of::<Called>() == 80 && align_of::<Called>() == 8);
+    assert!(offset_of!(Called, reply) == 0);
+    assert!(offset_of!(Called, record) == 24);
+    assert!(size_of::<usize>() == 8 && size_of::<bool>() == 1 && align_of::<i32>() == 4);
+};
+
+impl Record {
+    /// All 0, for the first start.
+    pub const NONE: Record = Record {
+        merge: 0,
+        stop: 0,
+        order: 0,
+        capacity: 0,
+        iterations: 0,
+        used: 0,
+        waiting: 0,
+        verdict: 0,
+        edge: 0,
+    };
+}
+
 pub type Read = fn(&[u8], &mut [i32]) -> Reply;
 pub type Start = fn(&[i32], Settings, i32, Record, &mut [i32], &mut [i32]) -> Called;
 pub type Run = fn(&[i32], i32, Record, &mut [i32], &mut [i32]) -> Called;

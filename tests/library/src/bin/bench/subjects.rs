@@ -76,17 +76,7 @@ impl Subject {
 
     /// With the chart read and an analysis made, so that each call can be made alone.
     pub fn lent(&self) -> Lent {
-        let record = Record {
-            merge: 0,
-            stop: 0,
-            order: 0,
-            capacity: 0,
-            iterations: 0,
-            used: 0,
-            waiting: 0,
-            verdict: 0,
-            edge: 0,
-        };
+        let record = Record::NONE;
         let mut lent = Lent {
             file: self.file.clone(),
             chart: vec![0; MAX_WORDS],
