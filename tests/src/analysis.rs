@@ -1,6 +1,6 @@
 //! The analysis: the reached table, the waitlist and the iterations over them.
 
-use std::collections::VecDeque;
+use std::collections::{BTreeSet, VecDeque};
 
 use crate::chart::{Chart, EdgeId, LocationId, SlotId};
 use crate::domain::{self, MAX_WIDTH};
@@ -45,6 +45,19 @@ pub enum Verdict {
     Open,
 }
 
+/// What few iterations meet and much can go wrong at.
+#[derive(Clone, Copy, Debug, PartialEq, Eq, PartialOrd, Ord)]
+pub enum Corner {
+    /// A slot that waits before another is widened, and keeps its place.
+    KeepsPlace,
+    /// A self-loop widens the taken slot.
+    SelfLoop,
+    /// After that a later edge has a successor, which is the copy's.
+    CopyFollowed,
+    /// The taken slot waits again when an alarm or a full table moves it to the place taken next.
+    PutBack,
+}
+
 /// Document 01's walk.
 #[derive(Clone, Debug, PartialEq, Eq)]
 pub struct Analysis {
@@ -56,6 +69,8 @@ pub struct Analysis {
     pub edge: Option<EdgeId>,
     pub reached: Reached,
     pub waitlist: Waitlist,
+    /// Met since it was started or taken from lent words; for tests alone.
+    pub corners: BTreeSet<Corner>,
 }
 
 /// The abstract states in order of arrival, one row after the other.
@@ -122,6 +137,7 @@ impl Analysis {
             edge: None,
             reached,
             waitlist,
+            corners: BTreeSet::new(),
         }
     }
 
@@ -146,10 +162,14 @@ impl Analysis {
         self.iterations += 1;
         let taken = self.waitlist.take(self.settings.order);
         source.copy_from_slice(self.reached.row(taken));
+        let mut is_widened = false;
         for &id in outgoing.of(location_of(source)) {
             let edge = chart.edge(id);
             if !domain::transfer(chart, edge, source, successor) {
                 continue;
+            }
+            if is_widened {
+                self.corners.insert(Corner::CopyFollowed);
             }
             // Before the capacity, or a full table would hide an alarm.
             if chart.location(edge.to).is_error {
@@ -157,6 +177,10 @@ impl Analysis {
                 return self.break_off(taken, Verdict::Alarm);
             }
             self.merge(successor);
+            if self.reached.row(taken) != source {
+                is_widened = true;
+                self.corners.insert(Corner::SelfLoop);
+            }
             if self.stops(successor) {
                 continue;
             }
@@ -174,6 +198,9 @@ impl Analysis {
     /// Not all edges of the taken slot were followed, so it waits again.
     fn break_off(&mut self, taken: SlotId, verdict: Verdict) {
         self.verdict = verdict;
+        if self.waitlist.contains(taken) && self.waitlist.next(self.settings.order) != Some(taken) {
+            self.corners.insert(Corner::PutBack);
+        }
         self.waitlist.put_next(taken, self.settings.order);
     }
 
@@ -183,7 +210,11 @@ impl Analysis {
         }
         for (slot, row) in self.reached.rows_mut().enumerate() {
             if row[0] == successor[0] && domain::join_into(row, successor) {
-                self.waitlist.add(SlotId(slot));
+                let slot = SlotId(slot);
+                if self.waitlist.contains(slot) && self.waitlist.next(Order::New) != Some(slot) {
+                    self.corners.insert(Corner::KeepsPlace);
+                }
+                self.waitlist.add(slot);
             }
         }
     }
@@ -276,6 +307,14 @@ impl Waitlist {
         if !self.is_waiting[slot.0] {
             self.is_waiting[slot.0] = true;
             self.slots.push_back(slot);
+        }
+    }
+
+    /// The slot to be taken.
+    fn next(&self, order: Order) -> Option<SlotId> {
+        match order {
+            Order::Old => self.slots.front().copied(),
+            Order::New => self.slots.back().copied(),
         }
     }
 

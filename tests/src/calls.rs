@@ -1,6 +1,8 @@
 //! The calls on lent words. Each judges its own case first, in the stated
 //! order, and a refused one changes nothing.
 
+use std::collections::BTreeSet;
+
 use crate::analysis::{
     check_budget, check_settings, Analysis, Reached, Settings, Verdict, Waitlist, MAX_ITERATIONS,
 };
@@ -69,20 +71,29 @@ pub fn run(
     waitlist: &mut [i32],
     record: &mut Record,
 ) -> Answer {
-    let advanced = (|| {
-        check_budget(i64::from(budget))?;
-        let chart = held_chart(chart)?;
-        let mut analysis = held_analysis(&chart, table, waitlist, record)?;
-        if record.verdict != Verdict::Open {
-            return Err(Reason::Finished.into());
-        }
-        if record.iterations == MAX_ITERATIONS {
-            return Err(Reason::IterationLimit.into());
-        }
-        analysis.run(&chart, budget as u32);
-        Ok(analysis)
-    })();
+    let advanced = advanced(chart, budget, table, waitlist, record);
     Answer::from(advanced.map(|analysis| store(&analysis, table, waitlist, record)))
+}
+
+/// The analysis that a run leaves, which tells also what it has met.
+pub fn advanced(
+    chart: &[i32],
+    budget: i32,
+    table: &[i32],
+    waitlist: &[i32],
+    record: &Record,
+) -> Result<Analysis, Refusal> {
+    check_budget(i64::from(budget))?;
+    let chart = held_chart(chart)?;
+    let mut analysis = held_analysis(&chart, table, waitlist, record)?;
+    if record.verdict != Verdict::Open {
+        return Err(Reason::Finished.into());
+    }
+    if record.iterations == MAX_ITERATIONS {
+        return Err(Reason::IterationLimit.into());
+    }
+    analysis.run(&chart, budget as u32);
+    Ok(analysis)
 }
 
 /// Writes the listing to the beginning of `space`; answers also its length, 0 when refused.
@@ -197,6 +208,7 @@ fn load(chart: &Chart, table: &[i32], waitlist: &[i32], record: &Record) -> Anal
         edge: Some(EdgeId(record.edge as usize)).filter(|edge| edge.0 > 0),
         reached,
         waitlist: waiting,
+        corners: BTreeSet::new(),
     }
 }
 

@@ -3,7 +3,7 @@
 use std::collections::BTreeMap;
 use std::fmt::Debug;
 
-use crate::analysis::{Settings, Verdict};
+use crate::analysis::{Analysis, Corner, Merge, Order, Settings, Verdict, MAX_CAPACITY};
 use crate::random::permitted_settings;
 
 /// How often each label was met.
@@ -17,6 +17,10 @@ impl<L: Ord + Debug> Met<L> {
 
     pub fn add(&mut self, label: L) {
         *self.0.entry(label).or_insert(0) += 1;
+    }
+
+    pub fn add_all(&mut self, labels: impl IntoIterator<Item = L>) {
+        labels.into_iter().for_each(|label| self.add(label));
     }
 
     /// Fails unless each label of `wanted` is met so often, and no other at all.
@@ -72,4 +76,45 @@ pub fn analysis_labels() -> Vec<String> {
         .iter()
         .flat_map(|&settings| Verdict::ALL.map(|verdict| analysis_label(settings, verdict)))
         .collect()
+}
+
+/// What a run has met that few meet, by the analysis as the run left it: corners, and a table of which
+/// every slot is used, the largest one too.
+pub fn corner_labels_of(analysis: &Analysis) -> Vec<String> {
+    let Settings { merge, order, .. } = analysis.settings;
+    let (order, verdict) = (order.word(), analysis.verdict.word());
+    let mut labels: Vec<String> = analysis
+        .corners
+        .iter()
+        .map(|corner| match corner {
+            Corner::PutBack => format!("{corner:?} {order} {verdict}"),
+            _ => format!("{corner:?} {order}"),
+        })
+        .collect();
+    let used = analysis.reached.len();
+    if analysis.iterations > 0 && used == analysis.capacity {
+        labels.push(format!("used = room {} {verdict}", merge.word()));
+        if used == MAX_CAPACITY {
+            labels.push(format!("used = 256 {verdict}"));
+        }
+    }
+    labels
+}
+
+/// Every label that `corner_labels_of` gives.
+pub fn corner_labels() -> Vec<String> {
+    let mut labels = Vec::new();
+    for order in Order::ALL.map(Order::word) {
+        for corner in [Corner::KeepsPlace, Corner::SelfLoop, Corner::CopyFollowed] {
+            labels.push(format!("{corner:?} {order}"));
+        }
+        for verdict in [Verdict::Alarm, Verdict::Full] {
+            labels.push(format!("{:?} {order} {}", Corner::PutBack, verdict.word()));
+        }
+    }
+    for verdict in Verdict::ALL.map(Verdict::word) {
+        labels.extend(Merge::ALL.map(|merge| format!("used = room {} {verdict}", merge.word())));
+        labels.push(format!("used = 256 {verdict}"));
+    }
+    labels
 }

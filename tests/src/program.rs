@@ -3,6 +3,7 @@
 use crate::analysis::{
     check_budget, check_settings, Analysis, Merge, Order, Settings, Stop, Verdict,
 };
+use crate::chart::Chart;
 use crate::listing::{listing, refusal_line};
 use crate::reader;
 use crate::refusal::{Reason, Refusal};
@@ -19,7 +20,17 @@ pub struct GoLine {
 }
 
 pub fn respond(input: &[u8]) -> Vec<u8> {
-    walk(input).unwrap_or_else(refusal_line)
+    printed(&walk(input))
+}
+
+/// A chart and its analysis, as far as the budget goes, or why there is none.
+pub type Walked = Result<(Chart, Analysis), Refusal>;
+
+pub fn printed(walked: &Walked) -> Vec<u8> {
+    match walked {
+        Ok((chart, analysis)) => listing(chart, analysis),
+        Err(refusal) => refusal_line(*refusal),
+    }
 }
 
 /// An input without its go line.
@@ -28,14 +39,14 @@ pub fn chart_part(input: &[u8]) -> &[u8] {
     &input[go_line.map_or(0, <[u8]>::len)..]
 }
 
-fn walk(input: &[u8]) -> Result<Vec<u8>, Refusal> {
+pub fn walk(input: &[u8]) -> Walked {
     let (go, file) = read_go_line(input)?;
     let chart = reader::read(file)?;
     let mut analysis = Analysis::start(&chart, go.settings, go.capacity);
     if analysis.verdict != Verdict::Alarm {
         analysis.run(&chart, go.budget);
     }
-    Ok(listing(&chart, &analysis))
+    Ok((chart, analysis))
 }
 
 /// The go line and the chart file after it; every refusal is on line 0.

@@ -1,9 +1,9 @@
 //! The generators reach everything there is to compare: every operation and
-//! relation, every refusal number and every verdict.
+//! relation, every refusal number, every verdict and every corner of an analysis.
 
 use reference::chart::{Chart, Operand, Operation};
-use reference::coverage::{program_label, program_labels, Met};
-use reference::program::respond;
+use reference::coverage::{corner_labels, corner_labels_of, program_label, program_labels, Met};
+use reference::program::{printed, walk};
 use reference::random::{count_at_least, inputs, seed, Random};
 
 const INPUTS: usize = 20_000;
@@ -11,20 +11,25 @@ const INPUTS: usize = 20_000;
 const FEWEST: usize = 20;
 
 #[test]
-fn inputs_meet_every_refusal_and_every_verdict() {
+fn inputs_meet_every_refusal_verdict_and_corner() {
     let mut random = Random::new(seed());
-    let mut met = Met::new();
+    let (mut met, mut corners) = (Met::new(), Met::new());
     for _ in 0..count_at_least(INPUTS) {
-        met.add(program_label(&respond(&inputs::program_input(&mut random))));
+        let walked = walk(&inputs::program_input(&mut random));
+        met.add(program_label(&printed(&walked)));
+        if let Ok((_, analysis)) = walked {
+            corners.add_all(corner_labels_of(&analysis));
+        }
     }
     met.assert_exactly(&program_labels(), FEWEST);
+    corners.assert_exactly(&corner_labels(), FEWEST);
 }
 
 #[test]
 fn charts_have_every_operation() {
     let mut random = Random::new(seed() ^ 1);
     let mut met = Met::new();
-    for _ in 0..count_at_least(2_000) {
+    for _ in 0..count_at_least(3_000) {
         let chart = inputs::chart(&mut random);
         for label in labels(&chart) {
             met.add(label);
@@ -109,14 +114,4 @@ fn labels(chart: &Chart) -> Vec<String> {
         }
     }
     labels
-}
-
-/// One seed makes the same inputs everywhere.
-#[test]
-fn one_seed_makes_one_list() {
-    let (mut one, mut other) = (Random::new(7), Random::new(7));
-    let mut third = Random::new(8);
-    let first = inputs::program_input(&mut one);
-    assert_eq!(first, inputs::program_input(&mut other));
-    assert_ne!(first, inputs::program_input(&mut third));
 }

@@ -4,14 +4,24 @@
 
 use reference::analysis::{Analysis, Settings, Verdict};
 use reference::chart::Chart;
+use reference::coverage::{analysis_label, analysis_labels, corner_labels, corner_labels_of, Met};
 use reference::explorer::Explorer;
 use reference::program::respond;
-use reference::random::charts::{chart, SMALL};
-use reference::random::{count, inputs, permitted_settings, seed, Random};
+use reference::random::charts::{chart, hub, SMALL};
+use reference::random::{count, count_at_least, inputs, permitted_settings, seed, Random};
 use reference::renderer::render;
 
 const MAX_STATES: usize = 10_000;
 const ENOUGH: u32 = 60_000;
+/// Of each verdict and corner, so that another seed finds it too.
+const FEWEST: usize = 20;
+
+fn small_chart(random: &mut Random) -> Chart {
+    match random.percent(15) {
+        true => hub(random),
+        false => chart(random, SMALL),
+    }
+}
 
 /// Fails with all that is needed to see it again.
 fn check(explorer: &Explorer, chart: &Chart, analysis: &Analysis) {
@@ -30,31 +40,42 @@ fn check(explorer: &Explorer, chart: &Chart, analysis: &Analysis) {
 #[test]
 fn runs_are_covered_and_safe_is_safe() {
     let mut random = Random::new(seed());
-    let mut verdicts = [0; 4];
-    let (mut with_error, mut states) = (0, 0);
-    for _ in 0..count(12_000) {
-        let chart = chart(&mut random, SMALL);
+    let (mut met, mut corners) = (Met::new(), Met::new());
+    for _ in 0..count_at_least(12_000) {
+        let chart = small_chart(&mut random);
         let explorer = Explorer::new(&chart, MAX_STATES).expect("small charts have few states");
-        with_error += usize::from(explorer.reaches_error());
-        states += explorer.reachable().len();
         for settings in permitted_settings() {
             for (capacity, budget) in [
                 (256, ENOUGH),
                 (random.between(1, 8) as usize, ENOUGH),
-                (inputs::capacity(&mut random) as usize, random.between(0, 12) as u32),
+                (
+                    inputs::capacity(&mut random, &chart, settings) as usize,
+                    random.between(0, 12) as u32,
+                ),
             ] {
                 let mut analysis = Analysis::start(&chart, settings, capacity);
                 analysis.run(&chart, budget);
                 check(&explorer, &chart, &analysis);
-                verdicts[analysis.verdict as usize] += 1;
+                let verdict = analysis_label(settings, analysis.verdict);
+                met.add(format!("{verdict}, error reached: {}", explorer.reaches_error()));
+                corners.add_all(corner_labels_of(&analysis).into_iter().filter(is_small));
             }
         }
     }
-    println!("{with_error} charts with a reachable error location, {states} states in all");
-    for verdict in Verdict::ALL {
-        println!("{}: {}", verdict.word(), verdicts[verdict as usize]);
-    }
-    assert!(states > 0);
+    let wanted: Vec<String> = analysis_labels()
+        .iter()
+        .flat_map(|verdict| [true, false].map(|is_reached| (verdict, is_reached)))
+        .filter(|(verdict, is_reached)| !(*is_reached && verdict.ends_with("safe")))
+        .map(|(verdict, is_reached)| format!("{verdict}, error reached: {is_reached}"))
+        .collect();
+    met.assert_exactly(&wanted, FEWEST);
+    corners
+        .assert_exactly(&corner_labels().into_iter().filter(is_small).collect::<Vec<_>>(), FEWEST);
+}
+
+/// Few small charts have states for 256 slots.
+fn is_small(label: &String) -> bool {
+    !label.starts_with("used = 256")
 }
 
 /// After each single iteration, and in the end as after one run.
@@ -62,10 +83,10 @@ fn runs_are_covered_and_safe_is_safe() {
 fn runs_are_covered_at_every_iteration() {
     let mut random = Random::new(seed() ^ 1);
     for _ in 0..count(4_000) {
-        let chart = chart(&mut random, SMALL);
+        let chart = small_chart(&mut random);
         let explorer = Explorer::new(&chart, MAX_STATES).expect("small charts have few states");
         let settings: Settings = random.settings();
-        let capacity = inputs::capacity(&mut random) as usize;
+        let capacity = inputs::capacity(&mut random, &chart, settings) as usize;
         let mut analysis = Analysis::start(&chart, settings, capacity);
         check(&explorer, &chart, &analysis);
         while analysis.verdict == Verdict::Open {

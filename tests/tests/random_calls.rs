@@ -4,7 +4,7 @@
 use reference::analysis::{Analysis, Verdict};
 use reference::calls::{Answer, Record};
 use reference::chart::Chart;
-use reference::coverage::Met;
+use reference::coverage::{corner_labels, corner_labels_of, Met};
 use reference::listing::listing;
 use reference::memory::Memory;
 use reference::random::calls::{call, disturb, relend, start, Call};
@@ -13,6 +13,8 @@ use reference::random::{count_at_least, inputs, seed, Random};
 const CALLS_PER_CHART: usize = 12;
 /// Of each number, so that another seed finds it too.
 const FEWEST: usize = 20;
+/// Of each corner.
+const FEWEST_CORNERS: usize = 5;
 
 /// What the rules make of one call with so much lent; a refused one leaves the analysis alone.
 fn expected(
@@ -81,15 +83,15 @@ fn assert_holds(memory: &Memory, analysis: &Analysis) {
 #[test]
 fn whole_walks() {
     let mut random = Random::new(seed());
-    let mut met = Met::new();
+    let (mut met, mut corners) = (Met::new(), Met::new());
     for _ in 0..count_at_least(3_000) {
         let chart = inputs::chart(&mut random);
         let mut memory = Memory::new(&chart, 256 * chart.width(), 256);
         let mut analysis = None;
         for _ in 0..CALLS_PER_CHART {
             let call = match analysis {
-                None => start(&mut random),
-                Some(_) => call(&mut random),
+                None => start(&mut random, &chart),
+                Some(_) => call(&mut random, &chart),
             };
             let capacity = match call {
                 Call::Start { capacity, .. } => capacity.unsigned_abs(),
@@ -103,12 +105,17 @@ fn whole_walks() {
             if answer == Answer::DONE {
                 memory = lent;
             }
-            if let Some(analysis) = &analysis {
+            if let Some(analysis) = &mut analysis {
                 assert_holds(&memory, analysis);
+                if matches!(call, Call::Run { .. }) && answer == Answer::DONE {
+                    corners.add_all(corner_labels_of(analysis));
+                    analysis.corners.clear();
+                }
             }
         }
     }
     met.assert_exactly(&[0, 11, 12, 13, 14, 15, 22], FEWEST);
+    corners.assert_exactly(&corner_labels(), FEWEST_CORNERS);
 }
 
 /// On words that may be out of form no call panics, a refused one changes
@@ -120,14 +127,15 @@ fn disturbed_words_meet_every_refusal() {
     for _ in 0..count_at_least(3_000) {
         let chart = inputs::chart(&mut random);
         let mut memory = Memory::new(&chart, 256 * chart.width() + 4, 260);
-        memory.start(random.settings(), inputs::capacity(&mut random));
+        let settings = random.settings();
+        memory.start(settings, inputs::capacity(&mut random, &chart, settings));
         if memory.record.verdict == Verdict::Open {
             memory.run(random.between(0, 6));
         }
         for _ in 0..CALLS_PER_CHART {
             let mut disturbed = memory.clone();
             disturb(&mut random, &mut disturbed);
-            let call = call(&mut random);
+            let call = call(&mut random, &chart);
             let (answer, _) = make(&mut disturbed, call);
             met.add(answer.number);
             if answer == Answer::DONE {

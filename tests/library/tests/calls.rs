@@ -3,7 +3,9 @@
 
 use library::walker::{held, WALKER};
 use library::{files, Calls, Record, Reply, Settings, LIBRARY};
-use reference::coverage::{analysis_label, analysis_labels, Met};
+use reference::calls::advanced;
+use reference::chart::Chart;
+use reference::coverage::{analysis_label, analysis_labels, corner_labels, corner_labels_of, Met};
 use reference::domain::TOP;
 use reference::encoding::MAX_WORDS;
 use reference::memory::Memory;
@@ -16,6 +18,8 @@ use reference::worked::{cases, examples};
 const CALLS_PER_CHART: usize = 16;
 /// Of each number and verdict, so that another seed finds it too.
 const FEWEST: usize = 20;
+/// Of each corner.
+const FEWEST_CORNERS: usize = 5;
 /// Words and bytes around each buffer that is lent.
 const FENCE: usize = 4;
 /// More than any listing takes: into as many bytes it is written without being measured.
@@ -164,8 +168,11 @@ fn make_odd(random: &mut Random, record: &mut Record) {
 }
 
 /// A call, and how many bytes are lent to a listing.
-fn random_call(random: &mut Random, is_begun: bool) -> (Made, usize) {
-    let call = if is_begun || random.percent(20) { call(random) } else { start(random) };
+fn random_call(random: &mut Random, chart: &Chart, is_begun: bool) -> (Made, usize) {
+    let call = match is_begun || random.percent(20) {
+        true => call(random, chart),
+        false => start(random, chart),
+    };
     match call {
         Call::Start { settings, capacity } => {
             let mut settings = Settings::from(settings);
@@ -220,13 +227,13 @@ fn listing_space(random: &mut Random, memory: &Memory, space: usize) -> usize {
 #[test]
 fn lists_of_calls_are_answered_alike() {
     let mut random = Random::new(seed());
-    let (mut answers, mut verdicts) = (Met::new(), Met::new());
+    let (mut answers, mut verdicts, mut corners) = (Met::new(), Met::new(), Met::new());
     for _ in 0..count_at_least(4_000) {
         let chart = inputs::chart(&mut random);
         let mut memory = Memory::new(&chart, 256 * chart.width(), 256);
         let mut is_begun = false;
         for _ in 0..CALLS_PER_CHART {
-            let (made, space) = random_call(&mut random, is_begun);
+            let (made, space) = random_call(&mut random, &chart, is_begun);
             let mut next = lend(&mut random, &memory, made);
             if random.percent(20) {
                 disturb(&mut random, &mut next);
@@ -242,6 +249,11 @@ fn lists_of_calls_are_answered_alike() {
             let mut lent = Lent::new(&mut random, &next, record, space);
             let reply = compare(&mut lent, made);
             answers.add(label(made, reply.number));
+            if let (Made::Run { budget }, 0) = (made, reply.number) {
+                let (chart, record) = (within(&lent.chart), held(&record));
+                let advanced = advanced(chart, budget, &next.table, &next.waitlist, &record);
+                corners.add_all(corner_labels_of(&advanced.expect("it has gone through")));
+            }
             if reply.number == 0 {
                 next.table = within(&lent.table).to_vec();
                 next.waitlist = within(&lent.list).to_vec();
@@ -254,6 +266,7 @@ fn lists_of_calls_are_answered_alike() {
     }
     answers.assert_exactly(&labels(), FEWEST);
     verdicts.assert_exactly(&analysis_labels(), FEWEST);
+    corners.assert_exactly(&corner_labels(), FEWEST_CORNERS);
 }
 
 /// Case A after three iterations, with each word and each field of the record given many values.

@@ -6,8 +6,8 @@ use std::path::Path;
 use std::thread;
 
 use program::{output, output_of_pieces};
-use reference::coverage::{program_label, program_labels, Met};
-use reference::program::respond;
+use reference::coverage::{corner_labels, corner_labels_of, program_label, program_labels, Met};
+use reference::program::{printed, respond, walk};
 use reference::random::{count_at_least, inputs, seed, Random};
 use reference::worked::{cases, examples, Worked};
 
@@ -55,9 +55,15 @@ fn random_inputs_print_alike() {
     let mut random = Random::new(seed());
     let all: Vec<Vec<u8>> =
         (0..count_at_least(INPUTS)).map(|_| inputs::program_input(&mut random)).collect();
-    let mut met = Met::new();
-    all.iter().for_each(|input| met.add(program_label(&respond(input))));
+    let (mut met, mut corners) = (Met::new(), Met::new());
+    for walked in all.iter().map(|input| walk(input)) {
+        met.add(program_label(&printed(&walked)));
+        if let Ok((_, analysis)) = walked {
+            corners.add_all(corner_labels_of(&analysis));
+        }
+    }
     met.assert_exactly(&program_labels(), FEWEST);
+    corners.assert_exactly(&corner_labels(), FEWEST);
 
     let threads = thread::available_parallelism().map_or(1, usize::from);
     thread::scope(|scope| {

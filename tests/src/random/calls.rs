@@ -2,6 +2,7 @@
 
 use super::{inputs, Random};
 use crate::analysis::{Merge, Settings, Stop, Verdict};
+use crate::chart::Chart;
 use crate::domain::TOP;
 use crate::memory::{Memory, JUNK};
 
@@ -13,13 +14,14 @@ pub enum Call {
 }
 
 /// Any call, mostly one with settings that are not refused.
-pub fn call(random: &mut Random) -> Call {
+pub fn call(random: &mut Random, chart: &Chart) -> Call {
     match random.below(10) {
-        0 | 1 => start(random),
+        0 | 1 => start(random, chart),
         2..=6 => Call::Run {
             budget: match random.below(12) {
                 0 => random.pick(&[-1, 60_001, i32::MIN, i32::MAX]),
-                1..=6 => random.between(0, 3),
+                1..=5 => random.between(0, 3),
+                6 | 7 => random.between(4, 40),
                 _ => inputs::budget(random),
             },
         },
@@ -27,7 +29,7 @@ pub fn call(random: &mut Random) -> Call {
     }
 }
 
-pub fn start(random: &mut Random) -> Call {
+pub fn start(random: &mut Random, chart: &Chart) -> Call {
     let mut settings = random.settings();
     if random.percent(8) {
         settings.merge = Merge::Sep;
@@ -35,7 +37,7 @@ pub fn start(random: &mut Random) -> Call {
     }
     let capacity = match random.below(12) {
         0 => random.pick(&[0, 257, -1, i32::MIN, i32::MAX]),
-        _ => inputs::capacity(random),
+        _ => inputs::capacity(random, chart, settings),
     };
     Call::Start { settings, capacity }
 }

@@ -34,6 +34,77 @@ pub fn chart(random: &mut Random, shape: Shape) -> Chart {
     Chart { variables, locations, edges }
 }
 
+/// With `sep` about as many slots as there may be, most of them waiting from early on: from the start a
+/// value of the first variable is chosen, then one of the second, and then a move alarms, is new or is not.
+pub fn fan(random: &mut Random) -> Chart {
+    // Slots: 1, one for each first value, and one for each pair. All but the last pair make 256.
+    let (firsts, seconds) = random.pick(&[(3, 84), (5, 50), (15, 16), (17, 14), (16, 15)]);
+    let variable = |random: &mut Random, index: usize, high: i32| Variable {
+        name: name(random, index),
+        low: 0,
+        high,
+        init: random.pick(&[Some(0), None]),
+    };
+    let variables = vec![variable(random, 0, firsts), variable(random, 1, seconds)];
+    let locations: Vec<Location> =
+        (0..4).map(|index| Location { name: name(random, index), is_error: index == 3 }).collect();
+    let mut edges = Vec::new();
+    let mut lead = |from, to, operation| {
+        edges.push(Edge { from: LocationId(from), to: LocationId(to), operation });
+    };
+    let set = |target, value| Operation::Set { target, value: Operand::Number(value) };
+    (1..=firsts).for_each(|value| lead(0, 1, set(0, value)));
+    (1..=seconds).for_each(|value| lead(1, 2, set(1, value)));
+    let second = random.between(1, seconds);
+    match random.below(8) {
+        0 | 1 => {}
+        2..=5 => {
+            let right = Operand::Number(second);
+            lead(2, 3, Operation::If { target: 1, relation: Relation::Eq, right });
+        }
+        6 => lead(2, 2, set(1, second)),
+        // The one value that has not been chosen.
+        _ => lead(2, 2, set(1, 0)),
+    }
+    random.shuffle(&mut edges);
+    Chart { variables, locations, edges }
+}
+
+/// As small as `SMALL`, with much in one iteration: from a hub self-loops that widen it, then edges to
+/// each other location, which mostly end in an alarm or a full table; and some edges more.
+pub fn hub(random: &mut Random) -> Chart {
+    let mut variables: Vec<Variable> =
+        (0..random.pick(&[1, 2, 3])).map(|index| variable(random, SMALL, index)).collect();
+    if random.percent(70) {
+        variables.iter_mut().for_each(|variable| variable.init = Some(variable.low));
+    }
+    let (count, has_error) = (random.pick(&[3, 4, 5]), random.percent(60));
+    let locations: Vec<Location> = (0..count)
+        .map(|index| {
+            let is_error = has_error && index + 1 == count;
+            Location { name: name(random, index), is_error }
+        })
+        .collect();
+    let mut ends: Vec<(usize, usize)> =
+        [0, 0].into_iter().chain(1..count).map(|to| (0, to)).collect();
+    let others = ends.len() - usize::from(random.percent(70));
+    random.shuffle(&mut ends[..others]);
+    for _ in 0..random.below(count) {
+        let place = random.below(ends.len());
+        ends.insert(place, (random.below(count), random.below(count)));
+    }
+    let edge = |(from, to)| {
+        let target = random.below(variables.len());
+        let operation = match from == to {
+            true => counting(random, target),
+            false => passing(random, &variables),
+        };
+        Edge { from: LocationId(from), to: LocationId(to), operation }
+    };
+    let edges = ends.into_iter().map(edge).collect();
+    Chart { variables, locations, edges }
+}
+
 /// From 0 to `most`, the upper half and `most` itself more often.
 fn up_to(random: &mut Random, most: usize) -> usize {
     match random.below(8) {
@@ -77,7 +148,7 @@ fn locations(random: &mut Random, shape: Shape) -> Vec<Location> {
     let errors = random.pick(&[0, 0, 5, 10, 25]);
     (0..count)
         .map(|index| {
-            let percent = if index == 0 { errors / 4 } else { errors };
+            let percent = if index == 0 { errors / 3 } else { errors };
             Location { name: name(random, index), is_error: random.percent(percent) }
         })
         .collect()

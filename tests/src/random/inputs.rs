@@ -1,15 +1,17 @@
 //! Random inputs of the walk program.
 
-use super::charts::{self, Shape};
-use super::{damage, Random};
-use crate::analysis::Settings;
+use super::{charts, damage, permitted_settings, Random};
+use crate::analysis::{Analysis, Settings, MAX_CAPACITY, MAX_ITERATIONS};
 use crate::chart::Chart;
 use crate::renderer::render;
 
 /// A go line and a chart, of which about half have been damaged.
 pub fn program_input(random: &mut Random) -> Vec<u8> {
-    let mut input = go_line(random);
-    let mut file = render(&chart(random));
+    if random.percent(15) {
+        return corner_input(random);
+    }
+    let chart = chart(random);
+    let (mut input, mut file) = (go_line(random, &chart), render(&chart));
     if random.percent(10) {
         damage::go_line(random, &mut input);
     }
@@ -24,42 +26,67 @@ pub fn program_input(random: &mut Random) -> Vec<u8> {
     input
 }
 
+/// An accepted input for what few others meet: all 256 slots used, or a taken slot that waits again
+/// when its iteration ends in an alarm or in a full table.
+fn corner_input(random: &mut Random) -> Vec<u8> {
+    let (sep, join) = (&permitted_settings()[..2], &permitted_settings()[2..]);
+    let (chart, settings, capacity) = if random.percent(40) {
+        (charts::fan(random), random.pick(sep), 256)
+    } else {
+        let (chart, settings) = (charts::hub(random), random.pick(join));
+        let capacity = tight_capacity(random, &chart, settings);
+        (chart, settings, capacity)
+    };
+    let budget = if random.percent(25) { random.between(1, 100) } else { 60_000 };
+    [go_line_of(settings, capacity, budget), render(&chart)].concat()
+}
+
 /// An input that is accepted, for comparing and timing whole analyses.
 pub fn accepted_input(random: &mut Random) -> Vec<u8> {
-    let mut input = go_line(random);
-    input.extend(render(&chart(random)));
-    input
+    let chart = chart(random);
+    [go_line(random, &chart), render(&chart)].concat()
 }
 
 /// A chart of any shape.
 pub fn chart(random: &mut Random) -> Chart {
-    let shape = shape(random);
+    let shape = match random.below(20) {
+        0 | 1 => charts::LARGE,
+        2..=5 => charts::DEEP,
+        6..=9 => return charts::hub(random),
+        10 | 11 => return charts::fan(random),
+        _ => charts::SMALL,
+    };
     charts::chart(random, shape)
 }
 
-fn shape(random: &mut Random) -> Shape {
-    match random.below(10) {
-        0 => charts::LARGE,
-        1..=3 => charts::DEEP,
-        _ => charts::SMALL,
-    }
+fn go_line(random: &mut Random, chart: &Chart) -> Vec<u8> {
+    let settings = random.settings();
+    let capacity = capacity(random, chart, settings);
+    go_line_of(settings, capacity, budget(random))
 }
 
-fn go_line(random: &mut Random) -> Vec<u8> {
-    let Settings { merge, stop, order } = random.settings();
-    let (capacity, budget) = (capacity(random), budget(random));
+fn go_line_of(settings: Settings, capacity: i32, budget: i32) -> Vec<u8> {
+    let Settings { merge, stop, order } = settings;
     format!("go\t{}\t{}\t{}\t{capacity}\t{budget}\n", merge.word(), stop.word(), order.word())
         .into_bytes()
 }
 
 /// Small ones fill up, large ones let an analysis end.
-pub fn capacity(random: &mut Random) -> i32 {
-    match random.below(6) {
+pub fn capacity(random: &mut Random, chart: &Chart, settings: Settings) -> i32 {
+    match random.below(8) {
         0 => random.between(1, 3),
         1 => random.between(4, 12),
-        2 => 256,
+        2 | 3 => 256,
+        4..=6 => tight_capacity(random, chart, settings),
         _ => random.between(12, 256),
     }
+}
+
+/// The slots that an analysis takes, or one fewer.
+fn tight_capacity(random: &mut Random, chart: &Chart, settings: Settings) -> i32 {
+    let mut analysis = Analysis::start(chart, settings, MAX_CAPACITY);
+    analysis.run(chart, MAX_ITERATIONS);
+    (analysis.reached.len() as i32 - random.between(0, 1)).max(1)
 }
 
 pub fn budget(random: &mut Random) -> i32 {

@@ -49,9 +49,13 @@ impl Random {
         }
     }
 
-    /// Permitted settings.
+    /// Permitted settings, as often with merge sep as with join.
     pub fn settings(&mut self) -> Settings {
-        self.pick(&permitted_settings())
+        let (sep, join) = (&permitted_settings()[..2], &permitted_settings()[2..]);
+        match self.percent(50) {
+            true => self.pick(sep),
+            false => self.pick(join),
+        }
     }
 }
 
@@ -87,4 +91,26 @@ pub fn count_at_least(default: usize) -> usize {
 fn environment_number(variable: &str) -> Option<u64> {
     let value = std::env::var(variable).ok()?;
     Some(value.parse().unwrap_or_else(|_| panic!("{variable} is not a number: {value}")))
+}
+
+#[cfg(test)]
+mod tests {
+    use super::Random;
+
+    /// One seed makes the same tests everywhere: the numbers published with SplitMix64.
+    #[test]
+    fn the_published_numbers() {
+        let mut random = Random::new(1_234_567);
+        let numbers = [(); 5].map(|()| random.next_word());
+        assert_eq!(
+            numbers,
+            [
+                6_457_827_717_110_365_317,
+                3_203_168_211_198_807_973,
+                9_817_491_932_198_370_423,
+                4_593_380_528_125_082_431,
+                16_408_922_859_458_223_821,
+            ]
+        );
+    }
 }
