@@ -6,7 +6,7 @@ use reference::coverage::{corner_labels, corner_labels_of, program_label, progra
 use reference::program::{printed, walk};
 use reference::random::{count_at_least, inputs, seed, Random};
 
-const INPUTS: usize = 20_000;
+const INPUTS: usize = 14_000;
 /// Of each, so that another seed finds it too.
 const FEWEST: usize = 20;
 

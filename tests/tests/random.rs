@@ -4,12 +4,16 @@
 
 use reference::analysis::{Analysis, Settings, Verdict};
 use reference::chart::Chart;
-use reference::coverage::{analysis_label, analysis_labels, corner_labels, corner_labels_of, Met};
+use reference::coverage::{
+    analysis_label, analysis_labels, corner_labels, corner_labels_of, program_label,
+    program_labels, Met,
+};
 use reference::explorer::Explorer;
 use reference::program::respond;
 use reference::random::charts::{chart, hub, SMALL};
 use reference::random::{count, count_at_least, inputs, permitted_settings, seed, Random};
 use reference::renderer::render;
+use reference::text;
 
 const MAX_STATES: usize = 10_000;
 const ENOUGH: u32 = 60_000;
@@ -41,7 +45,7 @@ fn check(explorer: &Explorer, chart: &Chart, analysis: &Analysis) {
 fn runs_are_covered_and_safe_is_safe() {
     let mut random = Random::new(seed());
     let (mut met, mut corners) = (Met::new(), Met::new());
-    for _ in 0..count_at_least(12_000) {
+    for _ in 0..count_at_least(10_000) {
         let chart = small_chart(&mut random);
         let explorer = Explorer::new(&chart, MAX_STATES).expect("small charts have few states");
         for settings in permitted_settings() {
@@ -101,20 +105,40 @@ fn runs_are_covered_at_every_iteration() {
     }
 }
 
-/// Random bytes of any kind never make the program panic, and always give one
-/// refusal line or one listing.
+/// Random bytes of any kind never make the program panic, and always give one refusal, of a line that
+/// the input has, or one listing, with a line for each slot that its header counts.
 #[test]
 fn every_input_has_an_answer() {
     let mut random = Random::new(seed() ^ 2);
-    for _ in 0..count(10_000) {
+    let mut met = Met::new();
+    for _ in 0..count_at_least(10_000) {
         let mut input = inputs::program_input(&mut random);
         for _ in 0..random.below(4) {
             let place = random.below(input.len() + 1);
             input.insert(place, random.below(256) as u8);
         }
         let output = respond(&input);
-        let is_listing = output.starts_with(b"walk\t") && output.ends_with(b"\n");
-        let is_refusal = output.starts_with(b"refused\t") && output.ends_with(b"\n");
-        assert!(is_listing || (is_refusal && output.iter().filter(|&&b| b == b'\n').count() == 1));
+        met.add(program_label(&output));
+        let text = std::str::from_utf8(&output).expect("names and numbers are text");
+        let text = text.strip_suffix('\n').expect("the last line is ended too");
+        let lines: Vec<Vec<&str>> =
+            text.split('\n').map(|line| line.split('\t').collect()).collect();
+        let number = |field: &str| field.parse::<usize>().expect("a number");
+        match &lines[..] {
+            [refusal] => {
+                assert_eq!((refusal[0], refusal.len()), ("refused", 3), "{text}");
+                assert!(number(refusal[2]) <= text::lines(&input).count(), "{text}");
+            }
+            [header, slots @ ..] => {
+                assert_eq!((header[0], header.len()), ("walk", 8), "{text}");
+                assert_eq!(number(header[6]), slots.len(), "{text}");
+                for (place, slot) in slots.iter().enumerate() {
+                    assert_eq!((number(slot[0]), slot.len()), (place, slots[0].len()), "{text}");
+                    assert!(["w", "-"].contains(&slot[slot.len() - 1]), "{text}");
+                }
+            }
+            [] => panic!("nothing is printed"),
+        }
     }
+    met.assert_exactly(&program_labels(), 5);
 }

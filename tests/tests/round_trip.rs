@@ -8,6 +8,9 @@ use reference::random::{count, count_at_least, damage, inputs, seed, Random};
 use reference::reader::read;
 use reference::renderer::render;
 
+/// Of files and words that are accepted, and of those that are not.
+const FEWEST: usize = 500;
+
 #[test]
 fn a_rendered_chart_reads_back() {
     let mut random = Random::new(seed());
@@ -34,7 +37,7 @@ fn an_accepted_file_has_one_spelling() {
         }
     }
     println!("{accepted} damaged files accepted, {refused} refused");
-    assert!(accepted > 0 && refused > 0);
+    assert!(accepted >= FEWEST && refused >= FEWEST);
 }
 
 /// The calls judge the words by the form written out; here by rendering and reading.
@@ -59,7 +62,7 @@ fn the_chart_held_is_judged_exactly() {
         *(if is_accepted { &mut accepted } else { &mut refused }) += 1;
     }
     println!("{accepted} accepted, {refused} refused");
-    assert!(accepted > 0 && refused > 0);
+    assert!(accepted >= FEWEST && refused >= FEWEST);
 }
 
 #[test]

@@ -81,13 +81,17 @@ fn random_files_are_read_alike() {
 #[test]
 fn every_case_and_example_is_read_alike() {
     let mut random = Random::new(seed() ^ 1);
+    let mut held = 0;
     for worked in cases().into_iter().chain(examples()) {
         let file = chart_part(&worked.input);
         compare(&mut random, file, MAX_WORDS + 1);
         if let Some(expected) = printed_reply(&String::from_utf8_lossy(&worked.output)) {
             assert_eq!(read(file, &mut vec![0; MAX_WORDS]), expected, "{}", worked.name);
+            held += 1;
         }
     }
+    println!("{held} held to what is printed");
+    assert!(held > 150);
 }
 
 /// What the output of a case says of the read call; nothing where the go line may have been refused.
