@@ -54,7 +54,7 @@ pub enum Corner {
     SelfLoop,
     /// After that a later edge has a successor, which is the copy's.
     CopyFollowed,
-    /// The taken slot waits again when an alarm or a full table moves it to the place taken next.
+    /// The taken slot waits again, elsewhere, when an alarm or a full table moves it to the place taken next.
     PutBack,
 }
 

@@ -62,7 +62,9 @@ fn runs_are_covered_and_safe_is_safe() {
                 check(&explorer, &chart, &analysis);
                 let verdict = analysis_label(settings, analysis.verdict);
                 met.add(format!("{verdict}, error reached: {}", explorer.reaches_error()));
-                corners.add_all(corner_labels_of(&analysis).into_iter().filter(is_small));
+                corners.add_all(
+                    corner_labels_of(&analysis).into_iter().filter(|label| is_small(label)),
+                );
             }
         }
     }
@@ -73,12 +75,14 @@ fn runs_are_covered_and_safe_is_safe() {
         .map(|(verdict, is_reached)| format!("{verdict}, error reached: {is_reached}"))
         .collect();
     met.assert_exactly(&wanted, FEWEST);
-    corners
-        .assert_exactly(&corner_labels().into_iter().filter(is_small).collect::<Vec<_>>(), FEWEST);
+    corners.assert_exactly(
+        &corner_labels().into_iter().filter(|label| is_small(label)).collect::<Vec<_>>(),
+        FEWEST,
+    );
 }
 
 /// Few small charts have states for 256 slots.
-fn is_small(label: &String) -> bool {
+fn is_small(label: &str) -> bool {
     !label.starts_with("used = 256")
 }
 

@@ -37,7 +37,7 @@ pub fn chart(random: &mut Random, shape: Shape) -> Chart {
 /// With `sep` about as many slots as there may be, most of them waiting from early on: from the start a
 /// value of the first variable is chosen, then one of the second, and then a move alarms, is new or is not.
 pub fn fan(random: &mut Random) -> Chart {
-    // Slots: 1, one for each first value, and one for each pair. All but the last pair make 256.
+    // 1 + firsts + firsts * seconds slots: 256, and 257 by the last choice.
     let (firsts, seconds) = random.pick(&[(3, 84), (5, 50), (15, 16), (17, 14), (16, 15)]);
     let variable = |random: &mut Random, index: usize, high: i32| Variable {
         name: name(random, index),

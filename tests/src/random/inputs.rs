@@ -41,12 +41,6 @@ fn corner_input(random: &mut Random) -> Vec<u8> {
     [go_line_of(settings, capacity, budget), render(&chart)].concat()
 }
 
-/// An input that is accepted, for comparing and timing whole analyses.
-pub fn accepted_input(random: &mut Random) -> Vec<u8> {
-    let chart = chart(random);
-    [go_line(random, &chart), render(&chart)].concat()
-}
-
 /// A chart of any shape.
 pub fn chart(random: &mut Random) -> Chart {
     let shape = match random.below(20) {
@@ -71,7 +65,7 @@ fn go_line_of(settings: Settings, capacity: i32, budget: i32) -> Vec<u8> {
         .into_bytes()
 }
 
-/// Small ones fill up, large ones let an analysis end.
+/// Small ones fill up, large ones let an analysis end, and tight ones are just enough or just not.
 pub fn capacity(random: &mut Random, chart: &Chart, settings: Settings) -> i32 {
     match random.below(8) {
         0 => random.between(1, 3),
