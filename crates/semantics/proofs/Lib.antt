@@ -23,12 +23,12 @@ pub mod JudgedBack
 pub mod Rendered
 pub mod Exactness
 pub mod FirstCase
+pub mod Refusals
 pub mod WholeWalks
 pub mod Realisable
 pub mod Listed
 pub mod Program
 pub mod Input
-pub mod Refusals
 pub mod Calls
 pub mod OutputShort
 pub mod MarkedCases
