@@ -15,6 +15,7 @@ pub mod Listing
 pub mod Outcomes
 pub mod WholeWalks
 pub mod Program
+pub mod ProgramSafe
 pub mod Exact
 pub mod Verdicts
 pub mod MarkedCases
