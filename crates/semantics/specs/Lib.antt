@@ -1,7 +1,7 @@
 -- To be believed, in this order, each close to document 01: lists and text, the chart file, the algorithm and its domain
 -- of constants, runs and what covers them, the encoded chart, memory, listing, calls, whole walks, the program. Then
--- claims of these definitions (to MarkedCases), which no other claim rests on. Last what only proofs use (and contracts
--- of inner functions): nothing there has to be believed.
+-- claims of these definitions that the others do not rest on: ProgramSafe, Exact, Verdicts, Runs, MarkedCases. Last what
+-- only proofs use, and contracts of inner functions: Laws, Tidy, Rendering. Nothing in these three has to be believed.
 pub mod Lists
 pub mod Text
 pub mod Chart
@@ -18,6 +18,7 @@ pub mod Program
 pub mod ProgramSafe
 pub mod Exact
 pub mod Verdicts
+pub mod Runs
 pub mod MarkedCases
 pub mod Laws
 pub mod Tidy
