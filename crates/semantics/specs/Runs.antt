@@ -31,9 +31,9 @@ pub record Move : Type 0 where
 abbrev takes : Op → ℤ → ℤ → ℤ → ℤ → Move
 takes o x y x′ y′ = record { op = o; x = x; y = y; x′ = x′; y′ = y′ }
 
--- the operation, an `if`, passes at x y
-abbrev passes : Op → ℤ → ℤ → Move
-passes o x y = takes o x y x y
+-- the operation, an `if` or `skip`, leaves x y as they are
+abbrev keeps : Op → ℤ → ℤ → Move
+keeps o x y = takes o x y x y
 
 -- the two states are a run
 abbrev pub Runs : Move → Type 0
@@ -57,13 +57,13 @@ some-moves =
     ∷ takes (input 0 (negsuc 1) (pos 7)) (pos 1) (pos 2) (pos 7) (pos 2)
     ∷ takes (input 0 (negsuc 1) (pos 7)) (pos 1) (pos 2) (pos 0) (pos 2)
     ∷ takes (input 1 (pos 4) (pos 4)) (pos 1) (pos 2) (pos 1) (pos 4)
-    ∷ passes skip (negsuc 8) (pos 9)
-    ∷ passes (assume 0 eq (var 1)) (negsuc 2) (negsuc 2)
-    ∷ passes (assume 0 ne (num (pos 3))) (negsuc 2) (pos 0)
-    ∷ passes (assume 0 lt (var 1)) (negsuc 2) (negsuc 1)
-    ∷ passes (assume 0 le (var 1)) (negsuc 2) (negsuc 1)
-    ∷ passes (assume 0 le (var 1)) (pos 2) (pos 2)
-    ∷ passes (assume 0 gt (var 1)) (pos 2) (pos 1)
-    ∷ passes (assume 0 ge (var 1)) (pos 2) (pos 1)
-    ∷ passes (assume 0 ge (var 1)) (negsuc 2) (negsuc 2)
+    ∷ keeps skip (negsuc 8) (pos 9)
+    ∷ keeps (assume 0 eq (var 1)) (negsuc 2) (negsuc 2)
+    ∷ keeps (assume 0 ne (num (pos 3))) (negsuc 2) (pos 0)
+    ∷ keeps (assume 0 lt (var 1)) (negsuc 2) (negsuc 1)
+    ∷ keeps (assume 0 le (var 1)) (negsuc 2) (negsuc 1)
+    ∷ keeps (assume 0 le (var 1)) (pos 2) (pos 2)
+    ∷ keeps (assume 0 gt (var 1)) (pos 2) (pos 1)
+    ∷ keeps (assume 0 ge (var 1)) (pos 2) (pos 1)
+    ∷ keeps (assume 0 ge (var 1)) (negsuc 2) (negsuc 2)
     ∷ []
