@@ -12,7 +12,7 @@ use lib.ListN.{length}
 use Rattle.semantics.specs.declared.Settings.{Settings}
 use Rattle.semantics.specs.Lists.{some-of}
 use Rattle.semantics.specs.Algorithm.{Out, on, full, then, merged, rewait, stopped, arrive}
-use Rattle.semantics.specs.Coverage.{Allowed}
+use Rattle.semantics.specs.Tidy.{Allowed}
 use Rattle.rows.specs.Rows.{row-leq}
 use Rattle.reached.proofs.Table.{Sized}
 use Rattle.transfer.specs.Transfer.{post-at, post-words, edge-at, edges-from}

@@ -6,7 +6,7 @@ use lib.IntN.{ℤ}
 use lib.ListN.{length}
 use Rattle.semantics.specs.declared.Analysis.{Analysis}
 use Rattle.semantics.specs.Algorithm.{Exploration, first-verdict, start}
-use Rattle.semantics.specs.Coverage.{Allowed, Tidy}
+use Rattle.semantics.specs.Tidy.{Allowed, Tidy}
 use Rattle.semantics.proofs.Tidy.{start-tidy}
 use Rattle.rows.specs.Rows.{rows-of}
 use Rattle.waitlist.specs.Waits.{Stored}

@@ -15,7 +15,7 @@ use Rattle.semantics.specs.declared.Verdict.{Verdict}
 use Rattle.semantics.specs.declared.Verdict.the-variants.{Open, Safe, Alarm, Full}
 use Rattle.semantics.specs.Lists.{In, some-of, all}
 use Rattle.semantics.specs.Chart.{Chart, eqZ}
-use Rattle.semantics.specs.Coverage.{Distinct, Queue, Every, Tidy}
+use Rattle.semantics.specs.Tidy.{Distinct, Queue, Every, Tidy}
 use Rattle.semantics.specs.Memory.{Memory, width, load, below, each-once, is-alarm, empty-if-safe, analysis-ok}
 use Rattle.semantics.proofs.Values.{and-left, and-right}
 use Rattle.semantics.proofs.Tidy.{some-not}

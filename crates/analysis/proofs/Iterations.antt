@@ -13,7 +13,7 @@ use Rattle.semantics.specs.declared.Verdict.{Verdict}
 use Rattle.semantics.specs.declared.Verdict.the-variants.{Open, Safe, Alarm, Full}
 use Rattle.semantics.specs.declared.Analysis.{Analysis}
 use Rattle.semantics.specs.Algorithm.{Domain, Exploration, Taken, verdict-of, leave, finish, iteration, iterate-if, run}
-use Rattle.semantics.specs.Coverage.{Every, Queue, Tidy}
+use Rattle.semantics.specs.Tidy.{Every, Queue, Tidy}
 use Rattle.semantics.specs.Outcomes.{has-verdict}
 use Rattle.semantics.proofs.Tidy.{Left, take-left, Keeps, iteration-tidy}
 use Rattle.rows.specs.Rows.{rows-of}

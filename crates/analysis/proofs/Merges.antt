@@ -13,7 +13,7 @@ use Rattle.semantics.specs.declared.Mode.the-variants.{Sep, Join}
 use Rattle.semantics.specs.Chart.{eqZ}
 use Rattle.semantics.specs.Lists.{pick, some-of, cons-unless}
 use Rattle.semantics.specs.Algorithm.{wait, wait-all, changed, merged, keep-if, of-place, leq-joined, stopped, allowed}
-use Rattle.semantics.specs.Coverage.{Every}
+use Rattle.semantics.specs.Tidy.{Every}
 use Rattle.semantics.proofs.Values.{left-true, right-true}
 use Rattle.words.proofs.Words.{eqZ-true}
 use Rattle.rows.specs.Rows.{word-leq, word-join, words-leq, words-join, same-words, same-place, row-leq, row-join, row-merge, join-of}

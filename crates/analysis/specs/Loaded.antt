@@ -9,7 +9,7 @@ use lib.ListN.{length}
 use Rattle.semantics.specs.declared.Verdict.{Verdict}
 use Rattle.semantics.specs.declared.Analysis.{Analysis}
 use Rattle.semantics.specs.Algorithm.{Domain, Out, on, alarmed, full, halt, Exploration, finish, verdict-of}
-use Rattle.semantics.specs.Coverage.{Allowed, Tidy}
+use Rattle.semantics.specs.Tidy.{Allowed, Tidy}
 use Rattle.rows.specs.Rows.{rows-of, row-domain}
 use Rattle.waitlist.specs.Waits.{waits, Stored}
 use Rattle.reached.specs.Reached.{Kept}

@@ -11,7 +11,7 @@ ghost use mathlib.Core.Path.{_≡_};
 ghost use Prim.Native.Nat.{ℕ, _+_, _-_, _*_, _<_, _≤_, min};
 ghost use lib.ListN.{length};
 ghost use Rattle.semantics.specs.Algorithm.{merged, rewait, arrive, visit, leave, first-verdict, iteration, run, start};
-ghost use Rattle.semantics.specs.Coverage.{Queue, Allowed};
+ghost use Rattle.semantics.specs.Tidy.{Queue, Allowed};
 ghost use Rattle.semantics.specs.Outcomes.{has-verdict};
 ghost use Rattle.rows.specs.Rows.{rows-of};
 ghost use Rattle.waitlist.specs.Waits.{waits, Stored};

@@ -6,7 +6,7 @@ use native.Mathlib.Nat.{mul-le-mul-right}
 use native.Mathlib.Omega.{arith}
 use lib.IntN.{ℤ, pos}
 use lib.ListN.{length, drop, replicate}
-use Rattle.semantics.specs.Coverage.{Queue}
+use Rattle.semantics.specs.Tidy.{Queue}
 use Rattle.semantics.proofs.Tidy.{more, join-queue}
 use Rattle.words.proofs.Rows.{row-in, length-put}
 use Rattle.waitlist.specs.Waits.{waits, Stored}

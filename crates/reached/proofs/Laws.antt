@@ -7,7 +7,7 @@ use lib.IntN.{ℤ}
 use lib.ListN.{take, drop}
 use lib.Seq.{drop-drop}
 use Rattle.semantics.specs.Lists.{some-of}
-use Rattle.semantics.specs.Coverage.{Queue}
+use Rattle.semantics.specs.Tidy.{Queue}
 use Rattle.semantics.proofs.Tidy.{wait-queue}
 use Rattle.rows.specs.Rows.{row-leq, rows-of}
 use Rattle.waitlist.specs.Waits.{wait-unless}

@@ -10,7 +10,7 @@ use lib.IntN.{ℤ, pos}
 use lib.ListN.{length, take, drop, replicate, length-drop}
 use lib.Seq.{take-at, drop-at, drop-drop, take-add, length-take-le}
 use Rattle.semantics.specs.Lists.{get}
-use Rattle.semantics.specs.Coverage.{Every, Queue}
+use Rattle.semantics.specs.Tidy.{Every, Queue}
 use Rattle.words.proofs.Rows.{put-here, drop-put}
 use Rattle.rows.specs.Rows.{row-merge, rows-merge, rows-of, same-words}
 use Rattle.rows.proofs.Turns.{length-row-merge}

@@ -5,7 +5,7 @@ use mathlib.Core.List.{List, [], _∷_}
 use Prim.Native.Nat.{ℕ, suc, _-_, _*_, _≤_, _<_}
 use lib.IntN.{ℤ, pos}
 use lib.ListN.{length, drop, replicate}
-use Rattle.semantics.specs.Coverage.{Queue}
+use Rattle.semantics.specs.Tidy.{Queue}
 use Rattle.rows.specs.Rows.{same-words, row-merge}
 use Rattle.waitlist.specs.Waits.{waits, Stored, wait-unless}
 

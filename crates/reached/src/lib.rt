@@ -6,7 +6,7 @@ ghost use mathlib.Core.List.{_++_};
 ghost use Prim.Native.Nat.{_+_, _*_, _<_, _≤_};
 ghost use lib.ListN.{length, take, drop};
 ghost use Rattle.semantics.specs.Lists.{some-of};
-ghost use Rattle.semantics.specs.Coverage.{Queue};
+ghost use Rattle.semantics.specs.Tidy.{Queue};
 ghost use Rattle.rows.specs.Rows.{row-leq, rows-merge, rows-of};
 ghost use Rattle.waitlist.specs.Waits.{waits, Stored};
 ghost use Rattle.reached.specs.Reached.{rewaits};

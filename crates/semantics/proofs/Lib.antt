@@ -1,6 +1,6 @@
 -- What holds of the definitions: over any domain (to Simulate), of the constants (to Executions), of words (Stored,
 -- Reloaded), of a chart's text and its words (to Exactness), of the calls (to Realisable), of the program (to
--- OutputShort). The claims are in Exactness, WholeWalks and MarkedCases.
+-- ProgramSafe). The claims are in Verdicts, Executions, Exactness, WholeWalks, ProgramSafe and MarkedCases.
 pub mod ListFacts
 pub mod Waitlist
 pub mod Covering
@@ -23,12 +23,13 @@ pub mod JudgedBack
 pub mod Rendered
 pub mod Exactness
 pub mod FirstCase
+pub mod Refusals
 pub mod WholeWalks
 pub mod Realisable
 pub mod Listed
 pub mod Program
 pub mod Input
-pub mod Refusals
 pub mod Calls
 pub mod OutputShort
+pub mod ProgramSafe
 pub mod MarkedCases

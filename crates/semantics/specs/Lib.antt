@@ -1,6 +1,7 @@
--- The definitions that people must believe, to be read in this order, close to document 01's: lists and text, the chart
--- file, the algorithm and its domain of constants, runs and what covers them, the encoded chart, memory, listing,
--- calls, whole walks, the program, the marked cases. Rendering is last: the proof of Exact needs it, no claim does.
+-- To be believed, in this order, each close to document 01: lists and text, the chart file, the algorithm and its domain
+-- of constants, runs and what covers them, the encoded chart, memory, listing, calls, whole walks, the program. Then
+-- claims of these definitions that the others do not rest on: ProgramSafe, Exact, Verdicts, Runs, MarkedCases. Last what
+-- only proofs use, and contracts of inner functions: Laws, Tidy, Rendering. Nothing in these three has to be believed.
 pub mod Lists
 pub mod Text
 pub mod Chart
@@ -9,11 +10,16 @@ pub mod Algorithm
 pub mod Constants
 pub mod Coverage
 pub mod Encoding
-pub mod Exact
 pub mod Memory
 pub mod Listing
 pub mod Outcomes
 pub mod WholeWalks
 pub mod Program
+pub mod ProgramSafe
+pub mod Exact
+pub mod Verdicts
+pub mod Runs
 pub mod MarkedCases
+pub mod Laws
+pub mod Tidy
 pub mod Rendering

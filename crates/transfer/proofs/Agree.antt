@@ -14,7 +14,7 @@ use Rattle.semantics.specs.Lists.{At, pick, all, all-pairs}
 use Rattle.semantics.specs.Chart.{Value, known, top, Edge, Numbered, number-from, numbered, Chart, eqZ, error-location}
 use Rattle.semantics.specs.Algorithm.{Step, halt, fault, to}
 use Rattle.semantics.specs.Constants.{AbstractState, equal-value, leq-value, value-or-top, join-value, join-values, same-location, equal, leq, join, join-all, leq-join-all, effect, arrive-at, post-if, post, constants, initial}
-use Rattle.semantics.specs.Coverage.{Every}
+use Rattle.semantics.specs.Tidy.{Every}
 use Rattle.semantics.specs.Encoding.{word, encode, count, decode, op-ok, edge-ok, chart-ok, well-formed}
 use Rattle.semantics.specs.Memory.{row}
 use Rattle.semantics.proofs.Values.{and-left, and-right}

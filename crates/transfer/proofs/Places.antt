@@ -13,7 +13,7 @@ use lib.Seq.{getD-append-add}
 use Rattle.semantics.specs.Lists.{At, each}
 use Rattle.semantics.specs.Text.{name-ok}
 use Rattle.semantics.specs.Chart.{Var, Loc, Edge, Chart, eqZ, within, in-range, error-location, inits}
-use Rattle.semantics.specs.Coverage.{Every}
+use Rattle.semantics.specs.Tidy.{Every}
 use Rattle.semantics.specs.Encoding.{word, kind-word, var-words, loc-words, edge-words, encode, count, var-ok, chart-ok}
 use Rattle.semantics.proofs.StatesOk.{Bounds, bounds}
 use Rattle.semantics.proofs.Encoded.{kind-back, each-length, every-of, loc-wide, edge-wide, every-any}

@@ -12,7 +12,7 @@ use lib.Seq.{take-at, drop-at, set-at, append-snoc}
 use Rattle.semantics.specs.Chart.{eqZ}
 use Rattle.semantics.specs.Lists.{In, some-of}
 use Rattle.semantics.specs.Algorithm.{without}
-use Rattle.semantics.specs.Coverage.{Queue}
+use Rattle.semantics.specs.Tidy.{Queue}
 use Rattle.semantics.proofs.Tidy.{without-in, without-not, without-distinct, some-not, queue-few}
 use Rattle.semantics.proofs.Stored.{map-back}
 use Rattle.waitlist.specs.Waits.{waits, Stored}

@@ -14,7 +14,7 @@ ghost use Rattle.semantics.specs.Chart.{eqZ};
 ghost use Rattle.semantics.specs.Lists.{some-of};
 ghost use Rattle.semantics.specs.declared.Order.the-variants.{Old, New};
 ghost use Rattle.semantics.specs.Algorithm.{without, put-back, wait};
-ghost use Rattle.semantics.specs.Coverage.{Queue};
+ghost use Rattle.semantics.specs.Tidy.{Queue};
 ghost use Rattle.waitlist.specs.Waits.{waits, Stored, pushed, shifted, wait-unless, others, next-place, kept-at, TakenFrom};
 
 // The word that says a slot.

@@ -8,7 +8,7 @@ use lib.ListN.{length}
 use Rattle.semantics.specs.declared.Analysis.{Analysis}
 use Rattle.semantics.specs.declared.Answer.{Answer}
 use Rattle.semantics.specs.declared.Settings.{Settings}
-use Rattle.semantics.specs.Coverage.{Allowed}
+use Rattle.semantics.specs.Tidy.{Allowed}
 use Rattle.semantics.specs.Encoding.{count}
 use Rattle.semantics.specs.Outcomes.{Outcome}
 use Rattle.walker.specs.declared.Called.{Called}

@@ -7,7 +7,7 @@ use native.Mathlib.Numerals.{add-one}
 use native.Mathlib.Omega.{arith}
 use lib.ListN.{length, take, drop, take-append-drop}
 use borrow.Author.Needs.{needs}
-use Rattle.semantics.specs.Coverage.{Queue}
+use Rattle.semantics.specs.Tidy.{Queue}
 use Rattle.semantics.proofs.Tidy.{more}
 use Rattle.words.proofs.Rows.{span, part-length, row-in, length-put, drop-put}
 use Rattle.rows.specs.Rows.{row-merge, same-words, rows-merge, rows-of}

@@ -1,0 +1,25 @@
+-- What the word `safe` in the program's output promises of the chart in its input: bytes in, bytes out. Document 01, "The
+-- walk program and its listing" (the header) and "Runs". Assumes nothing.
+use mathlib.Core.Path.{_≡_}
+use mathlib.Core.List.{List}
+use Prim.Native.Nat.{ℕ}
+use Rattle.semantics.specs.Lists.{At}
+use Rattle.semantics.specs.Text.{bytes, fields}
+use Rattle.semantics.specs.Chart.{Chart, State, Error}
+use Rattle.semantics.specs.Reading.{nth, accepted, read}
+use Rattle.semantics.specs.Coverage.{system, Execution}
+use Rattle.semantics.specs.Program.{first-line, past-line, output}
+
+-- "Header: merge, stop, order, verdict ...", after the word `walk`: the fifth field of the first line; a refusal has three
+abbrev pub verdict-field : List ℕ → List ℕ
+verdict-field out = nth (fields (first-line out)) 4
+
+-- the text is a chart, and no state of any of its executions stands at an error location
+pub record ChartSafe (text : List ℕ) : Type 0 where
+  pub chart : Chart
+  pub reads : read text ≡ accepted chart
+  pub safe : (ss : List State) → Execution (system chart) ss → (j : ℕ) (s : State) → At ss j s → Error chart s → ⊥
+
+-- for every input; its chart is what stands after the go line
+abbrev pub ProgramSafe : Type 0
+ProgramSafe = (input : List ℕ) → verdict-field (output input) ≡ bytes "safe" → ChartSafe (past-line input)
