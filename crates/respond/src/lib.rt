@@ -137,6 +137,6 @@ pub fn respond_to(
     ensures { λ r. ⌜ ((input : List ℕ) → Buffered input (now (buffer .entry)) count → Printed (output input) (now (out .entry)) (now (out .exit)) r) ⌝ }
 {
     let bytes: &[u8] = buffer;
-    let n = least(count, INPUT);
+    let n = least(count, bytes.len());
     respond(&bytes[..n], out)
 }

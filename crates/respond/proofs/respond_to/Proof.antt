@@ -13,8 +13,7 @@ use Rattle.respond.proofs.respond_to.Tie as tie
 slice-aggregate-respond : tie.Need-slice-aggregate-respond
 slice-aggregate-respond c =
     let buffer = now (c .before .before .before .args .buffer) in
-    let h : length buffer ≡ 32833 = search needs in
-    sym (length-take-le (c .before .least .result) buffer (omega (arith, h, c .before .least .ensures)))
+    sym (length-take-le (c .before .least .result) buffer (omega (arith, c .before .least .ensures)))
 
 returns : tie.Need-returns
 returns c input b =
