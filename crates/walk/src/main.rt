@@ -28,6 +28,7 @@ fn is_interrupted(answer: isize, errno: i32) -> bool
     (answer < 0) & (errno == libc::EINTR)
 }
 
+// One read, made again where a signal interrupted it.
 fn read_some(buf: &mut [u8]) -> isize
     ensures { λ r. ⌜ Moved (length (now (buf .entry))) r ⌝ }
 {
@@ -48,7 +49,7 @@ fn read_all(buf: &mut [u8]) -> Transfer
     let mut last = 0;
     while count < buf.len() {
         last = read_some(&mut buf[count..]);
-        if last <= 0 {
+        if last <= 0 { // the end, or a failure
             break;
         }
         count += last as usize;
@@ -56,6 +57,7 @@ fn read_all(buf: &mut [u8]) -> Transfer
     Transfer { count, last }
 }
 
+// One write, likewise.
 fn write_some(buf: &[u8]) -> isize
     ensures { λ r. ⌜ Moved (length (now (buf .entry))) r ⌝ }
 {
@@ -76,7 +78,7 @@ fn write_all(buf: &[u8]) -> Transfer
     let mut last = 0;
     while count < buf.len() {
         last = write_some(&buf[count..]);
-        if last <= 0 {
+        if last <= 0 { // nothing taken, or a failure
             break;
         }
         count += last as usize;

@@ -80,3 +80,17 @@ fn has_read(stdin: &ChildStdin, running: &mut Child) -> bool {
     }
     true
 }
+
+/// An input with a listing of more than 20,000 bytes: 256 slots of 8 variables, every field as long
+/// as it may be.
+pub fn longest() -> Vec<u8> {
+    let mut input = b"go\tsep\tsep\told\t256\t60000\n".to_vec();
+    for index in 0..8 {
+        input.extend(format!("V\tv{index}\t-32768\t-10000\t-10000\n").bytes());
+    }
+    input.extend(b"L\tsixteen-letters1\to\n");
+    for index in 0..8 {
+        input.extend(format!("E\t0\t0\tsub\t${index}\t${index}\t1\n").bytes());
+    }
+    input
+}

@@ -10,7 +10,7 @@ use std::sync::OnceLock;
 use std::thread;
 use std::time::Duration;
 
-use program::{command, ended, said, system};
+use program::{command, ended, longest, said, system};
 use reference::program::respond;
 
 /// Safe as it stands; with `LAST_LINE` an alarm.
@@ -21,20 +21,6 @@ const INTERRUPTIONS: u32 = 1_000_000;
 
 fn whole() -> Vec<u8> {
     [FIRST_LINES, LAST_LINE].concat()
-}
-
-/// An input with a listing of more than 20,000 bytes.
-fn long() -> Vec<u8> {
-    let mut input = b"go\tsep\tsep\told\t256\t60000\n".to_vec();
-    for index in 0..8 {
-        input.extend(format!("V\tv{index}\t-32768\t-10000\t-10000\n").bytes());
-    }
-    input.extend(b"L\tsixteen-letters1\to\n");
-    for index in 0..8 {
-        input.extend(format!("E\t0\t0\tsub\t${index}\t${index}\t1\n").bytes());
-    }
-    assert!(respond(&input).len() > 20_000);
-    input
 }
 
 /// It printed this, and said this of the failure.
@@ -130,11 +116,11 @@ fn an_output_cut_short_is_told() {
     let (mut reader, writer) = io::pipe().expect("a pipe");
     let size = system::set_size(&writer, 4_096);
     system::never_wait(&writer);
-    let ended = ended(command().stdout(writer), &[&long()]);
+    let ended = ended(command().stdout(writer), &[&longest()]);
     assert_said(&ended, b"", "walk: standard output: Resource temporarily unavailable\n");
     let mut printed = Vec::new();
     io::Read::read_to_end(&mut reader, &mut printed).expect("the pipe can be read");
-    assert!(size < 20_000 && printed == respond(&long())[..size]);
+    assert!(size < 20_000 && printed == respond(&longest())[..size]);
 }
 
 /// As many interruptions as are borne before each read and write, which then move a few bytes.
@@ -142,7 +128,7 @@ fn an_output_cut_short_is_told() {
 fn interrupted_calls_are_made_again() {
     let set =
         [("READ_INTERRUPTED", 3), ("READ_MOST", 1), ("WRITE_INTERRUPTED", 3), ("WRITE_MOST", 1)];
-    assert_said(&ended(&mut with_calls(&set), &[&long()]), &respond(&long()), "");
+    assert_said(&ended(&mut with_calls(&set), &[&longest()]), &respond(&longest()), "");
     let set = [("READ_INTERRUPTED", INTERRUPTIONS), ("WRITE_INTERRUPTED", INTERRUPTIONS)];
     assert_said(&ended(&mut with_calls(&set), &[&whole()]), &respond(&whole()), "");
 }
