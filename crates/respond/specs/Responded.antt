@@ -1,10 +1,10 @@
 -- What the parts of the program ask, and what they leave. Assumes nothing.
 use mathlib.Core.Path.{_≡_}
-use mathlib.Core.List.{List, _++_}
-use Prim.Native.Nat.{ℕ}
+use mathlib.Core.List.{List, [], _++_}
+use Prim.Native.Nat.{ℕ, _<_}
 use lib.Dec.{T}
 use lib.IntN.{ℤ}
-use lib.ListN.{length, drop}
+use lib.ListN.{length, take, drop}
 use Rattle.semantics.specs.Chart.{Chart}
 use Rattle.semantics.specs.Reading.{ok}
 use Rattle.semantics.specs.Algorithm.{Exploration}
@@ -49,3 +49,10 @@ pub record Holds (c : Chart) (w : Exploration AbstractState) (m : Memory) : Type
 pub record Printed (text out out′ : List ℕ) (r : ℕ) : Type 0 where
   pub long : r ≡ length text
   pub bytes : out′ ≡ text ++ drop (length text) out
+
+-- the input begins with the first count bytes of the buffer, and ends there where the buffer is not full: of this input
+-- a buffer can have been read so. A count above the buffer's size says that it is full
+pub record Buffered (input buffer : List ℕ) (count : ℕ) : Type 0 where
+  pub rest : List ℕ
+  pub is : input ≡ take count buffer ++ rest
+  pub ends : count < length buffer → rest ≡ []

@@ -6,7 +6,8 @@ use semantics::EdgeId;
 use semantics::Settings;
 use semantics::Verdict;
 ghost use mathlib.Core.Path.{_≡_};
-ghost use mathlib.Core.List.{_++_};
+ghost use mathlib.Core.List.{List, _++_};
+ghost use Prim.Native.Nat.{ℕ, min};
 ghost use lib.Dec.{T};
 ghost use lib.ListN.{length, drop};
 ghost use Rattle.semantics.specs.Encoding.{decode, well-formed};
@@ -16,7 +17,7 @@ ghost use Rattle.semantics.specs.Outcomes.{started};
 ghost use Rattle.semantics.specs.Program.{explored, print-read, output};
 ghost use Rattle.form.specs.Form.{lent};
 ghost use Rattle.writing.specs.Writing.{Put};
-ghost use Rattle.respond.specs.Responded.{no-analysis, asking, Accepted, Lends, Holds, Printed};
+ghost use Rattle.respond.specs.Responded.{no-analysis, asking, Accepted, Lends, Holds, Printed, Buffered};
 
 // The words lent suffice for every chart and every capacity: 3,163, 2,304 and 256.
 const CHART_WORDS: usize = semantics::COUNTS_WORDS + semantics::ROWS_WORDS;
@@ -24,6 +25,10 @@ const CHART_WORDS: usize = semantics::COUNTS_WORDS + semantics::ROWS_WORDS;
 const TABLE_WORDS: usize = semantics::MOST_SLOTS * semantics::MOST_WIDTH;
 
 const LIST_WORDS: usize = semantics::MOST_SLOTS;
+
+// The most that the program reads of its input: 64 bytes for the go line, 32,768 for the chart, and one more that tells
+// a chart too long. What stands past them changes nothing, which `respond_to` says.
+pub const INPUT: usize = 32833;
 
 // The line of a refusal.
 fn put_refusal(out: &mut [u8], number: u32, line: usize) -> usize
@@ -114,4 +119,24 @@ pub fn respond(input: &[u8], out: &mut [u8; semantics::LISTING_BYTES]) -> usize
             put_chart(&input[at..], go, out)
         }
     }
+}
+
+fn least(a: usize, b: usize) -> usize
+    ensures { λ r. ⌜ r ≡ min a b ⌝ }
+{
+    if a < b { a } else { b }
+}
+
+// What the program prints, by the buffer that it read into and the count of bytes read: a count below the size says that
+// the input is at its end. The output is that of every input of which this can have been read.
+pub fn respond_to(
+    buffer: &[u8; INPUT],
+    count: usize,
+    out: &mut [u8; semantics::LISTING_BYTES],
+) -> usize
+    ensures { λ r. ⌜ ((input : List ℕ) → Buffered input (now (buffer .entry)) count → Printed (output input) (now (out .entry)) (now (out .exit)) r) ⌝ }
+{
+    let bytes: &[u8] = buffer;
+    let n = least(count, bytes.len());
+    respond(&bytes[..n], out)
 }

@@ -1,14 +1,18 @@
 //! The built walk program, started on an input.
 
+pub mod system;
+
 use std::env;
 use std::io::{ErrorKind, Write};
 use std::path::{Path, PathBuf};
-use std::process::{Command, Stdio};
+use std::process::{Child, ChildStdin, Command, Output, Stdio};
 use std::thread;
-use std::time::Duration;
+use std::time::{Duration, Instant};
 
-/// Between two pieces, so that the program is likely to read the first before the second is there.
-const PAUSE: Duration = Duration::from_millis(1);
+/// Between two looks at a pipe.
+const PAUSE: Duration = Duration::from_micros(50);
+/// No machine is so busy that the program reads nothing for so long.
+const PATIENCE: Duration = Duration::from_secs(60);
 
 /// `TARKNOTTER_WALK`, or `target/bin/walk` of the repository; a test without a program must fail.
 pub fn path() -> PathBuf {
@@ -18,24 +22,33 @@ pub fn path() -> PathBuf {
     path
 }
 
+/// The program with its three streams piped.
+pub fn command() -> Command {
+    let mut command = Command::new(path());
+    command.stdin(Stdio::piped()).stdout(Stdio::piped()).stderr(Stdio::piped());
+    command
+}
+
 /// What the program prints on an input that arrives whole.
 pub fn output(input: &[u8]) -> Vec<u8> {
     output_of_pieces(&[input])
 }
 
-/// What the program prints on an input that arrives piece by piece. It must end well and say
-/// nothing on standard error.
+/// What the program prints on an input that arrives piece by piece, each read before the next is
+/// sent. It must end well and say nothing on standard error.
 pub fn output_of_pieces(pieces: &[&[u8]]) -> Vec<u8> {
-    let mut running = Command::new(path())
-        .stdin(Stdio::piped())
-        .stdout(Stdio::piped())
-        .stderr(Stdio::piped())
-        .spawn()
-        .expect("the program can be started");
+    let ended = ended(&mut command(), pieces);
+    assert!(ended.stderr.is_empty(), "it said {}", ended.stderr.escape_ascii());
+    ended.stdout
+}
+
+/// What the program says, started so, on an input in pieces; its standard input must be piped.
+pub fn ended(command: &mut Command, pieces: &[&[u8]]) -> Output {
+    let mut running = command.spawn().expect("the program can be started");
     let mut stdin = running.stdin.take().expect("its input is piped");
     for (index, piece) in pieces.iter().enumerate() {
-        if index > 0 {
-            thread::sleep(PAUSE);
+        if index > 0 && !has_read(&stdin, &mut running) {
+            break;
         }
         match stdin.write_all(piece) {
             Ok(()) => {}
@@ -45,8 +58,39 @@ pub fn output_of_pieces(pieces: &[&[u8]]) -> Vec<u8> {
         }
     }
     drop(stdin);
+    said(running)
+}
+
+/// What the program says; it must end well.
+pub fn said(running: Child) -> Output {
     let ended = running.wait_with_output().expect("the program ends");
     assert!(ended.status.success(), "the program ended with {}", ended.status);
-    assert!(ended.stderr.is_empty(), "it said {}", ended.stderr.escape_ascii());
-    ended.stdout
+    ended
+}
+
+/// Waits until the program has read all that was written to it; false where it ended before.
+fn has_read(stdin: &ChildStdin, running: &mut Child) -> bool {
+    let began = Instant::now();
+    while system::unread(stdin) > 0 {
+        if running.try_wait().expect("the program can be looked at").is_some() {
+            return false;
+        }
+        assert!(began.elapsed() < PATIENCE, "the program does not read on");
+        thread::sleep(PAUSE);
+    }
+    true
+}
+
+/// An input with a listing of more than 20,000 bytes: 256 slots of 8 variables, every field as long
+/// as it may be.
+pub fn longest() -> Vec<u8> {
+    let mut input = b"go\tsep\tsep\told\t256\t60000\n".to_vec();
+    for index in 0..8 {
+        input.extend(format!("V\tv{index}\t-32768\t-10000\t-10000\n").bytes());
+    }
+    input.extend(b"L\tsixteen-letters1\to\n");
+    for index in 0..8 {
+        input.extend(format!("E\t0\t0\tsub\t${index}\t${index}\t1\n").bytes());
+    }
+    input
 }

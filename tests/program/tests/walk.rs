@@ -5,7 +5,7 @@ use std::fs;
 use std::path::Path;
 use std::thread;
 
-use program::{output, output_of_pieces};
+use program::{longest, output, output_of_pieces};
 use reference::coverage::{corner_labels, corner_labels_of, program_label, program_labels, Met};
 use reference::program::{printed, respond, walk};
 use reference::random::{count_at_least, inputs, seed, Random};
@@ -125,17 +125,8 @@ fn inputs_of_every_size_print_alike() {
     }
 }
 
-/// 256 slots of 8 variables, every field as long as it may be.
 #[test]
 fn the_longest_listing_prints_alike() {
-    let mut input = b"go\tsep\tsep\told\t256\t60000\n".to_vec();
-    for index in 0..8 {
-        input.extend(format!("V\tv{index}\t-32768\t-10000\t-10000\n").bytes());
-    }
-    input.extend(b"L\tsixteen-letters1\to\n");
-    for index in 0..8 {
-        input.extend(format!("E\t0\t0\tsub\t${index}\t${index}\t1\n").bytes());
-    }
-    assert_alike("longest-listing", &input);
-    assert!(respond(&input).len() > 20_000);
+    assert_alike("longest-listing", &longest());
+    assert!(respond(&longest()).len() > 20_000);
 }

@@ -1,18 +1,18 @@
--- `walk::main` is safe and ends: what it writes lies within the bytes that `respond` was lent. Assumes nothing.
-use mathlib.Core.Path.{sym, ap}
+-- `walk::main` is safe and ends: what it writes lies within the bytes that `respond_to` was lent. Assumes nothing.
+use mathlib.Core.Path.{sym}
 use Prim.Native.Nat.{_≤_}
-use native.Mathlib.Omega.{arith}
 use borrow.Author.Needs.{needs}
-use lib.ListN.{length, length-append}
+use lib.ListN.{length}
 use lib.Seq.{length-take-le}
+use Rattle.respond.proofs.Enough.{printed-within}
 use Rattle.walk.proofs.main.Statement.{statement}
 use Rattle.walk.proofs.main.Tie as tie
 
-within : (c : tie.After-respond) → c .respond .result ≤ length (c .respond .last .1 .0)
-within c = omega (arith, c .respond .ensures .0, simp length-append at (ap length (c .respond .ensures .1)))
+within : (c : tie.After-respond-to) → c .respond-to .result ≤ length (c .respond-to .last .1 .1 .0)
+within c = printed-within (c .respond-to .ensures)
 
 slice-aggregate-write-all : tie.Need-slice-aggregate-write-all
-slice-aggregate-write-all c = sym (length-take-le (c .before .respond .result) (c .before .respond .last .1 .0) (within (c .before)))
+slice-aggregate-write-all c = sym (length-take-le (c .before .respond-to .result) (c .before .respond-to .last .1 .1 .0) (within (c .before)))
 
 pub main-spec : {M : Type 1} → statement M
 main-spec =
@@ -21,9 +21,16 @@ main-spec =
     (λ c. search needs)
     (λ c κs. search needs)
     (λ c. search needs)
+    (λ c κs. search needs)
     (λ c. search needs)
     (λ c κs. search needs)
     within
     slice-aggregate-write-all
     (λ c κs. search needs)
+    (λ c. search needs)
+    (λ c κs. search needs)
+    (λ c. search needs)
+    (λ c κs. search needs)
+    (λ c. search needs)
+    (λ c. search needs)
     (λ c. search needs))

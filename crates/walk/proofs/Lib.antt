@@ -1,0 +1,2 @@
+-- What the answers of read and write say to a loop.
+pub mod Answers

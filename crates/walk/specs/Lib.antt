@@ -1,0 +1,2 @@
+-- What reading and writing come to.
+pub mod Transfer
