@@ -234,10 +234,10 @@ fn keep(root: &Path, name: &str, label: &str, log: &Log) -> io::Result<()> {
     fs::write(folder.join(format!("{label}.log")), &log.text)
 }
 
-/// As many as `rt` runs at once: RT_JOBS, or the processors, at most 4.
+/// RT_JOBS, or the processors: at most 8, since each worker has a copy of target/rlib.
 fn worker_count() -> usize {
     let asked = std::env::var("RT_JOBS").ok().and_then(|jobs| jobs.parse().ok());
-    let processors = || std::thread::available_parallelism().map_or(1, usize::from).min(4);
+    let processors = || std::thread::available_parallelism().map_or(1, usize::from).min(8);
     asked.unwrap_or_else(processors).max(1)
 }
 
