@@ -59,26 +59,19 @@ impl Edit {
 
     /// Makes the replacements one after the other, and says what was changed.
     pub fn apply(&self, sources: &mut Sources) -> Result<Target, String> {
-        let mut bodies = Some(BTreeSet::new());
+        let mut bodies = Vec::new();
         for Replacement { file, old, new } in &self.replacements {
             let text = sources.get_mut(file).ok_or(format!("the crate has no file {file}"))?;
             let places: Vec<usize> = text.match_indices(old.as_str()).map(|(at, _)| at).collect();
             let [at] = places[..] else {
                 return Err(format!("stands {} times in {file}, not once: {old}", places.len()));
             };
-            match body_at(file, text, at) {
-                Some(name) => bodies = bodies.map(|names| with(names, name)),
-                None => bodies = None,
-            }
+            bodies.push(body_at(file, text, at));
             text.replace_range(at..at + old.len(), new);
         }
+        let bodies: Option<BTreeSet<String>> = bodies.into_iter().collect();
         Ok(bodies.map_or(Target::Whole, Target::Bodies))
     }
-}
-
-fn with(mut names: BTreeSet<String>, name: String) -> BTreeSet<String> {
-    names.insert(name);
-    names
 }
 
 /// The function whose body the place lies in. In the layout of `rt fmt` a head begins at the margin, a body begins where a

@@ -63,24 +63,15 @@ impl Log {
         if let Some(error) = own.first() {
             return Ok(error.shown());
         }
-        let unproved = format!("fn {crate_name}::{name}: no proof: ");
-        match self.line(&unproved).and_then(|line| line.split_once("; `search` does not close ")) {
-            Some((_, need)) => Ok(format!("{name}: no proof is found of {need}")),
-            None => Err(format!("{name} has no error of its own")),
-        }
+        let mut unfound = self.unfound(crate_name).filter(|(function, _)| *function == name);
+        unfound.next().map(not_found).ok_or(format!("{name} has no error of its own"))
     }
 
     /// The first error of any function or lemma.
     fn of_any(&self, crate_name: &str) -> Result<String, String> {
         let Some(first) = self.errors(crate_name).next() else {
-            let unproved = format!("fn {crate_name}::");
-            let search = "; `search` does not close ";
-            let mut functions = self.text.lines().filter_map(|line| line.strip_prefix(&unproved));
-            let found = functions.find_map(|line| {
-                let (name, rest) = line.split_once(": no proof: ")?;
-                Some(format!("{name}: no proof is found of {}", rest.split_once(search)?.1))
-            });
-            return found.ok_or("no function or lemma has an error of its own".into());
+            let unfound = self.unfound(crate_name).next();
+            return unfound.map(not_found).ok_or("nothing has an error of its own".into());
         };
         let same = |error: &Error| error.file == first.file && error.name() == first.name();
         if let Some(error) = self.errors(crate_name).filter(same).find(Error::is_of_shape) {
@@ -103,6 +94,15 @@ impl Log {
         })
     }
 
+    /// The functions without a written proof for which the checker finds none, each with the needs that stay open.
+    fn unfound<'a>(&'a self, crate_name: &str) -> impl Iterator<Item = (&'a str, &'a str)> {
+        let start = format!("fn {crate_name}::");
+        self.text.lines().filter_map(move |line| {
+            let (name, rest) = line.strip_prefix(&start)?.split_once(": no proof: ")?;
+            Some((name, rest.split_once("; `search` does not close ")?.1))
+        })
+    }
+
     fn line(&self, start: &str) -> Option<&str> {
         self.text.lines().find(|line| line.starts_with(start))
     }
@@ -122,6 +122,10 @@ impl Error<'_> {
         let says: String = self.says.chars().take(160).collect();
         format!("{}: {says}", self.place)
     }
+}
+
+fn not_found((name, needs): (&str, &str)) -> String {
+    format!("{name}: no proof is found of {needs}")
 }
 
 /// The function that a proof file is of: `proofs/module/function/Proof.antt`, `+function` where it calls itself.
