@@ -75,15 +75,25 @@ fn edits(root: &Path, name: &str, folder: &str) -> Result<BTreeMap<String, Edit>
     Ok(found)
 }
 
+const FOLDERS: [&str; 2] = ["must-fail", "wrong-builds"];
+
 fn list(root: &Path) -> Result<(), String> {
-    println!("| edit | in | the wrong answer that it stands for |\n|---|---|---|");
+    let mut all = 0;
     for name in crates(root)? {
-        for folder in ["must-fail", "wrong-builds"] {
+        let mut rows = Vec::new();
+        for folder in FOLDERS {
             for (label, edit) in edits(root, &name, folder)? {
-                println!("| {name}/{label} | {folder} | {} |", edit.comment);
+                rows.push(format!("| {label} | {folder} | {} |", edit.comment));
             }
         }
+        if !rows.is_empty() {
+            println!("### {name}: {}\n", rows.len());
+            println!("| edit | in | the wrong answer that it stands for |\n|---|---|---|");
+            println!("{}\n", rows.join("\n"));
+        }
+        all += rows.len();
     }
+    println!("{all} edits");
     Ok(())
 }
 
