@@ -4,7 +4,7 @@
 //!     wrong-builds CRATE[/EDIT]..    these alone (a named edit may stand in must-fail/ too)
 //!     wrong-builds list              each edit of must-fail/ and wrong-builds/ with what it stands for
 //!
-//! It is run in a repository whose target/ was left by `rt ci` or `rt check`, and works on copies of it in memory. Each crate
+//! It is run in a repository whose target/ was left by `rt ci` or `rt check`, and works on copies of it, in memory where it has room. Each crate
 //! is first checked as it stands, and must be proved: else a refusal would show nothing. Edits of the bodies of different
 //! functions are then tried together; an edit of anything else, or one whose error others hide, is tried alone. An edit is
 //! refused where each function that it changes has an error of its own: not one that follows from another's, and none for
@@ -161,9 +161,10 @@ type Shown = Vec<Result<String, String>>;
 fn try_all(root: &Path, names: &[String]) -> Result<(), String> {
     let began = Instant::now();
     let plans = plans(root, names)?;
-    let room = Room::new().map_err(said)?;
+    let count = worker_count();
+    let room = Room::new(count).map_err(said)?;
     let modules_name = room.modules_name().map_err(said)?;
-    let workers: Vec<Scratch> = (0..worker_count())
+    let workers: Vec<Scratch> = (0..count)
         .map(|number| Scratch::new(&room, number, root, &modules_name))
         .collect::<io::Result<_>>()
         .map_err(said)?;
@@ -245,9 +246,9 @@ fn keep(root: &Path, name: &str, label: &str, log: &Log) -> io::Result<()> {
 }
 
 /// RT_JOBS, or the processors: at most 8, since each worker has a copy of target/rlib.
-fn worker_count() -> usize {
+fn worker_count() -> u64 {
     let asked = std::env::var("RT_JOBS").ok().and_then(|jobs| jobs.parse().ok());
-    let processors = || std::thread::available_parallelism().map_or(1, usize::from).min(8);
+    let processors = || std::thread::available_parallelism().map_or(1, |n| n.get() as u64).min(8);
     asked.unwrap_or_else(processors).max(1)
 }
 

@@ -8,16 +8,19 @@ use std::process::{Command, Stdio};
 use crate::edit::Sources;
 use crate::log::Log;
 
-/// The folder of all copies, in memory where there is such a place; removed at the end.
+/// The folder of all copies, removed at the end.
 pub struct Room {
     path: PathBuf,
 }
 
 impl Room {
-    pub fn new() -> io::Result<Room> {
-        let memory = Path::new("/dev/shm");
-        let parent = if memory.is_dir() { memory.to_path_buf() } else { std::env::temp_dir() };
+    /// In memory where there is a GiB for each worker and one more; two workers were seen to take 1.6.
+    pub fn new(workers: u64) -> io::Result<Room> {
+        let memory = PathBuf::from("/dev/shm");
+        let parent =
+            if free(&memory) >= (workers + 1) << 20 { memory } else { std::env::temp_dir() };
         let path = parent.join(format!("wrong-builds.{}", std::process::id()));
+        remove(&path)?;
         fs::create_dir(&path)?;
         Ok(Room { path })
     }
@@ -57,7 +60,7 @@ pub struct Scratch {
 impl Scratch {
     pub fn new(
         room: &Room,
-        number: usize,
+        number: u64,
         repository: &Path,
         modules_name: &str,
     ) -> io::Result<Scratch> {
@@ -146,6 +149,15 @@ fn dev(home: &Path, name: &str) -> io::Result<Log> {
     let done = rt.stdin(Stdio::null()).output()?;
     let text = String::from_utf8_lossy(&done.stderr) + String::from_utf8_lossy(&done.stdout);
     Ok(Log { status: done.status.code(), text: text.into_owned() })
+}
+
+/// The free KiB of a folder's file system, by `df`; 0 where it cannot be told.
+fn free(folder: &Path) -> u64 {
+    let said = Command::new("df").arg("-Pk").arg(folder).output();
+    let table =
+        said.map(|said| String::from_utf8_lossy(&said.stdout).into_owned()).unwrap_or_default();
+    let row = table.lines().nth(1).unwrap_or_default();
+    row.split_whitespace().nth(3).and_then(|free| free.parse().ok()).unwrap_or(0)
 }
 
 fn remove(path: &Path) -> io::Result<()> {
