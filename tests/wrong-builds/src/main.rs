@@ -4,11 +4,11 @@
 //!     wrong-builds CRATE[/EDIT]..    these alone (a named edit may stand in must-fail/ too)
 //!     wrong-builds list              each edit of must-fail/ and wrong-builds/ with what it stands for
 //!
-//! It is run in a repository whose target/ was left by `rt ci` or `rt check`, and works on copies of it, in memory where it has room. Each crate
-//! is first checked as it stands, and must be proved: else a refusal would show nothing. Edits of the bodies of different
-//! functions are then tried together; an edit of anything else, or one whose error others hide, is tried alone. An edit is
-//! refused where each function that it changes has an error of its own: not one that follows from another's, and none for
-//! the shape of the code. The whole logs are left in target/wrong-builds/.
+//! It is run in a repository whose target/ was left by `rt ci` or `rt check`, and works on copies of it, in memory where it
+//! has room. Each crate is first checked as it stands, and must be proved: else a refusal would show nothing. Edits of the
+//! bodies of different functions are then tried together; an edit of anything else, or one whose error others hide, is tried
+//! alone. An edit is refused where each function that it changes has an error of its own: not one that follows from
+//! another's, and none for the shape of the code. The whole logs are left in target/wrong-builds/.
 
 mod edit;
 mod log;
