@@ -1,0 +1,280 @@
+//! `wrong-builds` tries the wrong builds of `crates/*/wrong-builds/*.edit` over the modules that were just proved.
+//!
+//!     wrong-builds                   every edit; fails unless each is refused
+//!     wrong-builds CRATE[/EDIT]..    these alone (a named edit may stand in must-fail/ too)
+//!     wrong-builds list              each edit of must-fail/ and wrong-builds/ with what it stands for
+//!
+//! It is run in a repository whose target/ was left by `rt ci` or `rt check`, and works on copies of it, in memory where it
+//! has room. Each crate is first checked as it stands, and must be proved: else a refusal would show nothing. Edits of the
+//! bodies of different functions are then tried together; an edit of anything else, or one whose error others hide, is tried
+//! alone. An edit is refused where each function that it changes has an error of its own: not one that follows from
+//! another's, and none for the shape of the code. The whole logs are left in target/wrong-builds/.
+
+mod edit;
+mod log;
+mod scratch;
+
+use std::collections::BTreeMap;
+use std::fs;
+use std::io;
+use std::path::{Path, PathBuf};
+use std::process::ExitCode;
+use std::sync::Mutex;
+use std::time::Instant;
+
+use edit::{Edit, Sources, Target};
+use log::Log;
+use scratch::{Room, Scratch};
+
+fn main() -> ExitCode {
+    let arguments: Vec<String> = std::env::args().skip(1).collect();
+    let done = repository().and_then(|root| match &arguments[..] {
+        [word] if word == "list" => list(&root),
+        names => try_all(&root, names),
+    });
+    match done {
+        Ok(()) => ExitCode::SUCCESS,
+        Err(why) => {
+            eprintln!("wrong-builds: {why}");
+            ExitCode::FAILURE
+        }
+    }
+}
+
+/// The folder of crates.txt, here or above.
+fn repository() -> Result<PathBuf, String> {
+    let here = std::env::current_dir().map_err(said)?;
+    let root = here.ancestors().find(|folder| folder.join("crates.txt").is_file());
+    root.map(Path::to_path_buf).ok_or("no crates.txt in this folder or above it".into())
+}
+
+/// The crates in the order of crates.txt.
+fn crates(root: &Path) -> Result<Vec<String>, String> {
+    let text = fs::read_to_string(root.join("crates.txt")).map_err(said)?;
+    let lines = text.lines().filter(|line| !line.starts_with('#'));
+    Ok(lines.filter_map(|line| Some(line.split_once(':')?.0.trim().to_string())).collect())
+}
+
+/// The edits in a folder of a crate, by name.
+fn edits(root: &Path, name: &str, folder: &str) -> Result<BTreeMap<String, Edit>, String> {
+    let mut found = BTreeMap::new();
+    let Ok(entries) = fs::read_dir(root.join("crates").join(name).join(folder)) else {
+        return Ok(found);
+    };
+    for entry in entries {
+        let path = entry.map_err(said)?.path();
+        let (Some(stem), Some("edit")) =
+            (path.file_stem(), path.extension().and_then(|e| e.to_str()))
+        else {
+            return Err(format!("{}: no edit", path.display()));
+        };
+        let text = fs::read_to_string(&path).map_err(said)?;
+        let edit = Edit::parse(&text).map_err(|why| format!("{}: {why}", path.display()))?;
+        found.insert(stem.to_string_lossy().into_owned(), edit);
+    }
+    Ok(found)
+}
+
+const FOLDERS: [&str; 2] = ["must-fail", "wrong-builds"];
+
+fn list(root: &Path) -> Result<(), String> {
+    let mut all = 0;
+    for name in crates(root)? {
+        let mut rows = Vec::new();
+        for folder in FOLDERS {
+            for (label, edit) in edits(root, &name, folder)? {
+                rows.push(format!("| {label} | {folder} | {} |", edit.comment));
+            }
+        }
+        if !rows.is_empty() {
+            println!("### {name}: {}\n", rows.len());
+            println!("| edit | in | the wrong answer that it stands for |\n|---|---|---|");
+            println!("{}\n", rows.join("\n"));
+        }
+        all += rows.len();
+    }
+    println!("{all} edits");
+    Ok(())
+}
+
+/// The edits of one crate that are to be tried.
+struct Plan {
+    name: String,
+    sources: Sources,
+    edits: Vec<(String, Edit)>,
+    targets: Vec<Target>,
+}
+
+impl Plan {
+    fn new(root: &Path, name: &str, edits: BTreeMap<String, Edit>) -> Result<Plan, String> {
+        let sources = scratch::sources(&root.join("crates").join(name)).map_err(said)?;
+        let edits: Vec<_> = edits.into_iter().collect();
+        let target = |(label, edit): &(String, Edit)| {
+            edit.apply(&mut sources.clone()).map_err(|why| format!("{name}/{label}: {why}"))
+        };
+        let targets = edits.iter().map(target).collect::<Result<_, _>>()?;
+        Ok(Plan { name: name.to_string(), sources, edits, targets })
+    }
+
+    /// The sources with some of the edits in them. Each stood once alone, and does among the others, or the plan is refused.
+    fn changed(&self, members: &[usize]) -> Result<Sources, String> {
+        let mut sources = self.sources.clone();
+        for &member in members {
+            let (label, edit) = &self.edits[member];
+            edit.apply(&mut sources).map_err(|why| format!("{}/{label}: {why}", self.name))?;
+        }
+        Ok(sources)
+    }
+}
+
+fn plans(root: &Path, names: &[String]) -> Result<Vec<Plan>, String> {
+    let mut wanted: BTreeMap<String, BTreeMap<String, Edit>> = BTreeMap::new();
+    let crates = crates(root)?;
+    for name in &crates {
+        if names.is_empty() || names.contains(name) {
+            wanted.insert(name.clone(), edits(root, name, "wrong-builds")?);
+        }
+    }
+    for name in names.iter().filter(|name| !crates.contains(name)) {
+        let (of, label) = name.split_once('/').ok_or(format!("{name} is no crate"))?;
+        let mut all = edits(root, of, "must-fail")?;
+        all.extend(edits(root, of, "wrong-builds")?);
+        let edit = all.remove(label).ok_or(format!("there is no edit {name}"))?;
+        wanted.entry(of.to_string()).or_default().insert(label.to_string(), edit);
+    }
+    wanted.retain(|_, edits| !edits.is_empty());
+    if wanted.is_empty() {
+        return Err("there is nothing to try".into());
+    }
+    wanted.into_iter().map(|(name, edits)| Plan::new(root, &name, edits)).collect()
+}
+
+/// Some edits of a plan, tried together.
+struct Try<'a> {
+    plan: &'a Plan,
+    members: Vec<usize>,
+}
+
+/// What a try showed of each of its edits.
+type Shown = Vec<Result<String, String>>;
+
+fn try_all(root: &Path, names: &[String]) -> Result<(), String> {
+    let began = Instant::now();
+    let plans = plans(root, names)?;
+    let count = worker_count();
+    let room = Room::new(count).map_err(said)?;
+    let modules_name = room.modules_name().map_err(said)?;
+    let workers: Vec<Scratch> = (0..count)
+        .map(|number| Scratch::new(&room, number, root, &modules_name))
+        .collect::<io::Result<_>>()
+        .map_err(said)?;
+
+    let controls = in_parallel(&workers, &plans, |scratch, plan| {
+        let log = scratch.control(&plan.name).map_err(said)?;
+        if log.is_proved() {
+            return Ok(());
+        }
+        Err(format!("{} is not proved as it stands:\n{}", plan.name, log.text))
+    });
+    controls.into_iter().collect::<Result<Vec<()>, _>>()?;
+
+    let together: Vec<Try> = plans
+        .iter()
+        .flat_map(|plan| {
+            edit::groups(&plan.targets).into_iter().map(move |members| Try { plan, members })
+        })
+        .collect();
+    let shown = in_parallel(&workers, &together, |scratch, one| attempt(root, scratch, one));
+    let mut results = BTreeMap::new();
+    let mut alone = Vec::new();
+    for (one, shown) in together.iter().zip(shown) {
+        for (&member, result) in one.members.iter().zip(shown?) {
+            if result.is_err() && one.members.len() > 1 {
+                alone.push(Try { plan: one.plan, members: vec![member] });
+            } else {
+                results.insert((&one.plan.name, &one.plan.edits[member].0), result);
+            }
+        }
+    }
+    let shown = in_parallel(&workers, &alone, |scratch, one| attempt(root, scratch, one));
+    for (one, shown) in alone.iter().zip(shown) {
+        let result = shown?.remove(0);
+        results.insert((&one.plan.name, &one.plan.edits[one.members[0]].0), result);
+    }
+
+    for ((name, label), result) in &results {
+        match result {
+            Ok(error) => println!("{name}/{label}: refused at {error}"),
+            Err(why) => println!("{name}/{label}: FAILED: {why}"),
+        }
+    }
+    let failed = results.values().filter(|result| result.is_err()).count();
+    let tries = together.len() + alone.len();
+    println!(
+        "wrong-builds: {} refused, {failed} not, in {} crates, each proved as it stands ({tries} checks, {} alone again; {} s)",
+        results.len() - failed,
+        plans.len(),
+        alone.len(),
+        began.elapsed().as_secs()
+    );
+    if failed == 0 {
+        return Ok(());
+    }
+    Err(format!("{failed} wrong builds are not refused as they must be"))
+}
+
+fn attempt(root: &Path, scratch: &Scratch, one: &Try) -> Result<Shown, String> {
+    let Try { plan, members } = one;
+    let changed = match plan.changed(members) {
+        // edits that do not go together are tried alone
+        Err(why) if members.len() > 1 => {
+            return Ok(members.iter().map(|_| Err(why.clone())).collect())
+        }
+        other => other?,
+    };
+    let log = scratch.check(&plan.name, &plan.sources, &changed).map_err(said)?;
+    for &member in members {
+        keep(root, &plan.name, &plan.edits[member].0, &log).map_err(said)?;
+    }
+    Ok(members.iter().map(|&member| log.refusal(&plan.name, &plan.targets[member])).collect())
+}
+
+fn keep(root: &Path, name: &str, label: &str, log: &Log) -> io::Result<()> {
+    let folder = root.join("target/wrong-builds").join(name);
+    fs::create_dir_all(&folder)?;
+    fs::write(folder.join(format!("{label}.log")), &log.text)
+}
+
+/// RT_JOBS, or the processors: at most 8, since each worker has a copy of target/rlib.
+fn worker_count() -> u64 {
+    let asked = std::env::var("RT_JOBS").ok().and_then(|jobs| jobs.parse().ok());
+    let processors = || std::thread::available_parallelism().map_or(1, |n| n.get() as u64).min(8);
+    asked.unwrap_or_else(processors).max(1)
+}
+
+/// Does each job on one of the workers, the first jobs first, and answers the results in the order of the jobs.
+fn in_parallel<W: Sync, J: Sync, R: Send>(
+    workers: &[W],
+    jobs: &[J],
+    work: impl Fn(&W, &J) -> R + Sync,
+) -> Vec<R> {
+    let next = Mutex::new(jobs.iter().enumerate());
+    let done = Mutex::new(Vec::new());
+    std::thread::scope(|scope| {
+        for worker in workers {
+            let (next, done, work) = (&next, &done, &work);
+            scope.spawn(move || loop {
+                let Some((number, job)) = next.lock().unwrap().next() else { break };
+                let result = work(worker, job);
+                done.lock().unwrap().push((number, result));
+            });
+        }
+    });
+    let mut done = done.into_inner().unwrap();
+    done.sort_by_key(|(number, _)| *number);
+    done.into_iter().map(|(_, result)| result).collect()
+}
+
+fn said(error: io::Error) -> String {
+    error.to_string()
+}
