@@ -28,11 +28,13 @@ fn assert_prints(all: &[Worked]) {
 /// location, which is found out by going through all concrete states.
 #[test]
 fn every_example_means_what_its_description_says() {
-    const DESCRIBED: [(&str, &str, bool); 8] = [
+    const DESCRIBED: [(&str, &str, bool); 10] = [
         ("feeder-pitch", "safe", false),
         ("feeder-pitch-open", "open", false),
         ("head-nozzle", "alarm", true),
         ("head-nozzle-mended", "safe", false),
+        ("nozzle", "alarm", true),
+        ("nozzle-mended", "safe", false),
         ("tape-advance", "safe", false),
         ("tape-advance-sep", "room", false),
         ("two-lanes", "safe", false),

@@ -13,7 +13,7 @@ use Rattle.semantics.specs.declared.Settings.{Settings}
 use Rattle.semantics.specs.Lists.{some-of}
 use Rattle.semantics.specs.Algorithm.{Out, on, full, then, merged, rewait, stopped, arrive}
 use Rattle.semantics.specs.Tidy.{Allowed}
-use Rattle.rows.specs.Rows.{row-leq}
+use Rattle.state.specs.Rows.{row-leq}
 use Rattle.reached.proofs.Table.{Sized}
 use Rattle.transfer.specs.Transfer.{post-at, post-words, edge-at, edges-from}
 use Rattle.analysis.specs.declared.Exit.{Exit}

@@ -8,9 +8,9 @@ use Rattle.semantics.specs.declared.Analysis.{Analysis}
 use Rattle.semantics.specs.Algorithm.{Exploration, first-verdict, start}
 use Rattle.semantics.specs.Tidy.{Allowed, Tidy}
 use Rattle.semantics.proofs.Tidy.{start-tidy}
-use Rattle.rows.specs.Rows.{rows-of}
+use Rattle.state.specs.Rows.{rows-of}
 use Rattle.waitlist.specs.Waits.{Stored}
-use Rattle.waitlist.proofs.Laws.{held}
+use Rattle.waitlist.proofs.WaitWords.{held}
 use Rattle.reached.specs.Reached.{Kept}
 use Rattle.reached.proofs.Table.{rows-stored, stored}
 use Rattle.reached.proofs.Forms.{next-row, kept-stored}

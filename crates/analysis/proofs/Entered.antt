@@ -22,9 +22,9 @@ use Rattle.semantics.proofs.Tidy.{some-not}
 use Rattle.semantics.proofs.Reloaded.{Form, form, slots-back, zeros-back}
 use Rattle.semantics.proofs.Listed.{few-slots}
 use Rattle.semantics.proofs.Simulate.{ExplorationR}
-use Rattle.rows.specs.Rows.{rows-of}
+use Rattle.state.specs.Rows.{rows-of}
 use Rattle.waitlist.specs.Waits.{waits, Stored}
-use Rattle.waitlist.proofs.Laws.{any-some}
+use Rattle.waitlist.proofs.WaitWords.{any-some}
 use Rattle.reached.specs.Reached.{Kept}
 use Rattle.reached.proofs.Table.{rows-length, rows-prefix}
 use Rattle.transfer.proofs.Agree.{Says}

@@ -16,7 +16,7 @@ use Rattle.semantics.specs.Algorithm.{Domain, Exploration, Taken, verdict-of, l
 use Rattle.semantics.specs.Tidy.{Every, Queue, Tidy}
 use Rattle.semantics.specs.Outcomes.{has-verdict}
 use Rattle.semantics.proofs.Tidy.{Left, take-left, Keeps, iteration-tidy}
-use Rattle.rows.specs.Rows.{rows-of}
+use Rattle.state.specs.Rows.{rows-of}
 use Rattle.waitlist.specs.Waits.{waits, TakenFrom}
 use Rattle.reached.specs.Reached.{Kept}
 use Rattle.reached.proofs.Table.{rows-length, rows-get}

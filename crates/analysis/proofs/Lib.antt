@@ -2,6 +2,7 @@
 -- entry, and sizes.
 pub mod Merges
 pub mod Arrival
+pub mod Chaining
 pub mod Passing
 pub mod Iterations
 pub mod Begin

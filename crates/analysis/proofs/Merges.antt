@@ -16,8 +16,8 @@ use Rattle.semantics.specs.Algorithm.{wait, wait-all, changed, merged, keep-if,
 use Rattle.semantics.specs.Tidy.{Every}
 use Rattle.semantics.proofs.Values.{left-true, right-true}
 use Rattle.words.proofs.Words.{eqZ-true}
-use Rattle.rows.specs.Rows.{word-leq, word-join, words-leq, words-join, same-words, same-place, row-leq, row-join, row-merge, join-of}
-use Rattle.rows.proofs.Turns.{length-words-join}
+use Rattle.state.specs.Rows.{word-leq, word-join, words-leq, words-join, same-words, same-place, row-leq, row-join, row-merge, join-of}
+use Rattle.state.proofs.RowLoops.{length-words-join}
 use Rattle.waitlist.specs.Waits.{wait-unless}
 use Rattle.reached.specs.Reached.{rewaits}
 use Rattle.reached.proofs.Table.{Sized}

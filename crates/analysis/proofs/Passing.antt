@@ -11,7 +11,7 @@ use Rattle.semantics.specs.declared.Settings.{Settings}
 use Rattle.semantics.specs.Algorithm.{Step, halt, Out, then, visit, leave}
 use Rattle.semantics.specs.Encoding.{count}
 use Rattle.transfer.specs.Transfer.{edges-from, post-at, post-words}
-use Rattle.leaving.specs.Chains.{from-at, Passed}
+use Rattle.analysis.specs.Chains.{from-at, Passed}
 use Rattle.analysis.specs.Loaded.{domain-of}
 use Rattle.analysis.proofs.Arrival.{edges-turn, edges-none}
 

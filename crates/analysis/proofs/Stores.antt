@@ -21,7 +21,7 @@ use Rattle.semantics.specs.Outcomes.{started, resumed, put-in}
 use Rattle.semantics.proofs.Encoded.{well-formed-split}
 use Rattle.semantics.proofs.SettingsKept.{run-kept}
 use Rattle.semantics.proofs.Simulate.{AllPairs, ExplorationR, run-R, start-R}
-use Rattle.rows.specs.Rows.{rows-of}
+use Rattle.state.specs.Rows.{rows-of}
 use Rattle.waitlist.specs.Waits.{waits}
 use Rattle.reached.specs.Reached.{Kept}
 use Rattle.reached.proofs.Table.{rows-length}

@@ -1,2 +1,3 @@
--- Record and words as an exploration of rows.
+-- Chains of edges; record and words as an exploration of rows.
+pub mod Chains
 pub mod Loaded

@@ -10,12 +10,12 @@ use Rattle.semantics.specs.declared.Verdict.{Verdict}
 use Rattle.semantics.specs.declared.Analysis.{Analysis}
 use Rattle.semantics.specs.Algorithm.{Domain, Out, on, alarmed, full, halt, Exploration, finish, verdict-of}
 use Rattle.semantics.specs.Tidy.{Allowed, Tidy}
-use Rattle.rows.specs.Rows.{rows-of, row-domain}
+use Rattle.state.specs.Rows.{rows-of, row-domain}
 use Rattle.waitlist.specs.Waits.{waits, Stored}
 use Rattle.reached.specs.Reached.{Kept}
-use Rattle.encoded.specs.declared.Edge.{Edge}
+use Rattle.chart.specs.declared.Edge.{Edge}
 use Rattle.transfer.specs.Transfer.{edge-at, post-words, error-row}
-use Rattle.leaving.specs.Chains.{Chained}
+use Rattle.analysis.specs.Chains.{Chained}
 use Rattle.analysis.specs.declared.Exit.{Exit}
 use Rattle.analysis.specs.declared.Exit.the-variants.{On, Alarm, Full}
 use Rattle.analysis.specs.declared.Progress.{Progress}

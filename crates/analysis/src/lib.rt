@@ -1,6 +1,6 @@
 // The algorithm over lent words: a successor's arrival, the edges of an iteration in file order, the iteration, the run
 // of iterations and the start. Record and counts go by value.
-use encoded::Edge;
+use chart::Edge;
 use semantics::Analysis;
 use semantics::EdgeId;
 use semantics::Mode;
@@ -13,11 +13,13 @@ ghost use lib.ListN.{length};
 ghost use Rattle.semantics.specs.Algorithm.{merged, rewait, arrive, visit, leave, first-verdict, iteration, run, start};
 ghost use Rattle.semantics.specs.Tidy.{Queue, Allowed};
 ghost use Rattle.semantics.specs.Outcomes.{has-verdict};
-ghost use Rattle.rows.specs.Rows.{rows-of};
+ghost use Rattle.state.specs.Rows.{rows-of};
 ghost use Rattle.waitlist.specs.Waits.{waits, Stored};
 ghost use Rattle.reached.specs.Reached.{Kept};
 ghost use Rattle.transfer.specs.Transfer.{edge-at, edges-from, post-at};
 ghost use Rattle.analysis.specs.Loaded.{Edges-held, rows-only, domain-of, has-ended, went-on, Progressed, load-of, Held, Loaded, Ended, Finished};
+
+mod outgoing;
 
 // How the edges of an iteration, or some of them, end.
 enum Exit {
@@ -164,10 +166,10 @@ fn leave(
 {
     let mut slots = used;
     let mut count = waiting;
-    let location = rows::location_of(copy);
-    let mut id = leaving::first_leaving(heads, location);
+    let location = state::location_of(copy);
+    let mut id = outgoing::first_leaving(heads, location);
     while semantics::is_edge_within(edges, id) {
-        let edge = encoded::edge_of(first, id);
+        let edge = chart::edge_of(first, id);
         let p = visit(
             chart,
             edge,
@@ -186,7 +188,7 @@ fn leave(
         }
         slots = p.used;
         count = p.waiting;
-        id = leaving::next_leaving(chart, edge, nexts, location);
+        id = outgoing::next_leaving(chart, edge, nexts, location);
     }
     went_on(slots, count)
 }
@@ -389,12 +391,12 @@ pub fn run_core(
     requires { ⌜ Held width edges a (now table) (now list) × (a .iterations ≤ 60000) × (width ≤ 9) × (edge-at (now chart) edges < 4294967296) ⌝ }
     ensures { λ r. ⌜ Loaded width edges r (now (table .exit)) (now (list .exit)) (run (domain-of (now (chart .entry))) (edges-from 0 edges) (min budget (60000 - a .iterations)) (load-of width a (now (table .entry)) (now (list .entry)))) ⌝ }
 {
-    let first = encoded::first_edge(chart);
+    let first = chart::first_edge(chart);
     // the number past the last edge stands for none
     let none = edges + 1;
     let mut heads = [none; semantics::MOST_LOCATIONS];
     let mut nexts = [0usize; semantics::MOST_EDGES];
-    leaving::chain(chart, edges, &mut heads, &mut nexts);
+    outgoing::chain(chart, edges, &mut heads, &mut nexts);
     let most = iterations_left(budget, a.iterations);
     play(
         chart,

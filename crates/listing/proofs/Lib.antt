@@ -1,3 +1,3 @@
 -- The text piece by piece, then the refusals.
-pub mod Facts
+pub mod TextPieces
 pub mod Refusals

@@ -13,7 +13,7 @@ use Rattle.semantics.specs.Encoding.{decode, well-formed}
 use Rattle.semantics.specs.Memory.{Memory, width, analysis-ok}
 use Rattle.semantics.specs.Outcomes.{Outcome, case, refusal, fine, refused-by, settled, short-of, text-of, listing-cases, listing-outcome}
 use Rattle.semantics.proofs.FirstCase.{passed}
-use Rattle.form.proofs.Facts.{enough}
+use Rattle.checks.proofs.FormTests.{enough}
 
 -- no case holds
 none-of : (a b c d : Bool) → refusal (case 20 a ∷ case 14 b ∷ case 21 c ∷ case 15 d ∷ []) ≡ 0 → (a ≡ false) × (b ≡ false) × (c ≡ false) × (d ≡ false)

@@ -19,16 +19,16 @@ ghost use Rattle.semantics.specs.Encoding.{val, decode, well-formed};
 ghost use Rattle.semantics.specs.Memory.{width, state-in, states-in, load, analysis-ok};
 ghost use Rattle.semantics.specs.Listing.{mode-text, order-text, verdict-text, loc-text, val-text, mark, slot-text, slots-text, header-text, listing-text};
 ghost use Rattle.semantics.specs.Outcomes.{refusal, text-of, listing-cases, listing-outcome};
-ghost use Rattle.form.specs.Form.{lent};
-ghost use Rattle.writing.specs.Writing.{Put, limit};
+ghost use Rattle.checks.specs.Form.{lent};
+ghost use Rattle.writer.specs.Writing.{Put, limit};
 ghost use Rattle.listing.specs.Pieces.{tabbed, values-text, words-text, counts-text, marked};
 
 // A field that is not a line's first: a tab, and its bytes.
 fn put_field(out: &mut [u8], at: usize, field: &[u8]) -> usize
     ensures { λ r. ⌜ Put at (tabbed (now (field .entry))) (now (out .entry)) (now (out .exit)) r ⌝ }
 {
-    let place = writing::put_byte(out, at, semantics::TAB);
-    writing::put_bytes(out, place, field)
+    let place = writer::put_byte(out, at, semantics::TAB);
+    writer::put_bytes(out, place, field)
 }
 
 // ---- the fields of the first line, each after its tab
@@ -65,8 +65,8 @@ fn put_verdict(out: &mut [u8], at: usize, v: Verdict) -> usize
 fn put_number(out: &mut [u8], at: usize, n: usize) -> usize
     ensures { λ r. ⌜ Put at (tabbed (decimal n)) (now (out .entry)) (now (out .exit)) r ⌝ }
 {
-    let place = writing::put_byte(out, at, semantics::TAB);
-    writing::put_decimal(out, place, n)
+    let place = writer::put_byte(out, at, semantics::TAB);
+    writer::put_decimal(out, place, n)
 }
 
 // The settings and the verdict.
@@ -99,10 +99,10 @@ fn put_counts(out: &mut [u8], at: usize, a: Analysis) -> usize
 fn put_header(out: &mut [u8], a: Analysis) -> usize
     ensures { λ r. ⌜ Put 0 (header-text a) (now (out .entry)) (now (out .exit)) r ⌝ }
 {
-    let words = writing::put_bytes(out, 0, b"walk");
+    let words = writer::put_bytes(out, 0, b"walk");
     let counts = put_words(out, words, a);
     let end = put_counts(out, counts, a);
-    writing::put_byte(out, end, semantics::LF)
+    writer::put_byte(out, end, semantics::LF)
 }
 
 // ---- a slot's line
@@ -112,12 +112,12 @@ fn put_name(out: &mut [u8], at: usize, chart: &[i32], l: LocationId) -> usize
     requires { ⌜ T (well-formed (now chart)) ⌝ }
     ensures { λ r. ⌜ Put at (tabbed (loc-text (decode (now (chart .entry)) .locs) (l .0))) (now (out .entry)) (now (out .exit)) r ⌝ }
 {
-    let name = encoded::name(chart, l);
-    let mut place = writing::put_byte(out, at, semantics::TAB);
+    let name = chart::name(chart, l);
+    let mut place = writer::put_byte(out, at, semantics::TAB);
     let mut i = 0;
     while i < name.len() {
-        let b = encoded::name_byte(name[i]);
-        place = writing::put_byte(out, place, b);
+        let b = chart::name_byte(name[i]);
+        place = writer::put_byte(out, place, b);
         i += 1;
     }
     place
@@ -130,15 +130,15 @@ fn put_value(out: &mut [u8], at: usize, w: i32) -> usize
     if w == words::TOP {
         return put_field(out, at, b"*");
     }
-    let place = writing::put_byte(out, at, semantics::TAB);
-    writing::put_signed(out, place, w)
+    let place = writer::put_byte(out, at, semantics::TAB);
+    writer::put_signed(out, place, w)
 }
 
 // The values of a row. The empty text before them keeps the place within writing's limit.
 fn put_values(out: &mut [u8], at: usize, values: &[i32]) -> usize
     ensures { λ r. ⌜ Put at (values-text (now (values .entry))) (now (out .entry)) (now (out .exit)) r ⌝ }
 {
-    let mut place = writing::put_bytes(out, at, b"");
+    let mut place = writer::put_bytes(out, at, b"");
     let mut i = 0;
     while i < values.len() {
         let w = values[i];
@@ -191,12 +191,12 @@ fn put_slot(
     requires { ⌜ T (well-formed (now chart)) × (1 ≤ length (now row)) ⌝ }
     ensures { λ r. ⌜ Put at (slot-text (decode (now (chart .entry))) (slot .0) (state-in (now (row .entry))) waiting) (now (out .entry)) (now (out .exit)) r ⌝ }
 {
-    let location = rows::location_of(row);
-    let name = writing::put_decimal(out, at, slot.0);
+    let location = state::location_of(row);
+    let name = writer::put_decimal(out, at, slot.0);
     let values = put_name(out, name, chart, location);
     let last = put_values(out, values, &row[1..]);
     let end = put_mark(out, last, waiting);
-    writing::put_byte(out, end, semantics::LF)
+    writer::put_byte(out, end, semantics::LF)
 }
 
 // The lines of the slots in use. Slot and word offset go together.
@@ -211,10 +211,10 @@ fn put_slots(
     requires { ⌜ T (well-formed (now chart)) × (used * width (decode (now chart)) ≤ length (now table)) × (used ≤ 256) ⌝ }
     ensures { λ r. ⌜ Put at (slots-text (decode (now (chart .entry))) (map natAbs (now (list .entry))) 0 (states-in (width (decode (now (chart .entry)))) used (now (table .entry)))) (now (out .entry)) (now (out .exit)) r ⌝ }
 {
-    let w = encoded::width(chart);
+    let w = chart::width(chart);
     let mut marks = [false; semantics::MOST_SLOTS];
     mark_waiting(&mut marks, list);
-    let mut place = writing::put_bytes(out, at, b"");
+    let mut place = writer::put_bytes(out, at, b"");
     let mut from = 0;
     let mut s = 0;
     while s < used {
@@ -256,13 +256,13 @@ fn listing_refusal(chart: &[i32], a: Analysis, table: &[i32], list: &[i32], spac
     requires { ⌜ space < limit ⌝ }
     ensures { λ r. ⌜ r ≡ refusal (listing-cases (now (chart .entry)) (lent (now (table .entry)) (now (list .entry)) a) space) ⌝ }
 {
-    if !encoded::well_formed(chart) {
+    if !chart::well_formed(chart) {
         return 20;
     }
-    if form::is_short(chart, a.capacity, table.len(), list.len()) {
+    if checks::is_short(chart, a.capacity, table.len(), list.len()) {
         return 14;
     }
-    if !form::analysis_ok(chart, table, list, a) {
+    if !checks::analysis_ok(chart, table, list, a) {
         return 21;
     }
     if semantics::LISTING_BYTES <= space {

@@ -10,7 +10,7 @@ use Rattle.semantics.specs.Tidy.{Queue}
 use Rattle.semantics.proofs.Tidy.{more, join-queue}
 use Rattle.words.proofs.Rows.{row-in, length-put}
 use Rattle.waitlist.specs.Waits.{waits, Stored}
-use Rattle.waitlist.proofs.Laws.{held, kept}
+use Rattle.waitlist.proofs.WaitWords.{held, kept}
 use Rattle.reached.specs.Reached.{Kept}
 use Rattle.reached.proofs.Table.{rest-stored, stored}
 

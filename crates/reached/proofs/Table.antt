@@ -12,11 +12,11 @@ use lib.Seq.{take-at, drop-at, drop-drop, take-add, length-take-le}
 use Rattle.semantics.specs.Lists.{get}
 use Rattle.semantics.specs.Tidy.{Every, Queue}
 use Rattle.words.proofs.Rows.{put-here, drop-put}
-use Rattle.rows.specs.Rows.{row-merge, rows-merge, rows-of, same-words}
-use Rattle.rows.proofs.Turns.{length-row-merge}
+use Rattle.state.specs.Rows.{row-merge, rows-merge, rows-of, same-words}
+use Rattle.state.proofs.RowLoops.{length-row-merge}
 use Rattle.waitlist.specs.Waits.{wait-unless}
 use Rattle.reached.specs.Reached.{rewaits}
-use Rattle.reached.proofs.Laws.{unless-queue}
+use Rattle.reached.proofs.SlotLoops.{unless-queue}
 
 pub rows-length : (w n : ℕ) (t : List ℤ) → length (rows-of w n t) ≡ n
 rows-length w zero t = refl

@@ -6,7 +6,7 @@ use Prim.Native.Nat.{ℕ, suc, _-_, _*_, _≤_, _<_}
 use lib.IntN.{ℤ, pos}
 use lib.ListN.{length, drop, replicate}
 use Rattle.semantics.specs.Tidy.{Queue}
-use Rattle.rows.specs.Rows.{same-words, row-merge}
+use Rattle.state.specs.Rows.{same-words, row-merge}
 use Rattle.waitlist.specs.Waits.{waits, Stored, wait-unless}
 
 -- the slots wait again that the merge with e changes; i is the first slot's number

@@ -7,7 +7,7 @@ ghost use Prim.Native.Nat.{_+_, _*_, _<_, _≤_};
 ghost use lib.ListN.{length, take, drop};
 ghost use Rattle.semantics.specs.Lists.{some-of};
 ghost use Rattle.semantics.specs.Tidy.{Queue};
-ghost use Rattle.rows.specs.Rows.{row-leq, rows-merge, rows-of};
+ghost use Rattle.state.specs.Rows.{row-leq, rows-merge, rows-of};
 ghost use Rattle.waitlist.specs.Waits.{waits, Stored};
 ghost use Rattle.reached.specs.Reached.{rewaits};
 
@@ -29,7 +29,7 @@ pub fn merge_slots(
     let mut s = 0;
     while s < used {
         let to = from + w;
-        let same = rows::merge_row(&mut table[from..to], e);
+        let same = state::merge_row(&mut table[from..to], e);
         count = waitlist::wait_unless(same, list, count, SlotId(s));
         from = to;
         s += 1;
@@ -47,7 +47,7 @@ pub fn covered(table: &[i32], used: usize, e: &[i32]) -> bool
     let mut s = 0;
     while s < used {
         let to = from + w;
-        if rows::leq_row(e, &table[from..to]) {
+        if state::leq_row(e, &table[from..to]) {
             return true;
         }
         from = to;

@@ -8,5 +8,5 @@ pub mod Growing
 pub mod Holding
 pub mod Wording
 pub mod Reading
-pub mod Going
-pub mod Again
+pub mod NextLine
+pub mod LentAgain

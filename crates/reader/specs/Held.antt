@@ -11,8 +11,8 @@ use Rattle.semantics.specs.Text.{name-ok, lines, fields}
 use Rattle.semantics.specs.Chart.{Chart}
 use Rattle.semantics.specs.Encoding.{var-words, loc-words, edge-words}
 use Rattle.semantics.specs.Reading.{Res, fail, ok, So-far, Reading, nothing-read, refused, ended, judged}
-use Rattle.lines.specs.Lines.{line-at, place-after}
-use Rattle.lines.specs.declared.Line.{Line}
+use Rattle.text.specs.Places.{line-at, place-after}
+use Rattle.text.specs.declared.lines.Line.{Line}
 use Rattle.reader.specs.Rows.{name-row}
 use Rattle.reader.specs.declared.Descent.{Descent}
 use Rattle.reader.specs.declared.tally.Tally.{Tally}

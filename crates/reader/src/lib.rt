@@ -94,7 +94,7 @@ fn goes(s: Step) -> bool
 }
 
 // One line more; or the text is at its end.
-fn advance(p: Descent, table: &mut [i32], names: &mut [i32], text: &[u8], l: lines::Line) -> Descent
+fn advance(p: Descent, table: &mut [i32], names: &mut [i32], text: &[u8], l: text::lines::Line) -> Descent
     requires { ⌜ Ready (now text) p l × (length (now table) ≡ 3160) × (length (now names) ≡ 128) ⌝ }
     ensures { λ r. ⌜ Advanced (now (text .entry)) l p (now (table .entry)) (now (names .entry)) r (now (table .exit)) (now (names .exit)) ⌝ }
 {
@@ -102,7 +102,7 @@ fn advance(p: Descent, table: &mut [i32], names: &mut [i32], text: &[u8], l: lin
     let Step::Go(t) = s else {
         return p;
     };
-    let lines::Line::Text { start, end, .. } = l else {
+    let text::lines::Line::Text { start, end, .. } = l else {
         return Descent {
             going: false,
             line: p.line,
@@ -137,11 +137,11 @@ fn go_down(text: &[u8], table: &mut [i32], names: &mut [i32]) -> Descent
     requires { ⌜ (length (now table) ≡ 3160) × (length (now names) ≡ 128) ⌝ }
     ensures { λ r. ⌜ Came (now (text .entry)) (r .line) (r .step) (now (table .exit)) ⌝ }
 {
-    let mut r = lines::open(text);
+    let mut r = text::lines::open(text);
     let mut p = begun();
     while p.going {
-        let l = lines::current(r);
-        r.at = lines::place_after(l, r.at);
+        let l = text::lines::current(r);
+        r.at = text::lines::place_after(l, r.at);
         p = advance(p, table, names, text, l);
     }
     p

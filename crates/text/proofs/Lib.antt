@@ -1,5 +1,6 @@
 -- Laws of texts, from the whole to the part: lines, the fields of a line, bytes and names, numbers, one field judged.
-pub mod Lines
+pub mod LineEnds
+pub mod Places
 pub mod Parts
 pub mod Bytes
 pub mod Digits

@@ -1,2 +1,3 @@
--- What the functions over lines and fields answer.
+-- What the functions over lines and fields answer, and where the lines of a text lie.
 pub mod Fields
+pub mod Places

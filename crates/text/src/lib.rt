@@ -11,6 +11,8 @@ ghost use Rattle.semantics.specs.Reading.{ok, check, if-ok, nth, none-empty, sm
 ghost use Rattle.semantics.specs.Reading.{filled as filled-with};
 ghost use Rattle.text.specs.Fields.{Found, natural-read, number-read, natural-said, number-said, variable-res, location-res, word-res, init-res, operand-res, kind-res, rel-res, op-word-res};
 
+pub mod lines;
+
 pub fn same_bytes(a: &[u8], b: &[u8]) -> bool
     ensures { λ r. ⌜ r ≡ same-bytes (now (a .entry)) (now (b .entry)) ⌝ }
 {

@@ -23,7 +23,7 @@ use Rattle.semantics.proofs.StatesOk.{StateOk, join-ok, bounds, keeps, initial-
 use Rattle.semantics.proofs.Encoded.{well-formed-split}
 use Rattle.semantics.proofs.Simulate.{AllPairs, StepR, Agree}
 use Rattle.words.proofs.Words.{eqZ-sym}
-use Rattle.rows.specs.Rows.{word-leq, word-join, words-join, same-words, same-place, row-leq, row-join, join-of, leq-join-of, row-domain}
+use Rattle.state.specs.Rows.{word-leq, word-join, words-join, same-words, same-place, row-leq, row-join, join-of, leq-join-of, row-domain}
 use Rattle.transfer.specs.Transfer.{location-word, edge-at, edges-from, post-at, post-words, error-row, initial-row}
 use Rattle.transfer.proofs.Places.{placed, edge-word, error-is, initial-is}
 use Rattle.transfer.proofs.Effects.{Plain, AllPlain, values-plain, row-step, effect-is}

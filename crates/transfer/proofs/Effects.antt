@@ -19,7 +19,7 @@ use Rattle.semantics.proofs.Values.{and-left, and-right}
 use Rattle.semantics.proofs.StatesOk.{ValOk, ValsOk}
 use Rattle.semantics.proofs.Stored.{not-any}
 use Rattle.words.proofs.Words.{eqZ-true}
-use Rattle.rows.specs.Rows.{word-join}
+use Rattle.state.specs.Rows.{word-join}
 use Rattle.transfer.specs.Transfer.{step-of, operand-by, set-ranged, set-value, assign-at, set-result, both-at, input-at, holds-by, refine-by, tested-by, assume-at, op-by}
 use Rattle.transfer.proofs.Places.{range-is}
 

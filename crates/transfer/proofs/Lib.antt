@@ -1,5 +1,5 @@
 -- The code's turns; then where words stand, an operation's effect, the agreement with the rules, and rows in form.
-pub mod Turns
+pub mod TransferTests
 pub mod Places
 pub mod Effects
 pub mod Agree

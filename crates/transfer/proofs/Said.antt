@@ -14,7 +14,7 @@ use Rattle.semantics.proofs.Values.{and-left, and-right}
 use Rattle.semantics.proofs.StatesOk.{bounds}
 use Rattle.semantics.proofs.Reloaded.{row-state, row-back}
 use Rattle.semantics.proofs.Simulate.{AllPairs}
-use Rattle.rows.specs.Rows.{rows-of}
+use Rattle.state.specs.Rows.{rows-of}
 use Rattle.transfer.proofs.Effects.{Plain, AllPlain, values-plain}
 use Rattle.transfer.proofs.Agree.{Says}
 

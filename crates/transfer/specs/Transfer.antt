@@ -11,8 +11,8 @@ use Rattle.semantics.specs.Lists.{pick}
 use Rattle.semantics.specs.Chart.{eqZ, within}
 use Rattle.semantics.specs.Algorithm.{Step, halt, to}
 use Rattle.semantics.specs.Encoding.{count}
-use Rattle.rows.specs.Rows.{word-join}
-use Rattle.encoded.specs.Encoded.{locations-at, edges-at}
+use Rattle.state.specs.Rows.{word-join}
+use Rattle.chart.specs.Encoded.{locations-at, edges-at}
 
 -- what a function says that answers whether there is a successor
 abbrev pub step-of : Bool → List ℤ → Step (List ℤ)

@@ -1,5 +1,5 @@
 // The transfer of an edge of the encoded chart on a row of words, the test of an error location, and the initial row.
-use encoded::Edge;
+use chart::Edge;
 use semantics::LocationId;
 ghost use mathlib.Core.Path.{_≡_};
 ghost use Prim.Native.Nat.{_+_, _<_};
@@ -60,8 +60,8 @@ fn first_operand(chart: &[i32], edge: Edge, row: &[i32]) -> i32
     requires { ⌜ edge .at < 4294967296 ⌝ }
     ensures { λ r. ⌜ r ≡ first-at (now (chart .entry)) (edge .at) (now (row .entry)) ⌝ }
 {
-    let tag = encoded::first_tag(chart, edge);
-    let w = encoded::first_value(chart, edge);
+    let tag = chart::first_tag(chart, edge);
+    let w = chart::first_value(chart, edge);
     operand(tag, w, row)
 }
 
@@ -69,8 +69,8 @@ fn second_operand(chart: &[i32], edge: Edge, row: &[i32]) -> i32
     requires { ⌜ edge .at < 4294967296 ⌝ }
     ensures { λ r. ⌜ r ≡ second-at (now (chart .entry)) (edge .at) (now (row .entry)) ⌝ }
 {
-    let tag = encoded::second_tag(chart, edge);
-    let w = encoded::second_value(chart, edge);
+    let tag = chart::second_tag(chart, edge);
+    let w = chart::second_value(chart, edge);
     operand(tag, w, row)
 }
 
@@ -90,8 +90,8 @@ fn put_ranged(chart: &[i32], k: usize, z: i64, row: &mut [i32]) -> bool
     requires { ⌜ k < 2147483649 ⌝ }
     ensures { λ r. ⌜ step-of r (now (row .exit)) ≡ set-ranged (now (chart .entry)) k z (now (row .entry)) ⌝ }
 {
-    let lo = encoded::variable_low(chart, k);
-    let hi = encoded::variable_high(chart, k);
+    let lo = chart::variable_low(chart, k);
+    let hi = chart::variable_high(chart, k);
     if lies_within(lo, hi, z) {
         let x = z as i32;
         put(row, k, x);
@@ -118,7 +118,7 @@ fn assign(chart: &[i32], edge: Edge, row: &mut [i32]) -> bool
     requires { ⌜ edge .at < 4294967296 ⌝ }
     ensures { λ r. ⌜ step-of r (now (row .exit)) ≡ assign-at (now (chart .entry)) (edge .at) (now (row .entry)) ⌝ }
 {
-    let k = encoded::edge_target(chart, edge);
+    let k = chart::edge_target(chart, edge);
     let a = first_operand(chart, edge, row);
     put_value(chart, k, a == words::TOP, words::wide(a), row)
 }
@@ -128,7 +128,7 @@ fn put_result(chart: &[i32], edge: Edge, a: i32, b: i32, z: i64, row: &mut [i32]
     requires { ⌜ edge .at < 4294967296 ⌝ }
     ensures { λ r. ⌜ step-of r (now (row .exit)) ≡ set-result (now (chart .entry)) (edge .at) a b z (now (row .entry)) ⌝ }
 {
-    let k = encoded::edge_target(chart, edge);
+    let k = chart::edge_target(chart, edge);
     put_value(chart, k, (a == words::TOP) | (b == words::TOP), z, row)
 }
 
@@ -155,10 +155,10 @@ fn input(chart: &[i32], edge: Edge, row: &mut [i32]) -> bool
     requires { ⌜ edge .at < 4294967296 ⌝ }
     ensures { λ r. ⌜ step-of r (now (row .exit)) ≡ input-at (now (chart .entry)) (edge .at) (now (row .entry)) ⌝ }
 {
-    let k = encoded::edge_target(chart, edge);
-    let p = encoded::first_value(chart, edge);
-    let q = encoded::second_value(chart, edge);
-    let x = rows::join_word(p, q);
+    let k = chart::edge_target(chart, edge);
+    let p = chart::first_value(chart, edge);
+    let q = chart::second_value(chart, edge);
+    let x = state::join_word(p, q);
     put(row, k, x);
     true
 }
@@ -196,14 +196,14 @@ fn assume(chart: &[i32], n: usize, edge: Edge, row: &mut [i32]) -> bool
     requires { ⌜ edge .at < 4294967296 ⌝ }
     ensures { λ r. ⌜ step-of r (now (row .exit)) ≡ assume-at (now (chart .entry)) n (edge .at) (now (row .entry)) ⌝ }
 {
-    let k = encoded::edge_target(chart, edge);
+    let k = chart::edge_target(chart, edge);
     let x = words::word_at(row, k + 1);
     let y = first_operand(chart, edge, row);
     if x == words::TOP {
         return refine(chart, n, k, y, row);
     }
     if y == words::TOP {
-        let j = encoded::first_variable(chart, edge);
+        let j = chart::first_variable(chart, edge);
         return refine(chart, n, j, x, row);
     }
     holds(n, x, y)
@@ -214,7 +214,7 @@ fn apply(chart: &[i32], edge: Edge, row: &mut [i32]) -> bool
     requires { ⌜ edge .at < 4294967296 ⌝ }
     ensures { λ r. ⌜ step-of r (now (row .exit)) ≡ op-by (count (now (chart .entry)) (edge .at + 2)) (now (chart .entry)) (edge .at) (now (row .entry)) ⌝ }
 {
-    let n = encoded::edge_operation(chart, edge);
+    let n = chart::edge_operation(chart, edge);
     match n {
         0 => true,
         1 => assign(chart, edge, row),
@@ -232,10 +232,10 @@ pub fn successor(chart: &[i32], edge: Edge, row: &[i32], out: &mut [i32]) -> boo
     requires { ⌜ (0 < length (now row)) × (length (now out) ≡ length (now row)) × (edge .at < 4294967296) ⌝ }
     ensures { λ r. ⌜ step-of r (now (out .exit)) ≡ post-at (now (chart .entry)) (edge .at) (now (row .entry)) ⌝ }
 {
-    let from = encoded::edge_from(chart, edge);
-    if semantics::same_location(from, rows::location_of(row)) {
+    let from = chart::edge_from(chart, edge);
+    if semantics::same_location(from, state::location_of(row)) {
         words::copy_words(out, row);
-        let to = encoded::edge_to(chart, edge);
+        let to = chart::edge_to(chart, edge);
         out[0] = location_word(to);
         return apply(chart, edge, out);
     }
@@ -246,7 +246,7 @@ pub fn successor(chart: &[i32], edge: Edge, row: &[i32], out: &mut [i32]) -> boo
 pub fn is_error(chart: &[i32], row: &[i32]) -> bool
     ensures { λ r. ⌜ r ≡ error-row (now (chart .entry)) (now (row .entry)) ⌝ }
 {
-    encoded::is_error_location(chart, rows::location_of(row))
+    chart::is_error_location(chart, state::location_of(row))
 }
 
 // The row of the initial abstract state. The start is location 0.
@@ -254,11 +254,11 @@ pub fn initial(chart: &[i32], out: &mut [i32])
     requires { ⌜ length (now out) ≡ 1 + count (now chart) 0 ⌝ }
     ensures { λ _. ⌜ now (out .exit) ≡ initial-row (now (chart .entry)) ⌝ }
 {
-    let n = encoded::var_count(chart);
+    let n = chart::var_count(chart);
     out[0] = 0;
     let mut k = 0;
     while k < n {
-        let x = encoded::variable_init(chart, k);
+        let x = chart::variable_init(chart, k);
         k += 1;
         out[k] = x;
     }

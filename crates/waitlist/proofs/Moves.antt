@@ -16,7 +16,7 @@ use Rattle.semantics.specs.Algorithm.{without, take-last, later}
 use Rattle.semantics.specs.Lists.{cons-unless}
 use Rattle.words.proofs.Words.{eqZ-sym}
 use Rattle.waitlist.specs.Waits.{Stored, pushed, shifted, others, next-place, kept-at, TakenFrom}
-use Rattle.waitlist.proofs.Laws.{held, kept, map-append, front, back}
+use Rattle.waitlist.proofs.WaitWords.{held, kept, map-append, front, back}
 
 -- ---- the loops' turns
 

@@ -1,5 +1,5 @@
 // The walk program: reads a go line and a chart, and prints the listing or the refusal. What an input prints is the
-// contract of `respond::respond_to`; no contract can speak of what the system reads and writes.
+// contract of `program::respond_to`; no contract can speak of what the system reads and writes.
 use libc::STDERR_FILENO;
 use libc::STDIN_FILENO;
 use libc::STDOUT_FILENO;
@@ -88,14 +88,14 @@ fn write_all(buf: &[u8]) -> Transfer
 
 // A failed read is no end of the input: there is then no answer. A program has no exit status to say so.
 fn main() {
-    let mut input = [0u8; respond::INPUT];
+    let mut input = [0u8; program::INPUT];
     let read = read_all(&mut input);
     if read.last < 0 {
         os::fail(b"walk: standard input");
         return;
     }
     let mut out = [0u8; semantics::LISTING_BYTES];
-    let length = respond::respond_to(&input, read.count, &mut out);
+    let length = program::respond_to(&input, read.count, &mut out);
     let written = write_all(&out[..length]);
     if written.last < 0 {
         os::fail(b"walk: standard output");

@@ -9,9 +9,9 @@ use lib.IntN.{ℤ}
 use lib.ListN.{length}
 use Rattle.semantics.specs.Algorithm.{on, full, arrive}
 use Rattle.semantics.proofs.Tidy.{queue-few}
-use Rattle.rows.specs.Rows.{rows-of}
+use Rattle.state.specs.Rows.{rows-of}
 use Rattle.waitlist.specs.Waits.{waits}
-use Rattle.waitlist.proofs.Laws.{held}
+use Rattle.waitlist.proofs.WaitWords.{held}
 use Rattle.reached.specs.Reached.{Kept}
 use Rattle.reached.proofs.Table.{rows-length, rows-sized, rows-stored}
 use Rattle.reached.proofs.Forms.{in-table, next-row, kept-stored}

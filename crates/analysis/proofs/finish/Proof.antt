@@ -3,7 +3,7 @@ use mathlib.Core.Path.{refl}
 use native.Mathlib.Numerals.{add-one}
 use borrow.Author.Needs.{needs}
 use Rattle.waitlist.specs.Waits.{waits}
-use Rattle.waitlist.proofs.Laws.{held, kept}
+use Rattle.waitlist.proofs.WaitWords.{held, kept}
 use Rattle.analysis.proofs.finish.Statement.{statement}
 use Rattle.analysis.proofs.finish.Tie as tie
 

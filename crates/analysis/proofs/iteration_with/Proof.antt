@@ -9,7 +9,7 @@ use lib.ListN.{length, take, drop}
 use Rattle.semantics.specs.Algorithm.{leave}
 use Rattle.semantics.proofs.Tidy.{more}
 use Rattle.words.proofs.Rows.{row-in}
-use Rattle.rows.specs.Rows.{rows-of}
+use Rattle.state.specs.Rows.{rows-of}
 use Rattle.waitlist.specs.Waits.{waits, TakenFrom}
 use Rattle.reached.specs.Reached.{Kept}
 use Rattle.reached.proofs.Forms.{in-table}

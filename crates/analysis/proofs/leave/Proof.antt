@@ -10,11 +10,11 @@ use lib.IntN.{ℤ}
 use lib.ListN.{length, getD}
 use Rattle.semantics.specs.Algorithm.{Out, then, visit, leave}
 use Rattle.semantics.specs.Encoding.{count}
-use Rattle.rows.specs.Rows.{rows-of}
+use Rattle.state.specs.Rows.{rows-of}
 use Rattle.waitlist.specs.Waits.{waits}
 use Rattle.reached.specs.Reached.{Kept}
 use Rattle.transfer.specs.Transfer.{edge-at, post-at, post-words, edges-from}
-use Rattle.leaving.specs.Chains.{from-at}
+use Rattle.analysis.specs.Chains.{from-at}
 use Rattle.analysis.specs.Loaded.{Is-edge, domain-of, out-of}
 use Rattle.analysis.proofs.Arrival.{edges-turn, edges-none, post-is, then-on, then-ended}
 use Rattle.analysis.proofs.Passing.{passed}

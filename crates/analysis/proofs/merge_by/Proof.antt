@@ -4,9 +4,9 @@ use Prim.Native.Nat.{_+_, _≤_}
 use native.Mathlib.Omega.{arith}
 use borrow.Author.Needs.{needs}
 use lib.ListN.{length}
-use Rattle.rows.specs.Rows.{rows-of}
+use Rattle.state.specs.Rows.{rows-of}
 use Rattle.waitlist.specs.Waits.{waits}
-use Rattle.waitlist.proofs.Laws.{held}
+use Rattle.waitlist.proofs.WaitWords.{held}
 use Rattle.reached.proofs.Table.{rows-length, rows-merged, drop-merged, rewaits-queue}
 use Rattle.reached.proofs.Forms.{in-table, kept-after}
 use Rattle.analysis.proofs.Merges.{rewaits-all}

@@ -1,7 +1,7 @@
 -- `analysis::run_core` meets its contract. Assumes nothing.
 use native.Mathlib.Omega.{arith}
 use borrow.Author.Needs.{needs}
-use Rattle.leaving.proofs.Links.{unchained}
+use Rattle.analysis.proofs.Chaining.{unchained}
 use Rattle.analysis.proofs.run_core.Statement.{statement}
 use Rattle.analysis.proofs.run_core.Tie as tie
 

@@ -10,8 +10,8 @@ use lib.ListN.{length, drop}
 use Rattle.semantics.specs.Encoding.{decode}
 use Rattle.semantics.specs.Memory.{Memory}
 use Rattle.semantics.specs.Outcomes.{Outcome, fine}
-use Rattle.form.specs.Form.{lent}
-use Rattle.writing.proofs.Written.{put-fits}
+use Rattle.checks.specs.Form.{lent}
+use Rattle.writer.proofs.Written.{put-fits}
 use Rattle.semantics.specs.Outcomes.{text-of}
 use Rattle.listing.proofs.Refusals.{Passed, listing-passed, listing-refused, listing-through}
 use Rattle.listing.proofs.listing.Statement.{statement}

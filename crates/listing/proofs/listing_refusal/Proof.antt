@@ -16,8 +16,8 @@ use Rattle.semantics.proofs.ListFacts.{from-true}
 use Rattle.semantics.proofs.StatesOk.{bounds}
 use Rattle.semantics.proofs.Encoded.{well-formed-split}
 use Rattle.semantics.proofs.Listed.{text-short}
-use Rattle.form.specs.Form.{lent}
-use Rattle.form.proofs.Facts.{enough}
+use Rattle.checks.specs.Form.{lent}
+use Rattle.checks.proofs.FormTests.{enough}
 use Rattle.listing.proofs.Refusals.{by-tests}
 use Rattle.listing.proofs.listing_refusal.Statement.{statement}
 use Rattle.listing.proofs.listing_refusal.Tie as tie

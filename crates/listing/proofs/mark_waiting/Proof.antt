@@ -11,7 +11,7 @@ use lib.ListN.{length, drop, set, getD, drop-of-length-le}
 use mir.Syntax.{w32}
 use mir.ValLaws.{toZ-ofZ}
 use Rattle.listing.specs.Pieces.{marked}
-use Rattle.listing.proofs.Facts.{marks-turn}
+use Rattle.listing.proofs.TextPieces.{marks-turn}
 use Rattle.listing.proofs.mark_waiting.Statement.{statement}
 use Rattle.listing.proofs.mark_waiting.Tie as tie
 

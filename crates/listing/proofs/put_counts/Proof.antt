@@ -1,6 +1,6 @@
 -- `listing::put_counts` meets its contract. Assumes nothing.
 use borrow.Author.Needs.{needs}
-use Rattle.writing.proofs.Written.{put-then}
+use Rattle.writer.proofs.Written.{put-then}
 use Rattle.listing.specs.Pieces.{counts-text}
 use Rattle.listing.proofs.put_counts.Statement.{statement}
 use Rattle.listing.proofs.put_counts.Tie as tie

@@ -1,7 +1,7 @@
 -- `listing::put_header` meets its contract. Assumes nothing.
 use borrow.Author.Needs.{needs}
-use Rattle.writing.proofs.Written.{put-then, put-same}
-use Rattle.listing.proofs.Facts.{header-is}
+use Rattle.writer.proofs.Written.{put-then, put-same}
+use Rattle.listing.proofs.TextPieces.{header-is}
 use Rattle.listing.proofs.put_header.Statement.{statement}
 use Rattle.listing.proofs.put_header.Tie as tie
 

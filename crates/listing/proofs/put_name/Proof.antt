@@ -11,12 +11,12 @@ use lib.ListN.{length, take, getD, length-map, List·getD-map}
 use lib.Seq.{take-suc, take-all}
 use mir.Syntax.{w32}
 use mir.ValLaws.{toZ-ofZ}
-use Rattle.encoded.specs.Encoded.{byte-of}
-use Rattle.encoded.proofs.NameBytes.{names-are-bytes}
-use Rattle.writing.specs.Writing.{Put}
-use Rattle.writing.proofs.Written.{put-then, put-same}
+use Rattle.chart.specs.Encoded.{byte-of}
+use Rattle.chart.proofs.NameBytes.{names-are-bytes}
+use Rattle.writer.specs.Writing.{Put}
+use Rattle.writer.proofs.Written.{put-then, put-same}
 use Rattle.listing.specs.Pieces.{tabbed}
-use Rattle.listing.proofs.Facts.{put-start}
+use Rattle.listing.proofs.TextPieces.{put-start}
 use Rattle.listing.proofs.put_name.Statement.{statement}
 use Rattle.listing.proofs.put_name.Tie as tie
 

@@ -1,6 +1,6 @@
 -- `listing::put_number` meets its contract. Assumes nothing.
 use borrow.Author.Needs.{needs}
-use Rattle.writing.proofs.Written.{put-then}
+use Rattle.writer.proofs.Written.{put-then}
 use Rattle.listing.proofs.put_number.Statement.{statement}
 use Rattle.listing.proofs.put_number.Tie as tie
 

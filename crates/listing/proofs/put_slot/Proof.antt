@@ -1,8 +1,8 @@
 -- `listing::put_slot` meets its contract. Assumes nothing.
 use borrow.Author.Needs.{needs}
 use Rattle.semantics.specs.Encoding.{decode}
-use Rattle.writing.proofs.Written.{put-then, put-same}
-use Rattle.listing.proofs.Facts.{slot-is}
+use Rattle.writer.proofs.Written.{put-then, put-same}
+use Rattle.listing.proofs.TextPieces.{slot-is}
 use Rattle.listing.proofs.put_slot.Statement.{statement}
 use Rattle.listing.proofs.put_slot.Tie as tie
 

@@ -17,9 +17,9 @@ use Rattle.semantics.specs.Memory.{width, state-in, states-in}
 use Rattle.semantics.specs.Listing.{slot-text, slots-text}
 use Rattle.words.proofs.Rows.{span, part-length, row-in}
 use Rattle.semantics.proofs.Decoded.{vars-count}
-use Rattle.writing.specs.Writing.{Put}
-use Rattle.writing.proofs.Written.{put-then, put-same}
-use Rattle.listing.proofs.Facts.{put-start, slots-turn, marked-from-none}
+use Rattle.writer.specs.Writing.{Put}
+use Rattle.writer.proofs.Written.{put-then, put-same}
+use Rattle.listing.proofs.TextPieces.{put-start, slots-turn, marked-from-none}
 use Rattle.listing.proofs.put_slots.Statement.{statement}
 use Rattle.listing.proofs.put_slots.Tie as tie
 

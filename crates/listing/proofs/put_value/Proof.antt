@@ -5,7 +5,7 @@ use mir.Syntax.{w32}
 use mir.Facts.{sfits-lit}
 use mir.ValLaws.{toZ-ofZ}
 use Rattle.words.proofs.Words.{bits-eq, bits-ne}
-use Rattle.writing.proofs.Written.{put-then}
+use Rattle.writer.proofs.Written.{put-then}
 use Rattle.listing.proofs.put_value.Statement.{statement}
 use Rattle.listing.proofs.put_value.Tie as tie
 

@@ -9,10 +9,10 @@ use lib.ListN.{length, take}
 use lib.Seq.{take-all}
 use mir.Syntax.{w32}
 use mir.ValLaws.{toZ-ofZ}
-use Rattle.writing.specs.Writing.{Put}
-use Rattle.writing.proofs.Written.{put-then, put-same}
+use Rattle.writer.specs.Writing.{Put}
+use Rattle.writer.proofs.Written.{put-then, put-same}
 use Rattle.listing.specs.Pieces.{values-text}
-use Rattle.listing.proofs.Facts.{values-turn, put-start}
+use Rattle.listing.proofs.TextPieces.{values-turn, put-start}
 use Rattle.listing.proofs.put_values.Statement.{statement}
 use Rattle.listing.proofs.put_values.Tie as tie
 

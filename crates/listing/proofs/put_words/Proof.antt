@@ -1,6 +1,6 @@
 -- `listing::put_words` meets its contract. Assumes nothing.
 use borrow.Author.Needs.{needs}
-use Rattle.writing.proofs.Written.{put-then}
+use Rattle.writer.proofs.Written.{put-then}
 use Rattle.listing.specs.Pieces.{words-text}
 use Rattle.listing.proofs.put_words.Statement.{statement}
 use Rattle.listing.proofs.put_words.Tie as tie

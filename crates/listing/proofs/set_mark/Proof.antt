@@ -1,7 +1,7 @@
 -- `listing::set_mark` meets its contract. Assumes nothing.
 use mathlib.Core.Bool.{true}
 use borrow.Author.Needs.{needs}
-use Rattle.listing.proofs.Facts.{set-past}
+use Rattle.listing.proofs.TextPieces.{set-past}
 use Rattle.listing.proofs.set_mark.Statement.{statement}
 use Rattle.listing.proofs.set_mark.Tie as tie
 

@@ -8,9 +8,9 @@ use lib.Seq.{length-take-le}
 use Rattle.semantics.specs.Encoding.{decode}
 use Rattle.semantics.specs.Memory.{width}
 use Rattle.semantics.proofs.Listed.{few-used}
-use Rattle.form.specs.Form.{lent}
-use Rattle.writing.proofs.Written.{put-then, put-same}
-use Rattle.listing.proofs.Facts.{counts-in-order, listing-is}
+use Rattle.checks.specs.Form.{lent}
+use Rattle.writer.proofs.Written.{put-then, put-same}
+use Rattle.listing.proofs.TextPieces.{counts-in-order, listing-is}
 use Rattle.listing.proofs.write_listing.Statement.{statement}
 use Rattle.listing.proofs.write_listing.Tie as tie
 

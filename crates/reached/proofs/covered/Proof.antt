@@ -9,8 +9,8 @@ use lib.ListN.{length, take, drop}
 use borrow.Author.Needs.{needs}
 use Rattle.semantics.specs.Lists.{some-of}
 use Rattle.words.proofs.Rows.{span, part-length, row-in}
-use Rattle.rows.specs.Rows.{row-leq, rows-of}
-use Rattle.reached.proofs.Laws.{some-turn}
+use Rattle.state.specs.Rows.{row-leq, rows-of}
+use Rattle.reached.proofs.SlotLoops.{some-turn}
 use Rattle.reached.proofs.covered.Statement.{statement}
 use Rattle.reached.proofs.covered.Tie as tie
 

@@ -10,12 +10,12 @@ use borrow.Author.Needs.{needs}
 use Rattle.semantics.specs.Tidy.{Queue}
 use Rattle.semantics.proofs.Tidy.{more}
 use Rattle.words.proofs.Rows.{span, part-length, row-in, length-put, drop-put}
-use Rattle.rows.specs.Rows.{row-merge, same-words, rows-merge, rows-of}
-use Rattle.rows.proofs.Turns.{merge-turn}
+use Rattle.state.specs.Rows.{row-merge, same-words, rows-merge, rows-of}
+use Rattle.state.proofs.RowLoops.{merge-turn}
 use Rattle.waitlist.specs.Waits.{waits, Stored}
-use Rattle.waitlist.proofs.Laws.{held, kept}
+use Rattle.waitlist.proofs.WaitWords.{held, kept}
 use Rattle.reached.specs.Reached.{rewaits}
-use Rattle.reached.proofs.Laws.{unless-queue}
+use Rattle.reached.proofs.SlotLoops.{unless-queue}
 use Rattle.reached.proofs.merge_slots.Statement.{statement}
 use Rattle.reached.proofs.merge_slots.Tie as tie
 

@@ -4,11 +4,11 @@ use Prim.Native.Nat.{ℕ}
 use native.Mathlib.Omega.{arith}
 use denote.Ref.{now}
 use borrow.Author.Needs.{needs}
-use Rattle.lines.proofs.Places.{Lies, some-line, no-line}
+use Rattle.text.proofs.Places.{Lies, some-line, no-line}
 use Rattle.reader.specs.Held.{Along}
 use Rattle.reader.specs.declared.tally.Tally.{Tally}
 use Rattle.reader.specs.declared.tally.Step.the-variants as step
-use Rattle.reader.proofs.Going.{all-judged, line-judged}
+use Rattle.reader.proofs.NextLine.{all-judged, line-judged}
 use Rattle.reader.proofs.advance.Statement.{statement}
 use Rattle.reader.proofs.advance.Tie as tie
 

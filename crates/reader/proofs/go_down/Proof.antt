@@ -48,31 +48,31 @@ use denote.Triple.Table.{entered, cited}
 use denote.Triple.Walked.{says, needs, Stays, stay-none-slice, stay-slice, walkOf, goes-none-slice, goes-slice, Walks, ends-at, walked, walk-meets}
 use denote.Exit.{yes}
 use denote.Signature.{plain}
-use Rattle.lines.specs.Lines.{line-at, place-after}
-use Rattle.lines.specs.declared.Reader.{Reader}
-use Rattle.lines.specs.declared.Line.{Line}
+use Rattle.text.specs.Places.{line-at, place-after}
+use Rattle.text.specs.declared.lines.Reader.{Reader}
+use Rattle.text.specs.declared.lines.Line.{Line}
 use Rattle.reader.specs.Held.{nothing-judged, Came, Stands, Ready, Advanced}
 use Rattle.reader.specs.declared.Descent.{Descent}
-use Rattle.reader.proofs.Again.{LentAgain, lends, back}
-use Rattle.reader.proofs.Going.{at-first, ready, turns, fewer}
-use Rattle.lines.proofs.Reader as T
-use Rattle.lines.proofs.Reader.Laws as T′
-use Rattle.lines.proofs.Line as S
-use Rattle.lines.proofs.Line.Laws as S′
+use Rattle.reader.proofs.LentAgain.{LentAgain, lends, back}
+use Rattle.reader.proofs.NextLine.{at-first, ready, turns, fewer}
+use Rattle.text.proofs.lines.Reader as T
+use Rattle.text.proofs.lines.Reader.Laws as T′
+use Rattle.text.proofs.lines.Line as S
+use Rattle.text.proofs.lines.Line.Laws as S′
 use Rattle.reader.proofs.Descent as Y
 use Rattle.reader.proofs.Descent.Laws as Y′
-use Rattle.lines.proofs.open as open′
-use Rattle.lines.proofs.open.Symbol as open-def
-use Rattle.lines.proofs.open.Symbol.{name as #lines·open}
-use Rattle.lines.proofs.open.Met as open-thm
-use Rattle.lines.proofs.current as current
-use Rattle.lines.proofs.current.Symbol as current-def
-use Rattle.lines.proofs.current.Symbol.{name as #lines·current}
-use Rattle.lines.proofs.current.Met as current-thm
-use Rattle.lines.proofs.place_after as after
-use Rattle.lines.proofs.place_after.Symbol as after-def
-use Rattle.lines.proofs.place_after.Symbol.{name as #lines·place-after}
-use Rattle.lines.proofs.place_after.Met as after-thm
+use Rattle.text.proofs.lines.open as open′
+use Rattle.text.proofs.lines.open.Symbol as open-def
+use Rattle.text.proofs.lines.open.Symbol.{name as #text·lines·open}
+use Rattle.text.proofs.lines.open.Met as open-thm
+use Rattle.text.proofs.lines.current as current
+use Rattle.text.proofs.lines.current.Symbol as current-def
+use Rattle.text.proofs.lines.current.Symbol.{name as #text·lines·current}
+use Rattle.text.proofs.lines.current.Met as current-thm
+use Rattle.text.proofs.lines.place_after as after
+use Rattle.text.proofs.lines.place_after.Symbol as after-def
+use Rattle.text.proofs.lines.place_after.Symbol.{name as #text·lines·place-after}
+use Rattle.text.proofs.lines.place_after.Met as after-thm
 use Rattle.reader.proofs.begun as begun
 use Rattle.reader.proofs.begun.Symbol as begun-def
 use Rattle.reader.proofs.begun.Symbol.{name as #reader·begun}
@@ -278,7 +278,7 @@ module _ {M : Type 1} (𝓤 : URA M) (H : Heap 𝓤) (A : Atoms 𝓤) (W : Given
       split ! $ move ! (6 ∷ 1 ∷ []) $ join ! $ move ! (4 ∷ 0 ∷ []) $ join ! $ move ! (1 ∷ 0 ∷ []) $ join ! $ frame ! $
       nothing ! $ move ! (3 ∷ 0 ∷ []) $ fjoin ! $ move ! (2 ∷ 0 ∷ []) $ fjoin ! $ move ! (1 ∷ 0 ∷ []) $ fjoin ! $ frame ! $ owned ! Y.the-row (Is Y.the-row) (LL.makes Y.the-type Y′.the-plain 𝓤 H A) p _ p-is $ done !
 
-  module _ (𝓣 : Tables 𝓤 H) (known-open : Triple 𝓤 (𝓣 .C #lines·open) (Open 𝓤 H A at-mem run)) (known-current : Triple 𝓤 (𝓣 .C #lines·current) (Current 𝓤 H A at-mem run)) (known-after : Triple 𝓤 (𝓣 .C #lines·place-after) (After 𝓤 H A at-mem run))
+  module _ (𝓣 : Tables 𝓤 H) (known-open : Triple 𝓤 (𝓣 .C #text·lines·open) (Open 𝓤 H A at-mem run)) (known-current : Triple 𝓤 (𝓣 .C #text·lines·current) (Current 𝓤 H A at-mem run)) (known-after : Triple 𝓤 (𝓣 .C #text·lines·place-after) (After 𝓤 H A at-mem run))
       (known-begun : Triple 𝓤 (𝓣 .C #reader·begun) (Begun 𝓤 H A at-mem run)) (known-advance : Triple 𝓤 (𝓣 .C #reader·advance) (Advance 𝓤 H A at-mem run))
       (p₀ : Is (ShrSlice (named 0) κ₀ u8) s (v₀ ∷ [])) (room₁ : Room i32 (length ys)) (room₂ : Room i32 (length zs)) (size₁ : length ys ≡ 3160) (size₂ : length zs ≡ 128) where
     abbrev C : Calls 𝓤 H
@@ -467,8 +467,8 @@ module _ {M : Type 1} (𝓤 : URA M) (H : Heap 𝓤) (A : Atoms 𝓤) (W : Given
         -- [what the reader owns; the token; κ₂; κ₁; the names'; the table's; what s owns; _13; …]
         move ! (0 ∷ 1 ∷ 6 ∷ 5 ∷ 3 ∷ 4 ∷ 2 ∷ []) $ from-loop l₀ l₁ l₂ l₃ l₄ l₅ l₆ l₇ l₈ l₉ l₁₀ l₁₁ l₁₂ l₁₃ (start p p-is ep)))))))))))))))))))))))
 
-module _ {M : Type 1} (𝓤 : URA M) (H : Heap 𝓤) (A : Atoms 𝓤) (W : Given 𝓤 H A) (mem : Memory → SProp 𝓤) (run : Routine → Fun 𝓤) (𝓣 : Tables 𝓤 H) (known-open : Triple 𝓤 (𝓣 .C #lines·open) (Open 𝓤 H A mem run)) (known-current : Triple 𝓤 (𝓣 .C #lines·current) (Current 𝓤 H A mem run))
-    (known-after : Triple 𝓤 (𝓣 .C #lines·place-after) (After 𝓤 H A mem run)) (known-begun : Triple 𝓤 (𝓣 .C #reader·begun) (Begun 𝓤 H A mem run)) (known-advance : Triple 𝓤 (𝓣 .C #reader·advance) (Advance 𝓤 H A mem run)) where
+module _ {M : Type 1} (𝓤 : URA M) (H : Heap 𝓤) (A : Atoms 𝓤) (W : Given 𝓤 H A) (mem : Memory → SProp 𝓤) (run : Routine → Fun 𝓤) (𝓣 : Tables 𝓤 H) (known-open : Triple 𝓤 (𝓣 .C #text·lines·open) (Open 𝓤 H A mem run)) (known-current : Triple 𝓤 (𝓣 .C #text·lines·current) (Current 𝓤 H A mem run))
+    (known-after : Triple 𝓤 (𝓣 .C #text·lines·place-after) (After 𝓤 H A mem run)) (known-begun : Triple 𝓤 (𝓣 .C #reader·begun) (Begun 𝓤 H A mem run)) (known-advance : Triple 𝓤 (𝓣 .C #reader·advance) (Advance 𝓤 H A mem run)) where
   go-down-walks : Walks 𝓤 H A go-down.ended stayed (WpFn 𝓤 H (𝓣 .C) (𝓣 .Λ) code.function) (go-down.clauses 𝓤 H A mem run)
   go-down-walks = walked 𝓤 H A go-down.ended stayed (go-down.clauses 𝓤 H A mem run) (WpFn 𝓤 H (𝓣 .C) (𝓣 .Λ) code.function) (λ κs. (slice-vals, (slice-vals, (slice-vals, tt))))
       (λ κs. (shr-slice-tells (named 0) (κs .0) u8, (mut-slice-tells (named 1) (κs .1 .0) i32, (mut-slice-tells (named 2) (κs .1 .1 .0) i32, tt))))
@@ -487,8 +487,8 @@ go-down-spec 𝓤 H 𝓜 𝓖 𝓡 =
     entered 𝓤 H (tripleOf 𝓤 H (𝓖 .A) go-down.signature (go-down.spec 𝓤 H (𝓖 .A) (𝓜 .mem) (𝓡 .run)))
     (tables 𝓤 H 𝓜 𝓡 code.env .C) (tables 𝓤 H 𝓜 𝓡 code.env .Λ) #reader·go-down code.function (code.unfolded 𝓤 H 𝓜 𝓡)
     (go-down-meets 𝓤 H (𝓖 .A) (givenOf 𝓤 H 𝓜 𝓖) (𝓜 .mem) (𝓡 .run) (tablesOf 𝓤 H 𝓜 (tables 𝓤 H 𝓜 𝓡 code.env))
-    (cited 𝓤 H (Open 𝓤 H (𝓖 .A) (𝓜 .mem) (𝓡 .run)) 𝓜 𝓡 code.env #lines·open open-def.routine code.calls-lines·open (open-thm.met 𝓤 H 𝓜 𝓖 𝓡))
-    (cited 𝓤 H (Current 𝓤 H (𝓖 .A) (𝓜 .mem) (𝓡 .run)) 𝓜 𝓡 code.env #lines·current current-def.routine code.calls-lines·current (current-thm.met 𝓤 H 𝓜 𝓖 𝓡))
-    (cited 𝓤 H (After 𝓤 H (𝓖 .A) (𝓜 .mem) (𝓡 .run)) 𝓜 𝓡 code.env #lines·place-after after-def.routine code.calls-lines·place-after (after-thm.met 𝓤 H 𝓜 𝓖 𝓡))
+    (cited 𝓤 H (Open 𝓤 H (𝓖 .A) (𝓜 .mem) (𝓡 .run)) 𝓜 𝓡 code.env #text·lines·open open-def.routine code.calls-text·lines·open (open-thm.met 𝓤 H 𝓜 𝓖 𝓡))
+    (cited 𝓤 H (Current 𝓤 H (𝓖 .A) (𝓜 .mem) (𝓡 .run)) 𝓜 𝓡 code.env #text·lines·current current-def.routine code.calls-text·lines·current (current-thm.met 𝓤 H 𝓜 𝓖 𝓡))
+    (cited 𝓤 H (After 𝓤 H (𝓖 .A) (𝓜 .mem) (𝓡 .run)) 𝓜 𝓡 code.env #text·lines·place-after after-def.routine code.calls-text·lines·place-after (after-thm.met 𝓤 H 𝓜 𝓖 𝓡))
     (cited 𝓤 H (Begun 𝓤 H (𝓖 .A) (𝓜 .mem) (𝓡 .run)) 𝓜 𝓡 code.env #reader·begun begun-def.routine code.calls-reader·begun (begun-thm.met 𝓤 H 𝓜 𝓖 𝓡))
     (cited 𝓤 H (Advance 𝓤 H (𝓖 .A) (𝓜 .mem) (𝓡 .run)) 𝓜 𝓡 code.env #reader·advance advance-def.routine code.calls-reader·advance (advance-thm.met 𝓤 H 𝓜 𝓖 𝓡)))

@@ -7,7 +7,7 @@ use denote.Ref.{now}
 use borrow.Author.Needs.{needs}
 use Rattle.semantics.specs.Text.{bytes, same-bytes, fields}
 use Rattle.semantics.specs.Reading.{nth}
-use Rattle.reader.proofs.Going.{kind-var, kind-loc, kind-edge, kind-none}
+use Rattle.reader.proofs.NextLine.{kind-var, kind-loc, kind-edge, kind-none}
 use Rattle.reader.proofs.Judging.{said}
 use Rattle.reader.proofs.step.Statement.{statement}
 use Rattle.reader.proofs.step.Tie as tie

@@ -5,7 +5,7 @@ use Prim.Native.Nat.{_+_, _-_, _≤_, max}
 use lib.ListN.{length, drop}
 use denote.Ref.{now}
 use Rattle.text.specs.Fields.{up-to}
-use Rattle.text.proofs.Lines.{up-to-here, up-to-skip, up-to-end}
+use Rattle.text.proofs.LineEnds.{up-to-here, up-to-skip, up-to-end}
 use native.Mathlib.Omega.{arith}
 use Rattle.text.proofs.find.Statement.{statement}
 use Rattle.text.proofs.find.Tie as tie

@@ -9,7 +9,7 @@ use mir.Syntax.{w32}
 use mir.Val.{toZ, ofZ}
 use mir.ValLaws.{toZ-ofZ}
 use Rattle.transfer.specs.Transfer.{initial-row, initial-words}
-use Rattle.transfer.proofs.Turns.{initial-start, initial-turn, initial-end}
+use Rattle.transfer.proofs.TransferTests.{initial-start, initial-turn, initial-end}
 use Rattle.transfer.proofs.initial.Statement.{statement}
 use Rattle.transfer.proofs.initial.Tie as tie
 

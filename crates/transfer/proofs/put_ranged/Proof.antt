@@ -9,7 +9,7 @@ use mir.Val.{SFits}
 use mir.ValLaws.{toZ-ofZ}
 use Rattle.semantics.specs.Chart.{within}
 use Rattle.transfer.specs.Transfer.{set-ranged}
-use Rattle.transfer.proofs.Turns.{within-fits}
+use Rattle.transfer.proofs.TransferTests.{within-fits}
 use Rattle.transfer.proofs.put_ranged.Statement.{statement}
 use Rattle.transfer.proofs.put_ranged.Tie as tie
 

@@ -1,7 +1,7 @@
 -- `waitlist::append` meets its contract. Assumes nothing.
 use borrow.Author.Needs.{needs, sfits-of}
 use Rattle.words.proofs.Words.{told}
-use Rattle.waitlist.proofs.Laws.{put-last}
+use Rattle.waitlist.proofs.WaitWords.{put-last}
 use Rattle.waitlist.proofs.append.Statement.{statement}
 use Rattle.waitlist.proofs.append.Tie as tie
 

@@ -7,7 +7,7 @@ use Rattle.semantics.specs.Chart.{eqZ}
 use Rattle.semantics.specs.Lists.{some-of}
 use Rattle.words.proofs.Words.{told}
 use Rattle.waitlist.specs.Waits.{waits}
-use Rattle.waitlist.proofs.Laws.{front, any-some}
+use Rattle.waitlist.proofs.WaitWords.{front, any-some}
 use Rattle.waitlist.proofs.contains.Statement.{statement}
 use Rattle.waitlist.proofs.contains.Tie as tie
 

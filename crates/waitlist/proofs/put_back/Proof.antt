@@ -4,7 +4,7 @@ use native.Mathlib.Omega.{arith}
 use lib.ListN.{length}
 use borrow.Author.Needs.{needs}
 use Rattle.waitlist.specs.Waits.{waits, Stored}
-use Rattle.waitlist.proofs.Laws.{held, kept, back-room}
+use Rattle.waitlist.proofs.WaitWords.{held, kept, back-room}
 use Rattle.waitlist.proofs.put_back.Statement.{statement}
 use Rattle.waitlist.proofs.put_back.Tie as tie
 

@@ -7,7 +7,7 @@ use lib.ListN.{length}
 use borrow.Author.Needs.{needs}
 use Rattle.semantics.specs.Lists.{some-of}
 use Rattle.waitlist.specs.Waits.{waits}
-use Rattle.waitlist.proofs.Laws.{queue-room}
+use Rattle.waitlist.proofs.WaitWords.{queue-room}
 use Rattle.waitlist.proofs.wait.Statement.{statement}
 use Rattle.waitlist.proofs.wait.Tie as tie
 

@@ -4,7 +4,7 @@ use Prim.Native.Nat.{_≤_}
 use borrow.Author.Needs.{needs}
 use lib.ListN.{length}
 use lib.Seq.{length-take-le}
-use Rattle.respond.proofs.Enough.{printed-within}
+use Rattle.program.proofs.Enough.{printed-within}
 use Rattle.walk.proofs.main.Statement.{statement}
 use Rattle.walk.proofs.main.Tie as tie
 

@@ -1,0 +1,12 @@
+-- `analysis::outgoing::put` meets its contract. Assumes nothing.
+use mathlib.Core.Path.{sym}
+use borrow.Author.Needs.{needs}
+use lib.Seq.{set-out}
+use Rattle.analysis.proofs.outgoing.put.Statement.{statement}
+use Rattle.analysis.proofs.outgoing.put.Tie as tie
+
+returns-2 : tie.Need-returns-2
+returns-2 c = let a = c .before .args in sym (set-out (a .s .now) (a .i) (a .x) (c .if1 .left))
+
+pub put-spec : {M : Type 1} → statement M
+put-spec = tie.close (tie.spec (λ c. search needs) (λ c. search needs) (λ c. search needs) (λ c. search needs) returns-2)

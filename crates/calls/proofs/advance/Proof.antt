@@ -1,0 +1,75 @@
+-- `calls::advance` meets its contract: refused, nothing has changed; else the run is put into the words lent.
+-- Assumes nothing.
+use mathlib.Core.Path.{_≡_, refl, sym, ap, _∙_}
+use mathlib.Core.List.{[]}
+use native.Mathlib.Omega.{arith}
+use borrow.Author.Needs.{needs}
+use denote.Ref.{now}
+use lib.ListN.{length}
+use mir.Syntax.{w32}
+use mir.ValLaws.{toZ-ofZ}
+use Rattle.semantics.specs.Encoding.{decode}
+use Rattle.semantics.specs.Outcomes.{run-cases, refusal, run-outcome}
+use Rattle.checks.specs.Form.{lent}
+use Rattle.calls.proofs.Refusals.{RunPasses, run-passes, ends-refused, ends-through}
+use Rattle.calls.proofs.Sized.{budgeted}
+use Rattle.checks.proofs.FormTests.{enough}
+use Rattle.calls.proofs.advance.Statement.{statement}
+use Rattle.calls.proofs.advance.Tie as tie
+
+-- nothing refuses the run
+none : (c : tie.Else1) → let s = c .before .before .before .before .args in refusal (run-cases (now (s .chart)) (s .budget) (lent (now (s .table)) (now (s .list)) (s .a))) ≡ 0
+none c = let s = c .before .before .before .before in rw (sym (toZ-ofZ w32 (s .args .budget) (s .fits .budget))) (sym (c .before .run-refusal .ensures) ∙ c .if1 .left)
+
+passes : (c : tie.Else1) → let s = c .before .before .before .before .args in RunPasses (now (s .chart)) (s .budget) (lent (now (s .table)) (now (s .list)) (s .a))
+passes c = let s = c .before .before .before .before .args in run-passes (now (s .chart)) (s .budget) (lent (now (s .table)) (now (s .list)) (s .a)) (none c)
+
+returns : tie.Need-returns
+unfolding run-outcome
+returns c =
+    let k = c .before .before .run-refusal in
+    let s = c .before .before .before .before .before in
+    let m = lent (now (s .args .table)) (now (s .args .list)) (s .args .a) in
+    ends-refused (k .result) _ m [] _ _
+    (k .ensures ∙ ap (λ z. refusal (run-cases (now (s .args .chart)) z m)) (toZ-ofZ w32 (s .args .budget) (s .fits .budget)))
+    (c .before .if1 .taken) (c .refused .ensures) refl
+
+cast-run-through : tie.Need-cast-run-through
+cast-run-through c =
+    let s = c .before .before .before .before in
+    let k = budgeted (s .args .budget) (passes c .budget) in
+    rw (toZ-ofZ w32 (s .args .budget) (s .fits .budget)) (k .sign, omega (arith, k .few))
+
+run-through-requires : tie.Need-run-through-requires
+run-through-requires c κs =
+    let f = c .before .before in
+    let s = f .before .before .before .before in
+    let p = passes f in
+    let h = enough (decode (now (s .args .chart))) (s .args .a .capacity) (length (now (s .args .table))) (length (now (s .args .list))) (p .room) in
+    (p .chart, h .0, h .1, p .form)
+
+returns-2 : tie.Need-returns-2
+unfolding run-outcome
+returns-2 c =
+    let f = c .before .before .before .before .before .before in
+    let s = f .before .before .before .before in
+    let k = c .before .before .before .run-through in
+    let m = lent (now (s .args .table)) (now (s .args .list)) (s .args .a) in
+    ends-through _ m (lent (k .last .1 .1 .1 .0) (k .last .1 .1 .1 .1 .0) (k .result)) [] _ _ (none f)
+    (rw (toZ-ofZ w32 (s .args .budget) (s .fits .budget)) at (k .ensures)) (c .gone-through .ensures) refl
+
+pub advance-spec : {M : Type 1} → statement M
+advance-spec =
+    tie.close
+    (tie.spec
+    (λ c κs. search needs)
+    (λ c κs. search needs)
+    (λ c. search needs)
+    (λ c. search needs)
+    returns
+    cast-run-through
+    run-through-requires
+    (λ c κs. search needs)
+    (λ c. search needs)
+    (λ c. search needs)
+    returns-2)

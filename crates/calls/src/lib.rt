@@ -1,0 +1,227 @@
+// The public calls start and run. Each judges all it is given in document 01's order; a refused call writes nothing.
+use semantics::Analysis;
+use semantics::Answer;
+use semantics::Settings;
+ghost use mathlib.Core.Path.{_≡_};
+ghost use Prim.Native.Nat.{ℕ, _*_, _≤_};
+ghost use lib.Dec.{T};
+ghost use lib.IntN.{pos};
+ghost use lib.ListN.{length};
+ghost use Rattle.semantics.specs.declared.Analysis.{Analysis};
+ghost use Rattle.semantics.specs.Algorithm.{start, allowed};
+ghost use Rattle.semantics.specs.Encoding.{decode, well-formed};
+ghost use Rattle.semantics.specs.Memory.{width, load, analysis-ok};
+ghost use Rattle.checks.specs.Form.{lent};
+ghost use Rattle.analysis.specs.Loaded.{domain-of, Loaded};
+ghost use Rattle.transfer.specs.Transfer.{initial-row};
+ghost use Rattle.calls.specs.Calls.{Begins, Ends, Ends-called};
+ghost use Rattle.semantics.specs.Outcomes.{refusal, put-in, started, resumed, start-cases, start-outcome, run-cases, run-outcome};
+
+// What a call answers, and the record as it leaves it.
+pub struct Called {
+    pub answer: Answer,
+    pub analysis: Analysis,
+}
+
+// 11, 12, 20, 14: the first that refuses a start, or 0.
+fn start_refusal(chart: &[i32], settings: Settings, capacity: i32, table: usize, list: usize) -> u32
+    ensures { λ r. ⌜ r ≡ refusal (start-cases (now (chart .entry)) settings capacity table list) ⌝ }
+{
+    if !checks::capacity_ok(capacity) {
+        return 11;
+    }
+    let merge = settings.merge;
+    let stop = settings.stop;
+    if !checks::is_allowed(merge, stop) {
+        return 12;
+    }
+    if !chart::well_formed(chart) {
+        return 20;
+    }
+    if checks::is_short(chart, capacity as u32, table, list) {
+        return 14;
+    }
+    0
+}
+
+// 13, 20, 14, 21, 22, 23: the first that refuses a run, or 0.
+fn run_refusal(chart: &[i32], budget: i32, a: Analysis, table: &[i32], list: &[i32]) -> u32
+    ensures { λ r. ⌜ r ≡ refusal (run-cases (now (chart .entry)) budget (lent (now (table .entry)) (now (list .entry)) a)) ⌝ }
+{
+    if !checks::budget_ok(budget) {
+        return 13;
+    }
+    if !chart::well_formed(chart) {
+        return 20;
+    }
+    if checks::is_short(chart, a.capacity, table.len(), list.len()) {
+        return 14;
+    }
+    if !checks::analysis_ok(chart, table, list, a) {
+        return 21;
+    }
+    let verdict = a.verdict;
+    if analysis::has_verdict(verdict) {
+        return 22;
+    }
+    if a.iterations == semantics::MOST_ITERATIONS {
+        return 23;
+    }
+    0
+}
+
+// The initial state's row is made in the row lent, and put into slot 0.
+fn begin_with(
+    chart: &[i32],
+    settings: Settings,
+    capacity: u32,
+    table: &mut [i32],
+    list: &mut [i32],
+    row: &mut [i32],
+) -> Analysis
+    requires { ⌜ Begins (now chart) settings capacity (length (now row)) (now table) (now list) ⌝ }
+    ensures { λ r. ⌜ ((last : ℕ) → Loaded (length (now (row .entry))) last r (now (table .exit)) (now (list .exit)) (start (domain-of (now (chart .entry))) settings capacity (initial-row (now (chart .entry))))) ⌝ }
+{
+    transfer::initial(chart, row);
+    analysis::start_core(chart, settings, capacity, table, list, row)
+}
+
+// An analysis in the words of its capacity.
+fn begin(
+    chart: &[i32],
+    settings: Settings,
+    capacity: u32,
+    width: usize,
+    table: &mut [i32],
+    list: &mut [i32],
+) -> Analysis
+    requires { ⌜ Begins (now chart) settings capacity width (now table) (now list) × (width ≤ 9) ⌝ }
+    ensures { λ r. ⌜ ((last : ℕ) → Loaded width last r (now (table .exit)) (now (list .exit)) (start (domain-of (now (chart .entry))) settings capacity (initial-row (now (chart .entry))))) ⌝ }
+{
+    let mut row = [0i32; semantics::MOST_WIDTH];
+    begin_with(chart, settings, capacity, table, list, &mut row[..width])
+}
+
+// A start that no refusal stopped.
+fn start_through(
+    chart: &[i32],
+    settings: Settings,
+    capacity: u32,
+    table: &mut [i32],
+    list: &mut [i32],
+) -> Analysis
+    requires { ⌜ T (well-formed (now chart)) × T (allowed (settings .merge) (settings .stop)) × (1 ≤ capacity) × (capacity ≤ 256) × (capacity * width (decode (now chart)) ≤ length (now table)) × (capacity ≤ length (now list)) ⌝ }
+    ensures { λ r. ⌜ ((a : Analysis) → put-in (decode (now (chart .entry))) (started (decode (now (chart .entry))) settings (pos capacity)) (lent (now (table .entry)) (now (list .entry)) a) ≡ lent (now (table .exit)) (now (list .exit)) r) ⌝ }
+{
+    let width = chart::width(chart);
+    let slots = capacity as usize;
+    let size = slots * width;
+    begin(
+        chart,
+        settings,
+        capacity,
+        width,
+        &mut table[..size],
+        &mut list[..slots],
+    )
+}
+
+// A run that no refusal stopped.
+fn run_through(
+    chart: &[i32],
+    budget: u32,
+    a: Analysis,
+    table: &mut [i32],
+    list: &mut [i32],
+) -> Analysis
+    requires { ⌜ T (well-formed (now chart)) × (a .capacity * width (decode (now chart)) ≤ length (now table)) × (a .capacity ≤ length (now list)) × T (analysis-ok (decode (now chart)) (lent (now table) (now list) a)) ⌝ }
+    ensures { λ r. ⌜ put-in (decode (now (chart .entry))) (resumed (decode (now (chart .entry))) (pos budget) (load (decode (now (chart .entry))) (lent (now (table .entry)) (now (list .entry)) a))) (lent (now (table .entry)) (now (list .entry)) a) ≡ lent (now (table .exit)) (now (list .exit)) r ⌝ }
+{
+    let width = chart::width(chart);
+    let edges = chart::edge_count(chart);
+    let slots = a.capacity as usize;
+    let size = slots * width;
+    analysis::run_core(
+        chart,
+        edges,
+        width,
+        a,
+        budget,
+        &mut table[..size],
+        &mut list[..slots],
+    )
+}
+
+// Begins an analysis: the initial state in slot 0, waiting. `a` is the record before, which a refused start leaves.
+pub fn start(
+    chart: &[i32],
+    settings: Settings,
+    capacity: i32,
+    a: Analysis,
+    table: &mut [i32],
+    list: &mut [i32],
+) -> Called
+    ensures { λ r. ⌜ Ends-called (start-outcome (now (chart .entry)) settings capacity (lent (now (table .entry)) (now (list .entry)) a)) r (now (table .exit)) (now (list .exit)) ⌝ }
+{
+    let number = start_refusal(chart, settings, capacity, table.len(), list.len());
+    if number != 0 {
+        return Called {
+            answer: semantics::refused(number, 0),
+            analysis: a,
+        };
+    }
+    let begun = start_through(chart, settings, capacity as u32, table, list);
+    Called {
+        answer: semantics::gone_through(0),
+        analysis: begun,
+    }
+}
+
+// A run with the record by value, and answered.
+fn advance(chart: &[i32], budget: i32, a: Analysis, table: &mut [i32], list: &mut [i32]) -> Called
+    ensures { λ r. ⌜ Ends-called (run-outcome (now (chart .entry)) budget (lent (now (table .entry)) (now (list .entry)) a)) r (now (table .exit)) (now (list .exit)) ⌝ }
+{
+    let number = run_refusal(chart, budget, a, table, list);
+    if number != 0 {
+        return Called {
+            answer: semantics::refused(number, 0),
+            analysis: a,
+        };
+    }
+    let played = run_through(chart, budget as u32, a, table, list);
+    Called {
+        answer: semantics::gone_through(0),
+        analysis: played,
+    }
+}
+
+// Plays iterations until a verdict, until the budget is spent, or until 60,000 were played. The record is advanced in
+// place.
+pub fn run(
+    chart: &[i32],
+    budget: i32,
+    a: &mut Analysis,
+    table: &mut [i32],
+    list: &mut [i32],
+) -> Answer
+    ensures { λ r. ⌜ Ends (run-outcome (now (chart .entry)) budget (lent (now (table .entry)) (now (list .entry)) (now (a .entry)))) r (now (a .exit)) (now (table .exit)) (now (list .exit)) ⌝ }
+{
+    let r = advance(chart, budget, *a, table, list);
+    *a = r.analysis;
+    r.answer
+}
+
+// The same for a caller that holds the record by value: it is put in a local, and lent.
+pub fn run_by_value(
+    chart: &[i32],
+    budget: i32,
+    a: Analysis,
+    table: &mut [i32],
+    list: &mut [i32],
+) -> Called
+    ensures { λ r. ⌜ Ends-called (run-outcome (now (chart .entry)) budget (lent (now (table .entry)) (now (list .entry)) a)) r (now (table .exit)) (now (list .exit)) ⌝ }
+{
+    let mut analysis = a;
+    let answer = run(chart, budget, &mut analysis, table, list);
+    Called { answer, analysis }
+}

@@ -1,0 +1,98 @@
+-- The name of a location, as its words have it, and that its numbers are bytes where the words are in form.
+-- Assumes nothing.
+use mathlib.Core.Path.{_≡_, refl, ap, _∙_}
+use mathlib.Core.Bool.{Bool, true, false, _||_}
+use mathlib.Core.List.{List, [], _∷_, map}
+use Prim.Native.Nat.{ℕ, zero, suc, _+_, _*_, _≤_, _<_}
+use native.Mathlib.Omega.{arith}
+use borrow.Author.Tests.{lt-ltb}
+use lib.Dec.{T, leb, eqb, leb→le, eqb→eq}
+use lib.IntN.{ℤ, pos, natAbs}
+use lib.ListN.{length, getD, take, drop}
+use lib.Seq.{drop-drop}
+use Rattle.semantics.specs.Lists.{all}
+use Rattle.semantics.specs.Text.{between, name-byte, name-ok}
+use Rattle.semantics.specs.Chart.{Loc, eqZ}
+use Rattle.semantics.specs.Listing.{loc-text}
+use Rattle.semantics.specs.Encoding.{byte-unless, name-in, loc-in, several, count, decode, begins-with, encode, chart-ok, well-formed}
+use Rattle.semantics.proofs.Values.{and-left, and-right}
+use Rattle.semantics.proofs.StatesOk.{bounds}
+use Rattle.chart.specs.Encoded.{locations-at, byte-of}
+use Rattle.chart.proofs.Rows.{past-drop}
+
+-- location k of n
+text-at : (n k : ℕ) (ws : List ℤ) → k < n → loc-text (several loc-in 17 n ws) k ≡ loc-in (drop (17 * k) ws) .name
+text-at zero k ws h = absurd (omega arith)
+text-at (suc n) zero ws h = refl
+text-at (suc n) (suc k) ws h =
+    let e : 17 + 17 * k ≡ 17 * suc k = omega arith in
+    text-at n k (drop 17 ws) (omega arith) ∙ rw (drop-drop (17 * k) 17 ws, e)
+
+text-past : (n k : ℕ) (ws : List ℤ) → n ≤ k → loc-text (several loc-in 17 n ws) k ≡ []
+text-past zero k ws h = refl
+text-past (suc n) zero ws h = absurd (omega arith)
+text-past (suc n) (suc k) ws h = text-past n k (drop 17 ws) (omega arith)
+
+module _ (ws : List ℤ) (k : ℕ) where
+  pub name-at : k < count ws 1 → loc-text (decode ws .locs) k ≡ loc-in (drop (locations-at ws + 17 * k) ws) .name
+  unfolding decode
+  name-at h =
+      rw (past-drop 3 (count ws 0) (drop 3 ws), drop-drop (3 * count ws 0) 3 ws)
+      (text-at (count ws 1) k (drop (locations-at ws) ws) h ∙ rw (drop-drop (17 * k) (locations-at ws) ws))
+
+  pub no-name : count ws 1 ≤ k → loc-text (decode ws .locs) k ≡ []
+  unfolding decode
+  no-name h = text-past (count ws 1) k _ h
+
+-- a name has a word for each byte
+bytes-in : (n : ℕ) (ws : List ℤ) → (map natAbs (take (length (name-in n ws)) ws) ≡ name-in n ws) × (length (name-in n ws) ≤ length ws)
+bytes-in zero ws = (refl, omega arith)
+bytes-in (suc n) [] = (refl, omega arith)
+bytes-in (suc n) (x ∷ xs) = go (eqZ x (pos 0)) (bytes-in n xs) where
+  go : (b : Bool) → (map natAbs (take (length (name-in n xs)) xs) ≡ name-in n xs) × (length (name-in n xs) ≤ length xs)
+      → (map natAbs (take (length (byte-unless b x (name-in n xs))) (x ∷ xs)) ≡ byte-unless b x (name-in n xs)) × (length (byte-unless b x (name-in n xs)) ≤ length (x ∷ xs))
+  go true ih = (refl, omega arith)
+  go false ih = (ap (λ (bs : List ℕ). natAbs x ∷ bs) (ih .0), omega (arith, ih .1))
+
+pub name-words : (row : List ℤ) → map natAbs (take (length (loc-in row .name)) (drop 1 row)) ≡ loc-in row .name
+name-words row = bytes-in 16 (drop 1 row) .0
+
+-- a row with no room for its name's words has no words
+pub name-less : (row : List ℤ) → length row < length (loc-in row .name) + 1 → loc-in row .name ≡ []
+name-less [] h = refl
+name-less (x ∷ xs) h = absurd (omega (arith, bytes-in 16 xs .1))
+
+-- ---- in form, the numbers are bytes
+
+either : (a b : Bool) {P : Type 0} → (T a → P) → (T b → P) → T (a || b) → P
+either true b f g t = f t
+either false b f g t = g t
+
+small-byte : (b : ℕ) → T (name-byte b) → b < 256
+unfolding name-byte
+small-byte b t =
+    either (between 65 90 b || between 97 122 b || between 48 57 b) (eqb b 45)
+    (either (between 65 90 b || between 97 122 b) (between 48 57 b)
+    (either (between 65 90 b) (between 97 122 b) (upto 65 90 (omega arith)) (upto 97 122 (omega arith)))
+    (upto 48 57 (omega arith)))
+    (λ s. omega (arith, eqb→eq b 45 s))
+    t where
+      upto : (lo hi : ℕ) → hi < 256 → T (between lo hi b) → b < 256
+      upto lo hi h s = omega (arith, leb→le b hi (and-right (leb lo b) (leb b hi) s))
+
+small-bytes : (bs : List ℕ) (i : ℕ) → T (all name-byte bs) → getD bs i 0 < 256
+small-bytes [] i t = omega arith
+small-bytes (b ∷ bs) zero t = small-byte b (and-left (name-byte b) (all name-byte bs) t)
+small-bytes (b ∷ bs) (suc i) t = small-bytes bs i (and-right (name-byte b) (all name-byte bs) t)
+
+small-names : (ls : List Loc) (k i : ℕ) → T (all (λ l. name-ok (l .name)) ls) → getD (loc-text ls k) i 0 < 256
+small-names [] k i t = omega arith
+small-names (l ∷ ls) zero i t = small-bytes (l .name) i (and-right (between 1 16 (length (l .name))) (all name-byte (l .name)) (and-left (name-ok (l .name)) (all (λ m. name-ok (m .name)) ls) t))
+small-names (l ∷ ls) (suc k) i t = small-names ls k i (and-right (name-ok (l .name)) (all (λ m. name-ok (m .name)) ls) t)
+
+-- so `name_byte` answers the byte of the name itself
+pub names-are-bytes : (ws : List ℤ) → T (well-formed ws) → (k i : ℕ) → byte-of (getD (loc-text (decode ws .locs) k) i 0) ≡ getD (loc-text (decode ws .locs) k) i 0
+unfolding well-formed
+names-are-bytes ws t k i =
+    let b = bounds (decode ws) (and-right (begins-with (encode (decode ws)) ws) (chart-ok (decode ws)) t) in
+    rw (lt-ltb (getD (loc-text (decode ws .locs) k) i 0) 256 (small-names (decode ws .locs) k i (b .names)))

@@ -1,0 +1,48 @@
+-- `chart::location_row_ok` meets its contract. Assumes nothing.
+use mathlib.Core.Path.{_≡_}
+use Prim.Native.Nat.{_+_, _-_}
+use native.Mathlib.Omega.{arith}
+use borrow.Author.Needs.{needs, sfits-of}
+use lib.IntN.{pos}
+use mir.Facts.{sfits-lit}
+use Rattle.chart.specs.Encoded.{location-fine}
+use Rattle.words.proofs.Words.{tested}
+use Rattle.chart.proofs.location_row_ok.Statement.{statement}
+use Rattle.chart.proofs.location_row_ok.Tie as tie
+
+returns : tie.Need-returns
+unfolding location-fine
+returns c =
+    let b = c .before .before in
+    let n = b .before .before .row-name-length in
+    let k = b .before .before .before .word-at in
+    let e : n .result + 1 - 1 ≡ n .result = omega arith in
+    let d : 17 - (n .result + 1) ≡ 16 - n .result = omega arith in
+    let fk = sfits-of {z = k .result} (k .ok) in
+    rw (
+      c .all-zero .ensures,
+      b .name-bytes-ok .ensures,
+      e,
+      d,
+      n .ensures .0,
+      tested fk (k .ensures) {n = pos 0} (sfits-lit tt),
+      tested fk (k .ensures) {n = pos 1} (sfits-lit tt),
+    )
+
+pub location-row-ok-spec : {M : Type 1} → statement M
+location-row-ok-spec =
+    tie.close
+    (tie.spec
+    (λ c κs. search needs)
+    (λ c κs. search needs)
+    (λ c. search needs)
+    (λ c. search needs)
+    (λ c. search needs)
+    (λ c. search needs)
+    (λ c κs. search needs)
+    (λ c. search needs)
+    (λ c. search needs)
+    (λ c. search needs)
+    (λ c. search needs)
+    (λ c κs. search needs)
+    returns)

@@ -1,0 +1,22 @@
+-- `chart::name_byte` meets its contract. Assumes nothing.
+use mathlib.Core.Path.{_≡_, sym, ap, _∙_}
+use borrow.Author.Needs.{needs}
+use borrow.Author.Tests.{lt-ltb, le-ltb}
+use lib.IntN.{natAbs}
+use mir.Syntax.{w32}
+use mir.ValLaws.{toZ-ofZ}
+use Rattle.chart.specs.Encoded.{byte-of}
+use Rattle.chart.proofs.name_byte.Statement.{statement}
+use Rattle.chart.proofs.name_byte.Tie as tie
+
+size : (c : tie.After-magnitude) → c .magnitude .result ≡ natAbs (c .before .args .w)
+size c = rw (toZ-ofZ w32 _ (c .before .fits .w)) at (c .magnitude .ensures .0)
+
+returns : tie.Need-returns
+returns c = sym (ap byte-of (sym (size (c .before))) ∙ rw (lt-ltb (c .before .magnitude .result) 256 (c .if1 .taken)))
+
+returns-2 : tie.Need-returns-2
+returns-2 c = sym (ap byte-of (sym (size (c .before))) ∙ rw (le-ltb (c .before .magnitude .result) 256 (c .if1 .left)))
+
+pub name-byte-spec : {M : Type 1} → statement M
+name-byte-spec = tie.close (tie.spec (λ c κs. search needs) (λ c. search needs) returns returns-2)

@@ -1,0 +1,51 @@
+-- `chart::name_bytes_ok` meets its contract. Assumes nothing.
+use mathlib.Core.Path.{_≡_, refl, sym, ap, _∙_}
+use mathlib.Core.Bool.{_&&_}
+use Prim.Native.Nat.{_-_, _≤_}
+use native.Mathlib.Omega.{arith}
+use borrow.Author.Needs.{needs, sfits-of}
+use lib.IntN.{pos}
+use lib.ListN.{length, drop, getD, drop-of-length-le}
+use mir.Syntax.{w32}
+use mir.ValLaws.{toZ-ofZ}
+use Rattle.semantics.specs.Lists.{all}
+use Rattle.chart.specs.Encoded.{name-word}
+use Rattle.semantics.proofs.Values.{and-true}
+use Rattle.chart.proofs.Names.{bytes-turn}
+use Rattle.chart.proofs.name_bytes_ok.Statement.{statement}
+use Rattle.chart.proofs.name_bytes_ok.Tie as tie
+
+abbrev Inv-loop : tie.InvT-loop
+Inv-loop name ok₀ i₀ ok i = (i ≤ length name) × (all name-word name ≡ ok && all name-word (drop i name))
+
+abbrev μ-loop : tie.MeasureT-loop
+μ-loop name ok₀ i₀ ok i = length name - i
+
+loop-again : tie.Need-loop-again Inv-loop μ-loop
+loop-again c =
+    let b = c .before .before .before in
+    let ws = b .before .args .name .now in
+    let l = b .loop in
+    let e = c .is-name-byte .ensures ∙ ap name-word (toZ-ofZ w32 (getD ws (l .i) (pos 0)) (sfits-of (c .before .w .given))) in
+    (omega arith, l .inv .1 ∙ bytes-turn name-word ws (l .ok) (l .i) (c .is-name-byte .result) (c .before .before .loop-test .taken) e)
+
+returns : tie.Need-returns Inv-loop μ-loop
+returns c =
+    let l = c .before .loop in
+    let ws = c .before .before .args .name .now in
+    sym (l .inv .1 ∙ rw (drop-of-length-le ws (c .loop-test .left)) (and-true (l .ok)))
+
+pub name-bytes-ok-spec : {M : Type 1} → statement M
+name-bytes-ok-spec =
+    tie.close
+    (tie.spec
+    Inv-loop
+    μ-loop
+    (λ c. (omega arith, refl))
+    (λ c. omega arith)
+    (λ c. omega arith)
+    (λ c κs. search needs)
+    (λ c. omega arith)
+    (λ c. omega arith)
+    loop-again
+    returns)

@@ -1,0 +1,34 @@
+-- `chart::operation_ok` meets its contract. Assumes nothing.
+use mathlib.Core.Path.{sym, _∙_}
+use borrow.Author.Needs.{needs, sfits-of}
+use borrow.Author.Tests.{eq-eqb, ne-eqb}
+use Rattle.semantics.specs.Encoding.{count}
+use Rattle.chart.specs.Encoded.{operation-fine}
+use Rattle.words.proofs.Words.{told}
+use Rattle.chart.proofs.operation_ok.Statement.{statement}
+use Rattle.chart.proofs.operation_ok.Tie as tie
+
+returns : tie.Need-returns
+unfolding operation-fine
+returns c =
+    let n = c .before .before .before in
+    rw (eq-eqb (count (n .before .args .row .now) 2) 0 (sym (n .number-at .ensures .0) ∙ c .before .before .if1 .taken)) (c .all-zero .ensures)
+
+returns-2 : tie.Need-returns-2
+unfolding operation-fine
+returns-2 c =
+    let w = c .before .before in
+    let n = w .before .before in
+    let t = w .word-at in
+    rw (
+      c .operands-ok .ensures,
+      c .before .is-below .ensures,
+      told (sfits-of {z = t .result} (t .ok)) (t .ensures),
+      ← n .number-at .ensures .0,
+      ne-eqb (n .number-at .result) 0 (w .before .if1 .left),
+    )
+
+pub operation-ok-spec : {M : Type 1} → statement M
+operation-ok-spec =
+    tie.close
+    (tie.spec (λ c κs. search needs) (λ c. search needs) (λ c. search needs) (λ c. search needs) (λ c κs. search needs) returns (λ c κs. search needs) (λ c κs. search needs) (λ c κs. search needs) returns-2)

@@ -1,0 +1,27 @@
+-- `chart::two_operands_ok` meets its contract. Assumes nothing.
+use borrow.Author.Needs.{needs, sfits-of}
+use Rattle.chart.specs.Encoded.{two-fine}
+use Rattle.words.proofs.Words.{told}
+use Rattle.chart.proofs.two_operands_ok.Statement.{statement}
+use Rattle.chart.proofs.two_operands_ok.Tie as tie
+
+returns : tie.Need-returns
+unfolding two-fine
+returns c =
+    let o = c .before .before .before in
+    let a = o .before .before .word-at in
+    let x = o .before .word-at2 in
+    let b = c .before .before .word-at3 in
+    let y = c .before .word-at4 in
+    rw (
+      c .operand-ok2 .ensures,
+      o .operand-ok .ensures,
+      told (sfits-of {z = a .result} (a .ok)) (a .ensures),
+      told (sfits-of {z = x .result} (x .ok)) (x .ensures),
+      told (sfits-of {z = b .result} (b .ok)) (b .ensures),
+      told (sfits-of {z = y .result} (y .ok)) (y .ensures),
+    )
+
+pub two-operands-ok-spec : {M : Type 1} → statement M
+two-operands-ok-spec =
+    tie.close (tie.spec (λ c κs. search needs) (λ c κs. search needs) (λ c κs. search needs) (λ c κs. search needs) (λ c κs. search needs) (λ c κs. search needs) returns)

@@ -1,0 +1,2 @@
+-- Facts behind the form check.
+pub mod FormTests

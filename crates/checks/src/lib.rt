@@ -1,0 +1,255 @@
+// The tests of 11 to 14, and form rule 21: whether lent words and a record are an analysis of a chart. Leaves look at
+// one row or one part of the words; the counts are tested first, since they bound what is read after. What looks at a
+// row or a table asks that it has enough words, since 14 is judged before 21; all else is total.
+use semantics::Analysis;
+use semantics::EdgeId;
+use semantics::Mode;
+use semantics::Verdict;
+ghost use mathlib.Core.Path.{_≡_};
+ghost use mathlib.Core.Bool.{_&&_, _||_};
+ghost use Prim.Native.Nat.{_*_, _<_, _≤_};
+ghost use lib.Dec.{eqb};
+ghost use lib.IntN.{pos};
+ghost use lib.ListN.{length, drop};
+ghost use Rattle.semantics.specs.Lists.{all, all-pairs, all-of};
+ghost use Rattle.semantics.specs.Chart.{eqZ, within};
+ghost use Rattle.semantics.specs.Algorithm.{allowed};
+ghost use Rattle.semantics.specs.Encoding.{several, var-in, decode};
+ghost use Rattle.semantics.specs.Memory.{width, capacity-ok, value-ok, below, row-ok, rows-ok, each-once, is-alarm, empty-if-safe, analysis-ok};
+ghost use Rattle.semantics.specs.Outcomes.{budget-ok, short};
+ghost use Rattle.checks.specs.Form.{lent, lent-tests, record-tests};
+
+// ---- the reached table
+
+// Top, or a value of the range.
+fn value_ok(lo: i32, hi: i32, x: i32) -> bool
+    ensures { λ r. ⌜ r ≡ (eqZ x (pos 32768) || within lo hi x) ⌝ }
+{
+    (x == words::TOP) | words::lies_within(lo, hi, x)
+}
+
+// Whether each value is one of its variable.
+fn values_ok(chart: &[i32], values: &[i32]) -> bool
+    ensures { λ r. ⌜ r ≡ all-pairs value-ok (several var-in 3 (length (now (values .entry))) (drop 3 (now (chart .entry)))) (now (values .entry)) ⌝ }
+{
+    let mut i = 0;
+    while i < values.len() {
+        let lo = chart::variable_low(chart, i);
+        let hi = chart::variable_high(chart, i);
+        let x = values[i];
+        if !value_ok(lo, hi, x) {
+            return false;
+        }
+        i += 1;
+    }
+    true
+}
+
+// A row: its location and its values.
+fn row_ok(chart: &[i32], row: &[i32]) -> bool
+    requires { ⌜ length (now row) ≡ width (decode (now chart)) ⌝ }
+    ensures { λ r. ⌜ r ≡ row-ok (decode (now (chart .entry))) (now (row .entry)) ⌝ }
+{
+    let location = row[0];
+    if words::is_below(chart::location_count(chart), location) {
+        return values_ok(chart, &row[1..]);
+    }
+    false
+}
+
+// The slots in use. Slot and word offset go together.
+fn rows_ok(chart: &[i32], table: &[i32], used: usize) -> bool
+    requires { ⌜ used * width (decode (now chart)) ≤ length (now table) ⌝ }
+    ensures { λ r. ⌜ r ≡ rows-ok (decode (now (chart .entry))) used (now (table .entry)) ⌝ }
+{
+    let w = chart::width(chart);
+    let mut from = 0;
+    let mut s = 0;
+    while s < used {
+        let to = from + w;
+        if !row_ok(chart, &table[from..to]) {
+            return false;
+        }
+        from = to;
+        s += 1;
+    }
+    true
+}
+
+// ---- the waitlist
+
+// Each word is a number below n.
+fn all_below(list: &[i32], n: usize) -> bool
+    ensures { λ r. ⌜ r ≡ all (below n) (now (list .entry)) ⌝ }
+{
+    let mut i = 0;
+    while i < list.len() {
+        let x = list[i];
+        if !words::is_below(n, x) {
+            return false;
+        }
+        i += 1;
+    }
+    true
+}
+
+// No word stands twice.
+fn each_once(list: &[i32]) -> bool
+    ensures { λ r. ⌜ r ≡ each-once (now (list .entry)) ⌝ }
+{
+    let mut i = 0;
+    while i < list.len() {
+        let x = list[i];
+        i += 1;
+        if words::contains(&list[i..], x) {
+            return false;
+        }
+    }
+    true
+}
+
+// Slots in use, each named once.
+fn waits_ok(list: &[i32], used: usize) -> bool
+    ensures { λ r. ⌜ r ≡ (all (below used) (now (list .entry)) && each-once (now (list .entry))) ⌝ }
+{
+    if all_below(list, used) {
+        return each_once(list);
+    }
+    false
+}
+
+// ---- the words lent
+
+// The tests of a table and a waitlist, by the record's three counts.
+fn lent_ok(
+    chart: &[i32],
+    table: &[i32],
+    list: &[i32],
+    capacity: usize,
+    used: usize,
+    waiting: usize,
+) -> bool
+    requires { ⌜ (capacity * width (decode (now chart)) ≤ length (now table)) × (capacity ≤ length (now list)) ⌝ }
+    ensures { λ r. ⌜ r ≡ all-of (lent-tests (decode (now (chart .entry))) capacity used waiting (now (table .entry)) (now (list .entry))) ⌝ }
+{
+    if used > capacity {
+        return false;
+    }
+    if waiting > used {
+        return false;
+    }
+    if !rows_ok(chart, table, used) {
+        return false;
+    }
+    if !waits_ok(&list[..waiting], used) {
+        return false;
+    }
+    let w = chart::width(chart);
+    let from = used * w;
+    let to = capacity * w;
+    words::all_zero(&table[from..to]) & words::all_zero(&list[waiting..capacity])
+}
+
+// ---- the record
+
+fn is_alarm(v: Verdict) -> bool
+    ensures { λ r. ⌜ r ≡ is-alarm v ⌝ }
+{
+    match v {
+        Verdict::Open => false,
+        Verdict::Safe => false,
+        Verdict::Alarm => true,
+        Verdict::Full => false,
+    }
+}
+
+// Safe with nothing waiting, or another verdict with something.
+fn empty_if_safe(v: Verdict, waiting: usize) -> bool
+    ensures { λ r. ⌜ r ≡ empty-if-safe v waiting ⌝ }
+{
+    match v {
+        Verdict::Open => waiting != 0,
+        Verdict::Safe => waiting == 0,
+        Verdict::Alarm => waiting != 0,
+        Verdict::Full => waiting != 0,
+    }
+}
+
+// The settings that 12 lets pass.
+pub fn is_allowed(merge: Mode, stop: Mode) -> bool
+    ensures { λ r. ⌜ r ≡ allowed merge stop ⌝ }
+{
+    match merge {
+        Mode::Sep => match stop {
+            Mode::Sep => true,
+            Mode::Join => false,
+        },
+        Mode::Join => match stop {
+            Mode::Sep => true,
+            Mode::Join => true,
+        },
+    }
+}
+
+// No edge, or an alarm's.
+fn edge_ok(edge: EdgeId, v: Verdict) -> bool
+    ensures { λ r. ⌜ r ≡ (eqb (edge .0) 0 || is-alarm v) ⌝ }
+{
+    semantics::is_no_edge(edge) | is_alarm(v)
+}
+
+// The tests of a record alone, for a chart of so many edges.
+fn record_ok(a: Analysis, edges: usize) -> bool
+    ensures { λ r. ⌜ r ≡ all-of (record-tests edges a) ⌝ }
+{
+    let settings = a.settings;
+    let merge = settings.merge;
+    let stop = settings.stop;
+    let verdict = a.verdict;
+    let edge = a.edge;
+    let counts = (a.iterations <= semantics::MOST_ITERATIONS)
+        & semantics::is_edge_within(edges, edge);
+    let rest = ((1 <= a.capacity) & (a.capacity <= semantics::MOST_SLOTS as u32))
+        & is_allowed(merge, stop);
+    counts & edge_ok(edge, verdict) & rest & empty_if_safe(verdict, a.waiting)
+}
+
+// ---- the tests of 11, 13, 14 and 21, for other crates
+
+// A capacity that 11 lets pass.
+pub fn capacity_ok(capacity: i32) -> bool
+    ensures { λ r. ⌜ r ≡ capacity-ok capacity ⌝ }
+{
+    (1 <= capacity) & (capacity <= semantics::MOST_SLOTS as i32)
+}
+
+// A budget that 13 lets pass.
+pub fn budget_ok(budget: i32) -> bool
+    ensures { λ r. ⌜ r ≡ budget-ok budget ⌝ }
+{
+    (0 <= budget) & (budget <= semantics::MOST_ITERATIONS as i32)
+}
+
+// Fewer words are lent than the capacity takes (14).
+pub fn is_short(chart: &[i32], capacity: u32, table: usize, list: usize) -> bool
+    ensures { λ r. ⌜ r ≡ short (decode (now (chart .entry))) capacity table list ⌝ }
+{
+    let width = chart::width(chart);
+    let slots = capacity as usize;
+    (table < slots * width) | (list < slots)
+}
+
+// Form rule 21. That the words lent are enough (14) is judged before.
+pub fn analysis_ok(chart: &[i32], table: &[i32], list: &[i32], a: Analysis) -> bool
+    requires { ⌜ (a .capacity * width (decode (now chart)) ≤ length (now table)) × (a .capacity ≤ length (now list)) ⌝ }
+    ensures { λ r. ⌜ r ≡ analysis-ok (decode (now (chart .entry))) (lent (now (table .entry)) (now (list .entry)) a) ⌝ }
+{
+    let capacity = a.capacity as usize;
+    let used = a.used;
+    let waiting = a.waiting;
+    if lent_ok(chart, table, list, capacity, used, waiting) {
+        let edges = chart::edge_count(chart);
+        return record_ok(a, edges);
+    }
+    false
+}

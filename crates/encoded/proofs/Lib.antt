@@ -1,8 +1,0 @@
--- The check of the words is the check of the chart: loops and names, rows, the tests of one row, all tests; NameBytes
--- is of the name that `name` hands out.
-pub mod Facts
-pub mod Names
-pub mod Rows
-pub mod RowTests
-pub mod WellFormed
-pub mod NameBytes

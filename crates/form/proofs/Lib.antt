@@ -1,2 +1,0 @@
--- Facts behind the form check.
-pub mod Facts

@@ -1,2 +1,0 @@
--- The go line in parts.
-pub mod Asked

@@ -1,2 +1,0 @@
--- How a chain grows.
-pub mod Links

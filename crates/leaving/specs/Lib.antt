@@ -1,2 +1,0 @@
--- Chains of edges.
-pub mod Chains

@@ -1,2 +1,0 @@
--- Places of lines.
-pub mod Places

@@ -1,0 +1,19 @@
+-- `program::go_line::order_field` meets its contract. Assumes nothing.
+use borrow.Author.Needs.{needs}
+use Rattle.text.proofs.Judged.{word-by-word}
+use Rattle.program.specs.Asked.{order-res}
+use Rattle.program.proofs.go_line.order_field.Statement.{statement}
+use Rattle.program.proofs.go_line.order_field.Tie as tie
+
+pub order-field-spec : {M : Type 1} → statement M
+unfolding order-res
+order-field-spec =
+    tie.close
+    (tie.spec
+    (λ c. search needs)
+    (λ c κs. search needs)
+    (λ c. search word-by-word)
+    (λ c. search needs)
+    (λ c κs. search needs)
+    (λ c. search word-by-word)
+    (λ c. search word-by-word))

@@ -1,0 +1,28 @@
+-- `program::put_listing` meets its contract. Assumes nothing.
+use mathlib.Core.Path.{ap}
+use borrow.Author.Needs.{needs}
+use denote.Ref.{now}
+use Rattle.semantics.specs.declared.Answer.{Answer}
+use Rattle.program.proofs.Held.{shown}
+use Rattle.program.proofs.put_listing.Statement.{statement}
+use Rattle.program.proofs.put_listing.Tie as tie
+
+returns : tie.Need-returns
+returns c =
+    let s = c .before .before .before .before .before .before .before .before .before .before .before .before in
+    let a = s .args in
+    let k = c .before .before .listing in
+    shown (now (a .chart)) (s .pre .0) (a .go) (s .pre .2) _ (c .before .before .before .before .before .before .before .before .explore .ensures) (now (a .out)) _ _ (s .pre .1) (ap (λ (x : Answer). x .length) (k .ensures .0)) (k .ensures .1)
+
+pub put-listing-spec : {M : Type 1} → statement M
+put-listing-spec =
+    tie.close
+    (tie.spec
+    (λ c. search needs)
+    (λ c. search needs)
+    (λ c κs. search needs)
+    (λ c. search needs)
+    (λ c. search needs)
+    (λ c κs. search needs)
+    (λ c. search needs)
+    returns)

@@ -1,0 +1,3 @@
+-- The go line in parts; what the parts of the program ask and leave.
+pub mod Asked
+pub mod Responded

@@ -1,0 +1,202 @@
+// Reading the go line of the walk program: what it asks, and where the chart's bytes begin, or the refusal's number.
+use semantics::Mode;
+use semantics::Order;
+use semantics::Settings;
+use text::NumberRead;
+ghost use mathlib.Core.Path.{_≡_};
+ghost use Rattle.semantics.specs.Lists.{all};
+ghost use Rattle.semantics.specs.Text.{fields};
+ghost use Rattle.semantics.specs.Program.{mode-field, order-field, line-byte};
+ghost use Rattle.text.specs.Fields.{number-said};
+ghost use Rattle.program.specs.Asked.{mode-res, order-res, asked-res, sized, numbers, from-order, from-stop, from-merge, line-fields, GoRead};
+
+// What the go line asks, and where the chart's bytes begin.
+pub struct Go {
+    pub settings: Settings,
+    pub capacity: i32,
+    pub budget: i32,
+    pub chart: usize,
+}
+
+// The refusal's number, or what the go line asks.
+pub enum GoLine {
+    Refused(u32),
+    Accepted(Go),
+}
+
+// What a line asks, or the refusal's number.
+enum Asked {
+    Refused(u32),
+    Is {
+        settings: Settings,
+        capacity: i32,
+        budget: i32,
+    },
+}
+
+enum ModeRead {
+    Malformed,
+    Is(Mode),
+}
+
+enum OrderRead {
+    Malformed,
+    Is(Order),
+}
+
+fn mode_field(f: &[u8]) -> ModeRead
+    ensures { λ r. ⌜ mode-res r ≡ mode-field (now (f .entry)) ⌝ }
+{
+    if text::same_bytes(f, b"sep") {
+        return ModeRead::Is(Mode::Sep);
+    }
+    if text::same_bytes(f, b"join") {
+        return ModeRead::Is(Mode::Join);
+    }
+    ModeRead::Malformed
+}
+
+fn order_field(f: &[u8]) -> OrderRead
+    ensures { λ r. ⌜ order-res r ≡ order-field (now (f .entry)) ⌝ }
+{
+    if text::same_bytes(f, b"old") {
+        return OrderRead::Is(Order::Old);
+    }
+    if text::same_bytes(f, b"new") {
+        return OrderRead::Is(Order::New);
+    }
+    OrderRead::Malformed
+}
+
+// 11, 12, 13, once every field is well formed.
+fn sizes(settings: Settings, capacity: i32, budget: i32) -> Asked
+    ensures { λ r. ⌜ asked-res r ≡ sized settings capacity budget ⌝ }
+{
+    let merge = settings.merge;
+    let stop = settings.stop;
+    let capacity_fits = checks::capacity_ok(capacity);
+    let allowed = checks::is_allowed(merge, stop);
+    let budget_fits = checks::budget_ok(budget);
+    if !capacity_fits {
+        return Asked::Refused(11);
+    }
+    if !allowed {
+        return Asked::Refused(12);
+    }
+    if !budget_fits {
+        return Asked::Refused(13);
+    }
+    Asked::Is {
+        settings,
+        capacity,
+        budget,
+    }
+}
+
+// Capacity and budget, numbers in form only, then their sizes.
+fn counts(settings: Settings, capacity: NumberRead, budget: NumberRead) -> Asked
+    ensures { λ r. ⌜ asked-res r ≡ numbers settings (number-said capacity) (number-said budget) ⌝ }
+{
+    match capacity {
+        NumberRead::Malformed => Asked::Refused(6),
+        NumberRead::Is(c) => match budget {
+            NumberRead::Malformed => Asked::Refused(6),
+            NumberRead::Is(b) => sizes(settings, c, b),
+        },
+    }
+}
+
+// The fields from the order on; then those from the stop and from the merge on.
+fn from_order(merge: Mode, stop: Mode, line: &[u8]) -> Asked
+    ensures { λ r. ⌜ asked-res r ≡ from-order merge stop (fields (now (line .entry))) ⌝ }
+{
+    match order_field(text::field(line, 3)) {
+        OrderRead::Malformed => Asked::Refused(6),
+        OrderRead::Is(order) => {
+            let settings = Settings { merge, stop, order };
+            let capacity = text::number(text::field(line, 4));
+            let budget = text::number(text::field(line, 5));
+            counts(settings, capacity, budget)
+        }
+    }
+}
+
+fn from_stop(merge: Mode, line: &[u8]) -> Asked
+    ensures { λ r. ⌜ asked-res r ≡ from-stop merge (fields (now (line .entry))) ⌝ }
+{
+    match mode_field(text::field(line, 2)) {
+        ModeRead::Malformed => Asked::Refused(6),
+        ModeRead::Is(stop) => from_order(merge, stop, line),
+    }
+}
+
+fn from_merge(line: &[u8]) -> Asked
+    ensures { λ r. ⌜ asked-res r ≡ from-merge (fields (now (line .entry))) ⌝ }
+{
+    match mode_field(text::field(line, 1)) {
+        ModeRead::Malformed => Asked::Refused(6),
+        ModeRead::Is(merge) => from_stop(merge, line),
+    }
+}
+
+// The line without its LF, by 5 and what follows it.
+fn judged(line: &[u8]) -> Asked
+    ensures { λ r. ⌜ asked-res r ≡ line-fields (fields (now (line .entry))) ⌝ }
+{
+    if !text::filled(line, 6) {
+        return Asked::Refused(5);
+    }
+    if !text::same_bytes(text::field(line, 0), b"go") {
+        return Asked::Refused(6);
+    }
+    from_merge(line)
+}
+
+// A tab, or 0x21..0x7E: what may stand before the LF.
+fn byte_ok(b: u8) -> bool
+    ensures { λ r. ⌜ r ≡ line-byte b ⌝ }
+{
+    (b == semantics::TAB) | ((b'!' <= b) & (b <= b'~'))
+}
+
+fn bytes_ok(line: &[u8]) -> bool
+    ensures { λ r. ⌜ r ≡ all line-byte (now (line .entry)) ⌝ }
+{
+    let mut i = 0;
+    while i < line.len() {
+        if !byte_ok(line[i]) {
+            return false;
+        }
+        i += 1;
+    }
+    true
+}
+
+// The input's first line is judged; the chart is what follows its LF.
+pub fn read(input: &[u8]) -> GoLine
+    ensures { λ r. ⌜ GoRead (now (input .entry)) r ⌝ }
+{
+    let end = text::line_end(input, 0);
+    if (64 < input.len()) & (64 <= end) {
+        return GoLine::Refused(1);
+    }
+    if !bytes_ok(&input[..end]) {
+        return GoLine::Refused(2);
+    }
+    if end == input.len() {
+        return GoLine::Refused(3);
+    }
+    match judged(&input[..end]) {
+        Asked::Refused(n) => GoLine::Refused(n),
+        Asked::Is {
+            settings,
+            capacity,
+            budget,
+        } => GoLine::Accepted(Go {
+            settings,
+            capacity,
+            budget,
+            chart: end + 1,
+        }),
+    }
+}

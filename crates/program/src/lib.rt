@@ -1,0 +1,144 @@
+// From input bytes to output bytes: all of the walk program but its reading and writing.
+use go_line::Go;
+use go_line::GoLine;
+use semantics::Analysis;
+use semantics::EdgeId;
+use semantics::Settings;
+use semantics::Verdict;
+ghost use mathlib.Core.Path.{_≡_};
+ghost use mathlib.Core.List.{List, _++_};
+ghost use Prim.Native.Nat.{ℕ, min};
+ghost use lib.Dec.{T};
+ghost use lib.ListN.{length, drop};
+ghost use Rattle.semantics.specs.Encoding.{decode, well-formed};
+ghost use Rattle.semantics.specs.Listing.{listing-text, refused-text};
+ghost use Rattle.semantics.specs.Reading.{read};
+ghost use Rattle.semantics.specs.Outcomes.{started};
+ghost use Rattle.semantics.specs.Program.{explored, print-read, output};
+ghost use Rattle.checks.specs.Form.{lent};
+ghost use Rattle.writer.specs.Writing.{Put};
+ghost use Rattle.program.specs.Responded.{no-analysis, asking, Accepted, Lends, Holds, Printed, Buffered};
+
+mod go_line;
+
+// The words lent suffice for every chart and every capacity: 3,163, 2,304 and 256.
+const CHART_WORDS: usize = semantics::COUNTS_WORDS + semantics::ROWS_WORDS;
+
+const TABLE_WORDS: usize = semantics::MOST_SLOTS * semantics::MOST_WIDTH;
+
+const LIST_WORDS: usize = semantics::MOST_SLOTS;
+
+// The most that the program reads of its input: 64 bytes for the go line, 32,768 for the chart, and one more that tells
+// a chart too long. What stands past them changes nothing, which `respond_to` says.
+pub const INPUT: usize = 32833;
+
+// The line of a refusal.
+fn put_refusal(out: &mut [u8], number: u32, line: usize) -> usize
+    ensures { λ r. ⌜ Put 0 (refused-text number line) (now (out .entry)) (now (out .exit)) r ⌝ }
+{
+    let first = writer::put_bytes(out, 0, b"refused\t");
+    let tab = writer::put_decimal(out, first, number as usize);
+    let second = writer::put_byte(out, tab, semantics::TAB);
+    let end = writer::put_decimal(out, second, line);
+    writer::put_byte(out, end, semantics::LF)
+}
+
+// The record before the first start, which a start that goes through does not look at.
+fn no_analysis(settings: Settings) -> Analysis
+    ensures { λ r. ⌜ r ≡ no-analysis settings ⌝ }
+{
+    Analysis {
+        settings,
+        capacity: 0,
+        iterations: 0,
+        used: 0,
+        waiting: 0,
+        verdict: Verdict::Open,
+        edge: EdgeId(0),
+    }
+}
+
+// The start. It goes through, and so do the run and the listing: the go line was accepted, and the words lent are
+// enough. So no answer of theirs is looked at but the listing's length.
+fn begin(chart: &[i32], go: Go, table: &mut [i32], list: &mut [i32]) -> Analysis
+    requires { ⌜ Lends (now chart) (now table) (now list) × Accepted go ⌝ }
+    ensures { λ r. ⌜ Holds (decode (now (chart .entry))) (started (decode (now (chart .entry))) (go .settings) (go .capacity)) (lent (now (table .exit)) (now (list .exit)) r) ⌝ }
+{
+    let settings = go.settings;
+    let a = no_analysis(settings);
+    let called = calls::start(chart, settings, go.capacity, a, table, list);
+    called.analysis
+}
+
+// The start, and the run unless the start gave a verdict.
+fn explore(chart: &[i32], go: Go, table: &mut [i32], list: &mut [i32]) -> Analysis
+    requires { ⌜ Lends (now chart) (now table) (now list) × Accepted go ⌝ }
+    ensures { λ r. ⌜ Holds (decode (now (chart .entry))) (explored (decode (now (chart .entry))) (asking go)) (lent (now (table .exit)) (now (list .exit)) r) ⌝ }
+{
+    let a = begin(chart, go, table, list);
+    let verdict = a.verdict;
+    if analysis::has_verdict(verdict) {
+        return a;
+    }
+    let called = calls::run_by_value(chart, go.budget, a, table, list);
+    called.analysis
+}
+
+// The listing of an accepted chart.
+fn put_listing(chart: &[i32], go: Go, out: &mut [u8]) -> usize
+    requires { ⌜ T (well-formed (now chart)) × (length (now out) ≡ 24576) × Accepted go ⌝ }
+    ensures { λ r. ⌜ Printed (listing-text (decode (now (chart .entry))) (explored (decode (now (chart .entry))) (asking go))) (now (out .entry)) (now (out .exit)) r ⌝ }
+{
+    let mut table = [0i32; TABLE_WORDS];
+    let mut list = [0i32; LIST_WORDS];
+    let a = explore(chart, go, &mut table, &mut list);
+    let answer = listing::listing(chart, a, &table, &list, out);
+    answer.length
+}
+
+// The chart's refusal, or its listing.
+fn put_chart(chart: &[u8], go: Go, out: &mut [u8]) -> usize
+    requires { ⌜ (length (now out) ≡ 24576) × Accepted go ⌝ }
+    ensures { λ r. ⌜ Printed (print-read (asking go) (read (now (chart .entry)))) (now (out .entry)) (now (out .exit)) r ⌝ }
+{
+    let mut words = [0i32; CHART_WORDS];
+    let answer = reader::read(chart, &mut words);
+    if answer.number != 0 {
+        return put_refusal(out, answer.number, answer.line);
+    }
+    put_listing(&words, go, out)
+}
+
+// What the program prints for an input: its bytes at the front of those lent, and how many they are.
+pub fn respond(input: &[u8], out: &mut [u8; semantics::LISTING_BYTES]) -> usize
+    ensures { λ r. ⌜ r ≡ length (output (now (input .entry))) ⌝ }
+    ensures { λ _. ⌜ now (out .exit) ≡ output (now (input .entry)) ++ drop (length (output (now (input .entry)))) (now (out .entry)) ⌝ }
+{
+    match go_line::read(input) {
+        GoLine::Refused(n) => put_refusal(out, n, 0),
+        GoLine::Accepted(go) => {
+            let at = go.chart;
+            put_chart(&input[at..], go, out)
+        }
+    }
+}
+
+fn least(a: usize, b: usize) -> usize
+    ensures { λ r. ⌜ r ≡ min a b ⌝ }
+{
+    if a < b { a } else { b }
+}
+
+// What the program prints, by the buffer that it read into and the count of bytes read: a count below the size says that
+// the input is at its end. The output is that of every input of which this can have been read.
+pub fn respond_to(
+    buffer: &[u8; INPUT],
+    count: usize,
+    out: &mut [u8; semantics::LISTING_BYTES],
+) -> usize
+    ensures { λ r. ⌜ ((input : List ℕ) → Buffered input (now (buffer .entry)) count → Printed (output input) (now (out .entry)) (now (out .exit)) r) ⌝ }
+{
+    let bytes: &[u8] = buffer;
+    let n = least(count, bytes.len());
+    respond(&bytes[..n], out)
+}

@@ -1,2 +1,0 @@
--- What the parts of the program ask and leave.
-pub mod Responded

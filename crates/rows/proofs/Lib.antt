@@ -1,2 +1,0 @@
--- Turns of the loops over rows.
-pub mod Turns

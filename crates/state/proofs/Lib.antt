@@ -1,0 +1,2 @@
+-- Turns of the loops over rows.
+pub mod RowLoops

@@ -1,0 +1,80 @@
+-- The turns of the loops over rows of words, and the merge of a table row by row. Assumes nothing.
+use mathlib.Core.Path.{_≡_, refl, ap}
+use mathlib.Core.Bool.{Bool, true, false, _&&_}
+use mathlib.Core.List.{List, [], _∷_, _++_, append-nil, append-assoc}
+use Prim.Native.Nat.{ℕ, suc, _+_, _≤_, _<_}
+use native.Mathlib.Numerals.{add-one}
+use native.Mathlib.Omega.{arith}
+use lib.IntN.{ℤ, pos}
+use lib.ListN.{length, take, drop, getD, set, drop-of-length-le}
+use lib.Seq.{drop-cons, take-all, take-suc-set, drop-set-lt, append-snoc}
+use Rattle.semantics.specs.Lists.{pick}
+use Rattle.semantics.specs.Chart.{eqZ}
+use Rattle.semantics.proofs.Values.{and-true}
+use Rattle.words.proofs.Words.{eqZ-refl}
+use Rattle.words.proofs.Rows.{take-put, drop-put}
+use Rattle.state.specs.Rows.{word-leq, word-join, words-leq, words-join, same-words, same-place, row-join, row-merge, rows-merge}
+
+and-assoc : (a b c : Bool) → a && (b && c) ≡ (a && b) && c
+and-assoc true b c = refl
+and-assoc false b c = refl
+
+pub same-refl : (s : List ℤ) → same-words s s ≡ true
+same-refl [] = refl
+same-refl (y ∷ s) = rw (eqZ-refl y, same-refl s)
+
+-- what is left from place i on; s may be changed at i meanwhile
+module _ (e s : List ℤ) (i : ℕ) (he : i < length e) (hs : i < length s) where
+  pub leq-turn : (t : Bool) → t && words-leq (drop i e) (drop i s)
+      ≡ (t && word-leq (getD e i (pos 0)) (getD s i (pos 0))) && words-leq (drop (i + 1) e) (drop (i + 1) s)
+  leq-turn t = rw (add-one, drop-cons e i (pos 0), drop-cons s i (pos 0)) (and-assoc t _ _)
+
+  module _ (v : ℤ) (q : v ≡ word-join (getD e i (pos 0)) (getD s i (pos 0))) where
+    kept : drop (suc i) (set s i v) ≡ drop (suc i) s
+    kept = drop-set-lt (suc i) s i v (omega arith)
+
+    pub join-turn : take i s ++ words-join (drop i e) (drop i s) ≡ take (i + 1) (set s i v) ++ words-join (drop (i + 1) e) (drop (i + 1) (set s i v))
+    join-turn = rw (add-one, kept, take-suc-set s i v, append-snoc, drop-cons e i (pos 0), drop-cons s i (pos 0), q)
+
+    pub same-turn : (t : Bool) → t && same-words (words-join (drop i e) (drop i s)) (drop i s)
+        ≡ (t && eqZ v (getD s i (pos 0))) && same-words (words-join (drop (i + 1) e) (drop (i + 1) (set s i v))) (drop (i + 1) (set s i v))
+    same-turn t = rw (add-one, kept, drop-cons e i (pos 0), drop-cons s i (pos 0), q) (and-assoc t _ _)
+
+module _ (e s : List ℤ) (i : ℕ) (he : length e ≤ i) (hs : length s ≤ i) where
+  pub leq-end : (t : Bool) → t && words-leq (drop i e) (drop i s) ≡ t
+  leq-end t = rw (drop-of-length-le e he, drop-of-length-le s hs) (and-true t)
+
+  pub same-end : (t : Bool) → t && same-words (words-join (drop i e) (drop i s)) (drop i s) ≡ t
+  same-end t = rw (drop-of-length-le e he, drop-of-length-le s hs) (and-true t)
+
+  pub join-end : take i s ++ words-join (drop i e) (drop i s) ≡ s
+  join-end = rw (drop-of-length-le s hs, drop-of-length-le e he, take-all i s hs) (append-nil s)
+
+-- nothing done yet
+pub same-start : (e s : List ℤ) → 0 < length s → same-words (row-join e s) s ≡ same-words (words-join (drop 1 e) (drop 1 s)) (drop 1 s)
+same-start e [] n = absurd (omega arith)
+same-start e (y ∷ s) n = rw (eqZ-refl y)
+
+-- one row of w words at a, merged
+module _ (e t : List ℤ) (a w k : ℕ) (ws : List ℤ) (fits : a + w ≤ length t) (len : length ws ≡ w)
+    (is-merged : ws ≡ row-merge e (take w (drop a t))) where
+  pub merge-turn : take a t ++ rows-merge e w (suc k) (drop a t)
+      ≡ take (a + w) (take a t ++ (ws ++ drop w (drop a t))) ++ rows-merge e w k (drop (a + w) (take a t ++ (ws ++ drop w (drop a t))))
+  merge-turn = rw (take-put t a w ws fits len, drop-put t a w ws fits len, append-assoc, is-merged)
+
+-- ---- lengths
+
+pub length-words-join : (e s : List ℤ) → length (words-join e s) ≡ length s
+length-words-join [] s = refl
+length-words-join (x ∷ e) [] = refl
+length-words-join (x ∷ e) (y ∷ s) = ap suc (length-words-join e s)
+
+pub length-row-join : (e s : List ℤ) → length (row-join e s) ≡ length s
+length-row-join e [] = length-words-join (drop 1 e) []
+length-row-join e (y ∷ s) = ap suc (length-words-join (drop 1 e) s)
+
+pub length-row-merge : (e s : List ℤ) → length (row-merge e s) ≡ length s
+length-row-merge e s = by-case (same-place e s) where
+  by-case : (t : Bool) → length (pick t (row-join e s) s) ≡ length s
+  by-case true = length-row-join e s
+  by-case false = refl

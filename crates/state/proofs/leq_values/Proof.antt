@@ -1,0 +1,56 @@
+-- `state::leq_values` meets its contract: what is said of the whole is said of the words passed and of what is left.
+-- Assumes nothing.
+use mathlib.Core.Path.{_≡_, sym, refl, _∙_}
+use mathlib.Core.Bool.{_&&_}
+use Prim.Native.Nat.{_-_, _≤_}
+use native.Mathlib.Omega.{arith}
+use borrow.Author.Needs.{needs, sfits-of}
+use lib.IntN.{pos}
+use lib.ListN.{length, drop, getD}
+use mir.Syntax.{w32}
+use mir.ValLaws.{toZ-ofZ}
+use Rattle.state.specs.Rows.{word-leq, words-leq}
+use Rattle.state.proofs.RowLoops.{leq-turn, leq-end}
+use Rattle.state.proofs.leq_values.Statement.{statement}
+use Rattle.state.proofs.leq_values.Tie as tie
+
+abbrev Inv-loop : tie.InvT-loop
+Inv-loop e s ok₀ i₀ ok i = (1 ≤ i) × (i ≤ length s) × (words-leq (drop 1 e) (drop 1 s) ≡ ok && words-leq (drop i e) (drop i s))
+
+abbrev μ-loop : tie.MeasureT-loop
+μ-loop e s ok₀ i₀ ok i = length s - i
+
+loop-again : tie.Need-loop-again Inv-loop μ-loop
+loop-again c =
+    let b = c .before .before .before .before in
+    let a = b .before .args in
+    let e = a .e .now in
+    let s = a .s .now in
+    let i = b .loop .i in
+    let bx = toZ-ofZ w32 (getD e i (pos 0)) (sfits-of (c .before .before .x .given)) in
+    let by = toZ-ofZ w32 (getD s i (pos 0)) (sfits-of (c .before .y .given)) in
+    let found : c .leq-word .result ≡ word-leq (getD e i (pos 0)) (getD s i (pos 0)) = rw (bx, by) at (c .leq-word .ensures) in
+    (omega arith, omega arith, b .loop .inv .2 ∙ leq-turn e s i (omega arith) (omega arith) (b .loop .ok) ∙ rw found)
+
+returns : tie.Need-returns Inv-loop μ-loop
+returns c =
+    let b = c .before in
+    let a = b .before .args in
+    sym (b .loop .inv .2 ∙ leq-end (a .e .now) (a .s .now) (b .loop .i) (omega arith) (omega arith) (b .loop .ok))
+
+pub leq-values-spec : {M : Type 1} → statement M
+leq-values-spec =
+    tie.close
+    (tie.spec
+    Inv-loop
+    μ-loop
+    (λ c. (omega arith, omega arith, refl))
+    (λ c. omega arith)
+    (λ c. omega arith)
+    (λ c. omega arith)
+    (λ c. omega arith)
+    (λ c κs. search needs)
+    (λ c. omega arith)
+    (λ c. omega arith)
+    loop-again
+    returns)

@@ -1,0 +1,55 @@
+-- `tarknotter::tarknotter_start` meets its contract: 6, or `calls::start` on the settings and the record as they are
+-- read. Assumes nothing.
+use mathlib.Core.Path.{sym, _∙_}
+use borrow.Author.Needs.{needs}
+use borrow.Author.Tests.{not-true, not-false}
+use denote.Ref.{now}
+use mir.Syntax.{w32}
+use mir.ValLaws.{toZ-ofZ}
+use Rattle.semantics.specs.Memory.{Memory}
+use Rattle.checks.specs.Form.{lent}
+use Rattle.tarknotter.specs.Records.{analysis-in}
+use Rattle.tarknotter.proofs.Left.{left, start-named, start-unnamed}
+use Rattle.tarknotter.proofs.tarknotter_start.Statement.{statement}
+use Rattle.tarknotter.proofs.tarknotter_start.Tie as tie
+
+abbrev memory : tie.Start → Memory
+memory s = lent (now (s .args .table)) (now (s .args .list)) (analysis-in (s .args .«record»))
+
+returns : tie.Need-returns
+returns c =
+    let i = c .before .before in
+    let n = i .before .settings-named in
+    let s = i .before .before in
+    rw (c .replied .ensures, c .before .refused .ensures)
+    (start-unnamed (now (s .args .chart)) (s .args .merge) (s .args .stop) (s .args .order) (s .args .capacity) (memory s) (s .args .«record»)
+    (sym (n .ensures) ∙ not-true (n .result) (i .if1 .taken)))
+
+returns-2 : tie.Need-returns-2
+returns-2 c =
+    let k = c .before .before .before in
+    let i = k .before .before .before in
+    let z = i .before in
+    let n = z .before .before in
+    let s = n .before in
+    let named =
+    start-named (now (s .args .chart)) (s .args .merge) (s .args .stop) (s .args .order) (s .args .capacity) (memory s)
+    (sym (n .settings-named .ensures) ∙ not-false (n .settings-named .result) (z .before .if1 .left))
+    in
+    left (rw (toZ-ofZ w32 (s .args .capacity) (s .fits .capacity), i .analysis-in .ensures, z .settings-in .ensures, named) at (k .start .ensures)) (c .answered .ensures)
+
+pub tarknotter-start-spec : {M : Type 1} → statement M
+tarknotter-start-spec =
+    tie.close
+    (tie.spec
+    (λ c κs. search needs)
+    (λ c κs. search needs)
+    (λ c κs. search needs)
+    returns
+    (λ c κs. search needs)
+    (λ c κs. search needs)
+    (λ c κs. search needs)
+    (λ c κs. search needs)
+    (λ c. search needs)
+    (λ c. search needs)
+    returns-2)

@@ -1,0 +1,52 @@
+-- Where a line lies, by the test of the reader's place, and back. Assumes nothing.
+use mathlib.Core.Path.{_≡_, refl}
+use mathlib.Core.Bool.{Bool, true, false}
+use mathlib.Core.List.{List}
+use Prim.Native.Nat.{ℕ, _+_, _≤_, _<_}
+use native.Mathlib.Omega.{arith}
+use lib.Dec.{leb}
+use lib.ListN.{length, drop, length-drop}
+use borrow.Author.Tests.{le-leb, lt-leb, leb-true, leb-false}
+use Rattle.semantics.specs.Lists.{pick}
+use Rattle.text.proofs.LineEnds.{up-to-le}
+use Rattle.text.specs.Places.{end-of, line-at}
+use Rattle.text.specs.declared.lines.Line.the-variants.{Text, End}
+
+-- the line at a place is text[start..end], and the next one begins at `next`
+pub record Lies (text : List ℕ) (at start end next : ℕ) : Type 0 where
+  pub here : at < length text
+  pub begins : start ≡ at
+  pub ends : end ≡ end-of text at
+  pub within : end ≤ length text
+  pub on : next ≡ end + 1
+
+module _ (text : List ℕ) (at : ℕ) where
+  pub line-none : length text ≤ at → line-at text at ≡ End
+  unfolding line-at
+  line-none h = simp (le-leb _ _ h)
+
+  pub line-some : {e : ℕ} → at < length text → e ≡ end-of text at → line-at text at ≡ Text at e (e + 1)
+  unfolding line-at
+  line-some h q = rw q (simp (lt-leb _ _ h))
+
+  ends-within : at < length text → end-of text at ≤ length text
+  ends-within h = let u = up-to-le 10 (drop at text) in let l = length-drop at text in omega (arith, u, l)
+
+  pub some-line : {start end next : ℕ} → line-at text at ≡ Text start end next → Lies text at start end next
+  unfolding line-at
+  some-line {start} {end} {next} = by-test (leb (length text) at) refl where
+    by-test : (b : Bool) → leb (length text) at ≡ b → pick b End (Text at (end-of text at) (end-of text at + 1)) ≡ Text start end next → Lies text at start end next
+    by-test true q e = let z : _≡_ {A = ℕ} 0 1 = cc in absurd (omega arith)
+    by-test false q e =
+        let h = leb-false (length text) at q in
+        let b : at ≡ start = cc in
+        let f : end-of text at ≡ end = cc in
+        let n : end-of text at + 1 ≡ next = cc in
+        record { here = h; begins = omega arith; ends = omega arith; within = omega (arith, ends-within h); on = omega arith }
+
+  pub no-line : line-at text at ≡ End → length text ≤ at
+  unfolding line-at
+  no-line = by-test (leb (length text) at) refl where
+    by-test : (b : Bool) → leb (length text) at ≡ b → pick b End (Text at (end-of text at) (end-of text at + 1)) ≡ End → length text ≤ at
+    by-test true q e = leb-true (length text) at q
+    by-test false q e = let z : _≡_ {A = ℕ} 0 1 = cc in absurd (omega arith)
