@@ -94,7 +94,13 @@ fn goes(s: Step) -> bool
 }
 
 // One line more; or the text is at its end.
-fn advance(p: Descent, table: &mut [i32], names: &mut [i32], text: &[u8], l: text::lines::Line) -> Descent
+fn advance(
+    p: Descent,
+    table: &mut [i32],
+    names: &mut [i32],
+    text: &[u8],
+    l: text::lines::Line,
+) -> Descent
     requires { ⌜ Ready (now text) p l × (length (now table) ≡ 3160) × (length (now names) ≡ 128) ⌝ }
     ensures { λ r. ⌜ Advanced (now (text .entry)) l p (now (table .entry)) (now (names .entry)) r (now (table .exit)) (now (names .exit)) ⌝ }
 {
