@@ -15,12 +15,13 @@ mod log;
 mod scratch;
 
 use std::collections::BTreeMap;
+use std::fmt;
 use std::fs;
 use std::io;
 use std::path::{Path, PathBuf};
 use std::process::ExitCode;
 use std::sync::Mutex;
-use std::time::Instant;
+use std::time::{Duration, Instant};
 
 use edit::{Edit, Sources, Target};
 use log::Log;
@@ -169,8 +170,9 @@ fn try_all(root: &Path, names: &[String]) -> Result<(), String> {
         .collect::<io::Result<_>>()
         .map_err(said)?;
 
+    let spent = Spent::default();
     let controls = in_parallel(&workers, &plans, |scratch, plan| {
-        let log = scratch.control(&plan.name).map_err(said)?;
+        let log = spent.on(&plan.name, || scratch.control(&plan.name)).map_err(said)?;
         if log.is_proved() {
             return Ok(());
         }
@@ -184,7 +186,9 @@ fn try_all(root: &Path, names: &[String]) -> Result<(), String> {
             edit::groups(&plan.targets).into_iter().map(move |members| Try { plan, members })
         })
         .collect();
-    let shown = in_parallel(&workers, &together, |scratch, one| attempt(root, scratch, one));
+    let attempt =
+        |scratch: &Scratch, one: &Try| spent.on(&one.plan.name, || attempt(root, scratch, one));
+    let shown = in_parallel(&workers, &together, attempt);
     let mut results = BTreeMap::new();
     let mut alone = Vec::new();
     for (one, shown) in together.iter().zip(shown) {
@@ -196,7 +200,7 @@ fn try_all(root: &Path, names: &[String]) -> Result<(), String> {
             }
         }
     }
-    let shown = in_parallel(&workers, &alone, |scratch, one| attempt(root, scratch, one));
+    let shown = in_parallel(&workers, &alone, attempt);
     for (one, shown) in alone.iter().zip(shown) {
         let result = shown?.remove(0);
         results.insert((&one.plan.name, &one.plan.edits[one.members[0]].0), result);
@@ -208,6 +212,7 @@ fn try_all(root: &Path, names: &[String]) -> Result<(), String> {
             Err(why) => println!("{name}/{label}: FAILED: {why}"),
         }
     }
+    println!("wrong-builds: a worker's seconds on each crate: {spent}");
     let failed = results.values().filter(|result| result.is_err()).count();
     let tries = together.len() + alone.len();
     println!(
@@ -221,6 +226,28 @@ fn try_all(root: &Path, names: &[String]) -> Result<(), String> {
         return Ok(());
     }
     Err(format!("{failed} wrong builds are not refused as they must be"))
+}
+
+/// How long the workers were at each crate.
+#[derive(Default)]
+struct Spent(Mutex<BTreeMap<String, Duration>>);
+
+impl Spent {
+    fn on<R>(&self, name: &str, work: impl FnOnce() -> R) -> R {
+        let began = Instant::now();
+        let result = work();
+        *self.0.lock().unwrap().entry(name.to_string()).or_default() += began.elapsed();
+        result
+    }
+}
+
+impl fmt::Display for Spent {
+    fn fmt(&self, f: &mut fmt::Formatter) -> fmt::Result {
+        let spent = self.0.lock().unwrap();
+        let each: Vec<String> =
+            spent.iter().map(|(name, time)| format!("{name} {}", time.as_secs())).collect();
+        f.write_str(&each.join(", "))
+    }
 }
 
 fn attempt(root: &Path, scratch: &Scratch, one: &Try) -> Result<Shown, String> {
