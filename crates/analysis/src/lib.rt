@@ -12,7 +12,6 @@ ghost use Prim.Native.Nat.{ℕ, _+_, _-_, _*_, _<_, _≤_, min};
 ghost use lib.ListN.{length};
 ghost use Rattle.semantics.specs.Algorithm.{merged, rewait, arrive, visit, leave, first-verdict, iteration, run, start};
 ghost use Rattle.semantics.specs.Tidy.{Queue, Allowed};
-ghost use Rattle.semantics.specs.Outcomes.{has-verdict};
 ghost use Rattle.state.specs.Rows.{rows-of};
 ghost use Rattle.waitlist.specs.Waits.{waits, Stored};
 ghost use Rattle.reached.specs.Reached.{Kept};
@@ -325,18 +324,6 @@ fn iteration(
     )
 }
 
-// Safe, alarm or full (22).
-pub fn has_verdict(verdict: Verdict) -> bool
-    ensures { λ r. ⌜ r ≡ has-verdict verdict ⌝ }
-{
-    match verdict {
-        Verdict::Open => false,
-        Verdict::Safe => true,
-        Verdict::Alarm => true,
-        Verdict::Full => true,
-    }
-}
-
 // How many iterations the budget still allows.
 fn iterations_left(budget: u32, iterations: u32) -> u32
     requires { ⌜ iterations ≤ 60000 ⌝ }
@@ -369,7 +356,7 @@ fn play(
     let mut at = a;
     while 0 < left {
         let verdict = at.verdict;
-        if has_verdict(verdict) {
+        if semantics::has_verdict(verdict) {
             return at;
         }
         at = iteration(chart, first, edges, heads, nexts, width, at, table, list);

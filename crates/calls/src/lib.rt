@@ -61,7 +61,7 @@ fn run_refusal(chart: &[i32], budget: i32, a: Analysis, table: &[i32], list: &[i
         return 21;
     }
     let verdict = a.verdict;
-    if analysis::has_verdict(verdict) {
+    if semantics::has_verdict(verdict) {
         return 22;
     }
     if a.iterations == semantics::MOST_ITERATIONS {

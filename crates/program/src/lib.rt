@@ -77,7 +77,7 @@ fn explore(chart: &[i32], go: Go, table: &mut [i32], list: &mut [i32]) -> Analys
 {
     let a = begin(chart, go, table, list);
     let verdict = a.verdict;
-    if analysis::has_verdict(verdict) {
+    if semantics::has_verdict(verdict) {
         return a;
     }
     let called = calls::run_by_value(chart, go.budget, a, table, list);
