@@ -6,6 +6,7 @@ use mathlib.Core.List.{List}
 use Prim.Native.Nat.{ℕ, _+_, _<_}
 use lib.IntN.{ℤ}
 use lib.ListN.{length}
+use Rattle.semantics.specs.declared.EdgeId.{EdgeId}
 use Rattle.semantics.specs.declared.Verdict.{Verdict}
 use Rattle.semantics.specs.declared.Analysis.{Analysis}
 use Rattle.semantics.specs.Algorithm.{Domain, Out, on, alarmed, full, halt, Exploration, finish, verdict-of}
@@ -55,6 +56,10 @@ out-of w t l p = out-by (p .exit) (p .edge .0) (rows-of w (p .used) t) (waits (p
 -- no edge has ended the iteration so far
 abbrev pub went-on : ℕ → ℕ → Progress
 went-on used waiting = record { exit = On; edge = record { 0 = 0 }; used = used; waiting = waiting }
+
+-- the edge g raises the alarm
+abbrev pub alarm-by : EdgeId → ℕ → ℕ → Progress
+alarm-by g used waiting = record { exit = Alarm; edge = g; used = used; waiting = waiting }
 
 -- no further edge is played: an alarm, or a full table
 abbrev pub has-ended : Exit → Bool

@@ -7,6 +7,7 @@ use semantics::Mode;
 use semantics::Settings;
 use semantics::SlotId;
 use semantics::Verdict;
+use transfer::Move;
 ghost use mathlib.Core.Path.{_≡_};
 ghost use Prim.Native.Nat.{ℕ, _+_, _-_, _*_, _<_, _≤_, min};
 ghost use lib.ListN.{length};
@@ -16,7 +17,7 @@ ghost use Rattle.state.specs.Rows.{rows-of};
 ghost use Rattle.waitlist.specs.Waits.{waits, Stored};
 ghost use Rattle.reached.specs.Reached.{Kept};
 ghost use Rattle.transfer.specs.Transfer.{edge-at, edges-from, post-at};
-ghost use Rattle.analysis.specs.Loaded.{Edges-held, rows-only, domain-of, has-ended, went-on, Progressed, load-of, Held, Loaded, Ended, Finished};
+ghost use Rattle.analysis.specs.Loaded.{Edges-held, rows-only, domain-of, has-ended, went-on, alarm-by, Progressed, load-of, Held, Loaded, Ended, Finished};
 
 mod outgoing;
 
@@ -42,6 +43,18 @@ fn went_on(used: usize, waiting: usize) -> Progress
     Progress {
         exit: Exit::On,
         edge: EdgeId(0),
+        used,
+        waiting,
+    }
+}
+
+// An edge raises the alarm.
+fn alarm_by(edge: EdgeId, used: usize, waiting: usize) -> Progress
+    ensures { λ p. ⌜ p ≡ alarm-by edge used waiting ⌝ }
+{
+    Progress {
+        exit: Exit::Alarm,
+        edge,
         used,
         waiting,
     }
@@ -117,20 +130,16 @@ fn visit(
     requires { ⌜ Kept (length (now copy)) capacity (now table) (now list) used waiting × Allowed settings × (length (now next) ≡ length (now copy)) × (edge .at < 4294967296) ⌝ }
     ensures { λ p. ⌜ Progressed (length (now (copy .entry))) capacity (now (table .exit)) (now (list .exit)) p (visit (domain-of (now (chart .entry))) settings capacity (edge .id .0) (post-at (now (chart .entry)) (edge .at) (now (copy .entry))) (rows-of (length (now (copy .entry))) used (now (table .entry))) (waits waiting (now (list .entry)))) ⌝ }
 {
-    let moved = transfer::successor(chart, edge, copy, next);
-    if !moved {
-        return went_on(used, waiting);
+    match transfer::successor(chart, edge, copy, next) {
+        Move::Halt => went_on(used, waiting),
+        Move::Fault => alarm_by(edge.id, used, waiting),
+        Move::Successor => {
+            if transfer::is_error(chart, next) {
+                return alarm_by(edge.id, used, waiting);
+            }
+            arrive(settings, capacity, table, used, next, list, waiting)
+        }
     }
-    if transfer::is_error(chart, next) {
-        let id = edge.id;
-        return Progress {
-            exit: Exit::Alarm,
-            edge: id,
-            used,
-            waiting,
-        };
-    }
-    arrive(settings, capacity, table, used, next, list, waiting)
 }
 
 // Whether an edge has ended the iteration: none after it is played.

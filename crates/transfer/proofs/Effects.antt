@@ -20,7 +20,7 @@ use Rattle.semantics.proofs.StatesOk.{ValOk, ValsOk}
 use Rattle.semantics.proofs.Stored.{not-any}
 use Rattle.words.proofs.Words.{eqZ-true}
 use Rattle.state.specs.Rows.{word-join}
-use Rattle.transfer.specs.Transfer.{step-of, operand-by, set-ranged, set-value, assign-at, set-result, both-at, input-at, holds-by, refine-by, tested-by, assume-at, op-by}
+use Rattle.transfer.specs.Transfer.{operand-by, set-ranged, set-value, assign-at, set-result, both-at, input-at, holds-by, refine-by, tested-by, assume-at, op-by}
 use Rattle.transfer.proofs.Places.{range-is}
 
 -- a value whose word is top's only where it is top
@@ -64,6 +64,10 @@ abbrev pub row-step : ℤ → Option (List Value) → Step (List ℤ)
 row-step l none = halt
 row-step l (some xs) = to (l ∷ map word xs)
 
+step-if : (l : ℤ) (t : Bool) (xs : List Value) → pick t (to (l ∷ map word xs)) halt ≡ row-step l (some-if t xs)
+step-if l true xs = refl
+step-if l false xs = refl
+
 module _ (c : Chart) (ok : T (chart-ok c)) (rest : List ℤ) (l : ℤ) (xs : List Value) (plain : AllPlain xs) where
   abbrev ws : List ℤ
   ws = encode c ++ rest
@@ -79,11 +83,7 @@ module _ (c : Chart) (ok : T (chart-ok c)) (rest : List ℤ) (l : ℤ) (xs : Lis
 
   set-ranged-is : (k : ℕ) (z : ℤ) → k < length (c .vars) → set-ranged ws k z e ≡ row-step l (assign-value (c .vars) k (known z) xs)
   unfolding set-ranged
-  set-ranged-is k z h = (λ i. step-of (range-is c ok rest k z h i) (set-word k (known z) i)) ∙ go (in-range (c .vars) k z)
-    where
-      go : (t : Bool) → step-of t (l ∷ map word (set xs k (known z))) ≡ row-step l (some-if t (set xs k (known z)))
-      go true = refl
-      go false = refl
+  set-ranged-is k z h = (λ i. pick (range-is c ok rest k z h i) (to (set-word k (known z) i)) halt) ∙ step-if l (in-range (c .vars) k z) (set xs k (known z))
 
   top-is : (k : ℕ) → to (set e (k + 1) (pos 32768)) ≡ row-step l (some (set xs k top))
   top-is k = ap to (set-word k top)
@@ -143,14 +143,10 @@ module _ (c : Chart) (ok : T (chart-ok c)) (rest : List ℤ) (l : ℤ) (xs : Lis
   Sided (num z) top = ⊥
   Sided (var j) y = Unit
 
-  step-holds : (t : Bool) → step-of t e ≡ row-step l (some-if t xs)
-  step-holds true = refl
-  step-holds false = refl
-
   tested-is : (r : Rel) (k : ℕ) (a : Operand) (x y : Value) → k < length (c .vars) → T (operand-ok (c .vars) a) → Plain x → Plain y → Sided a y
       → tested-by ws (rel-code r) k (natAbs (held a)) (word x) (word y) e ≡ row-step l (tested (c .vars) r (var k) a x y xs)
   unfolding tested-by
-  tested-is r k a (known x) (known y) h o p q s = rw (p, q, holds-is r x y) (step-holds (holds r x y))
+  tested-is r k a (known x) (known y) h o p q s = rw (p, q, holds-is r x y) (step-if l (holds r x y) xs)
   tested-is r k (num z) (known x) top h o p q s = absurd s
   tested-is r k (var j) (known x) top h o p q s = rw p (refine-is r j x (ltb→lt j (length (c .vars)) o) p)
   tested-is r k a top (known y) h o p q s = refine-is r k y h q

@@ -1,6 +1,6 @@
 -- The transfer of an edge of the encoded chart on a row of words, the test of an error location, and the initial row,
 -- with no word on the form of either: a word past the end is 0, a number's sign does not count. Assumes nothing.
-use mathlib.Core.Bool.{Bool, true, false, _||_, not}
+use mathlib.Core.Bool.{Bool, _||_, not}
 use mathlib.Core.List.{List, [], _∷_}
 use Prim.Native.Nat.{ℕ, zero, suc, _+_, _*_}
 use lib.Dec.{ltb, eqb}
@@ -9,15 +9,18 @@ use lib.ListN.{getD, set}
 use lib.Signed.{leZ, ltZ}
 use Rattle.semantics.specs.Lists.{pick}
 use Rattle.semantics.specs.Chart.{eqZ, within}
-use Rattle.semantics.specs.Algorithm.{Step, halt, to}
+use Rattle.semantics.specs.Algorithm.{Step, halt, fault, to}
 use Rattle.semantics.specs.Encoding.{count}
 use Rattle.state.specs.Rows.{word-join}
 use Rattle.chart.specs.Encoded.{locations-at, edges-at}
+use Rattle.transfer.specs.declared.Move.{Move}
+use Rattle.transfer.specs.declared.Move.the-variants.{Halt, Fault, Successor}
 
--- what a function says that answers whether there is a successor
-abbrev pub step-of : Bool → List ℤ → Step (List ℤ)
-step-of true e = to e
-step-of false e = halt
+-- the step that a move says, with the row that it leaves
+abbrev pub step-of : Move → List ℤ → Step (List ℤ)
+step-of Halt e = halt
+step-of Fault e = fault
+step-of Successor e = to e
 
 -- ---- the edges of the chart
 
@@ -38,7 +41,7 @@ operand-by tag z e = pick (eqZ tag (pos 0)) z (getD e (natAbs z + 1) (pos 0))
 
 -- variable k becomes z if that lies in its range
 unfoldable pub set-ranged : List ℤ → ℕ → ℤ → List ℤ → Step (List ℤ)
-set-ranged c k z e = step-of (within (getD c (3 + 3 * k) (pos 0)) (getD c (3 + 3 * k + 1) (pos 0)) z) (set e (k + 1) z)
+set-ranged c k z e = pick (within (getD c (3 + 3 * k) (pos 0)) (getD c (3 + 3 * k + 1) (pos 0)) z) (to (set e (k + 1) z)) halt
 
 -- variable k becomes top, or z if that lies in its range
 unfoldable pub set-value : List ℤ → ℕ → Bool → ℤ → List ℤ → Step (List ℤ)
@@ -86,7 +89,7 @@ refine-by c n k x e = pick (eqb n 5) (pick (eqZ x (pos 32768)) (to e) (set-range
 -- its sides are x, variable k, and y, variable j where it is at top
 unfoldable pub tested-by : List ℤ → ℕ → ℕ → ℕ → ℤ → ℤ → List ℤ → Step (List ℤ)
 tested-by c n k j x y e =
-    pick (eqZ x (pos 32768)) (refine-by c n k y e) (pick (eqZ y (pos 32768)) (refine-by c n j x e) (step-of (holds-by n x y) e))
+    pick (eqZ x (pos 32768)) (refine-by c n k y e) (pick (eqZ y (pos 32768)) (refine-by c n j x e) (pick (holds-by n x y) (to e) halt))
 
 -- `if v rel a`, the relation of code n
 unfoldable pub assume-at : List ℤ → ℕ → ℕ → List ℤ → Step (List ℤ)

@@ -7,7 +7,15 @@ ghost use lib.IntN.{_+ℤ_, _-ℤ_};
 ghost use lib.ListN.{length, set};
 ghost use Rattle.semantics.specs.Chart.{within};
 ghost use Rattle.semantics.specs.Encoding.{count};
-ghost use Rattle.transfer.specs.Transfer.{location-word, step-of, operand-by, first-at, second-at, set-ranged, set-value, assign-at, set-result, both-at, input-at, holds-by, refine-by, assume-at, op-by, post-at, error-row, initial-row};
+ghost use Rattle.transfer.specs.Transfer.{step-of, location-word, operand-by, first-at, second-at, set-ranged, set-value, assign-at, set-result, both-at, input-at, holds-by, refine-by, assume-at, op-by, post-at, error-row, initial-row};
+
+// What a transfer answers, as the rules' `Step`: no successor, document 01's halt among them; a fault, which comes with
+// request 2.1; or a successor, which stands in the row lent.
+pub enum Move {
+    Halt,
+    Fault,
+    Successor,
+}
 
 // ---- values
 
@@ -86,35 +94,35 @@ fn put(row: &mut [i32], k: usize, x: i32)
 }
 
 // Variable k becomes z where that lies in its range.
-fn put_ranged(chart: &[i32], k: usize, z: i64, row: &mut [i32]) -> bool
+fn put_ranged(chart: &[i32], k: usize, z: i64, row: &mut [i32]) -> Move
     requires { ⌜ k < 2147483649 ⌝ }
     ensures { λ r. ⌜ step-of r (now (row .exit)) ≡ set-ranged (now (chart .entry)) k z (now (row .entry)) ⌝ }
 {
     let lo = chart::variable_low(chart, k);
     let hi = chart::variable_high(chart, k);
-    if lies_within(lo, hi, z) {
-        let x = z as i32;
-        put(row, k, x);
-        return true;
+    if !lies_within(lo, hi, z) {
+        return Move::Halt;
     }
-    false
+    let x = z as i32;
+    put(row, k, x);
+    Move::Successor
 }
 
 // Variable k becomes top, or z where that lies in its range.
-fn put_value(chart: &[i32], k: usize, top: bool, z: i64, row: &mut [i32]) -> bool
+fn put_value(chart: &[i32], k: usize, top: bool, z: i64, row: &mut [i32]) -> Move
     requires { ⌜ k < 2147483649 ⌝ }
     ensures { λ r. ⌜ step-of r (now (row .exit)) ≡ set-value (now (chart .entry)) k top z (now (row .entry)) ⌝ }
 {
     if top {
         put(row, k, words::TOP);
-        return true;
+        return Move::Successor;
     }
     put_ranged(chart, k, z, row)
 }
 
-// ---- the operations of an edge, on the row: whether there is a successor
+// ---- the operations of an edge, on the row
 
-fn assign(chart: &[i32], edge: Edge, row: &mut [i32]) -> bool
+fn assign(chart: &[i32], edge: Edge, row: &mut [i32]) -> Move
     requires { ⌜ edge .at < 4294967296 ⌝ }
     ensures { λ r. ⌜ step-of r (now (row .exit)) ≡ assign-at (now (chart .entry)) (edge .at) (now (row .entry)) ⌝ }
 {
@@ -124,7 +132,7 @@ fn assign(chart: &[i32], edge: Edge, row: &mut [i32]) -> bool
 }
 
 // The target becomes z, what an operation makes of a and b, or top where one of them is.
-fn put_result(chart: &[i32], edge: Edge, a: i32, b: i32, z: i64, row: &mut [i32]) -> bool
+fn put_result(chart: &[i32], edge: Edge, a: i32, b: i32, z: i64, row: &mut [i32]) -> Move
     requires { ⌜ edge .at < 4294967296 ⌝ }
     ensures { λ r. ⌜ step-of r (now (row .exit)) ≡ set-result (now (chart .entry)) (edge .at) a b z (now (row .entry)) ⌝ }
 {
@@ -132,7 +140,7 @@ fn put_result(chart: &[i32], edge: Edge, a: i32, b: i32, z: i64, row: &mut [i32]
     put_value(chart, k, (a == words::TOP) | (b == words::TOP), z, row)
 }
 
-fn add(chart: &[i32], edge: Edge, row: &mut [i32]) -> bool
+fn add(chart: &[i32], edge: Edge, row: &mut [i32]) -> Move
     requires { ⌜ edge .at < 4294967296 ⌝ }
     ensures { λ r. ⌜ step-of r (now (row .exit)) ≡ both-at _+ℤ_ (now (chart .entry)) (edge .at) (now (row .entry)) ⌝ }
 {
@@ -141,7 +149,7 @@ fn add(chart: &[i32], edge: Edge, row: &mut [i32]) -> bool
     put_result(chart, edge, a, b, sum(a, b), row)
 }
 
-fn sub(chart: &[i32], edge: Edge, row: &mut [i32]) -> bool
+fn sub(chart: &[i32], edge: Edge, row: &mut [i32]) -> Move
     requires { ⌜ edge .at < 4294967296 ⌝ }
     ensures { λ r. ⌜ step-of r (now (row .exit)) ≡ both-at _-ℤ_ (now (chart .entry)) (edge .at) (now (row .entry)) ⌝ }
 {
@@ -151,7 +159,7 @@ fn sub(chart: &[i32], edge: Edge, row: &mut [i32]) -> bool
 }
 
 // A value from p up to q: known only where they are the same.
-fn input(chart: &[i32], edge: Edge, row: &mut [i32]) -> bool
+fn input(chart: &[i32], edge: Edge, row: &mut [i32]) -> Move
     requires { ⌜ edge .at < 4294967296 ⌝ }
     ensures { λ r. ⌜ step-of r (now (row .exit)) ≡ input-at (now (chart .entry)) (edge .at) (now (row .entry)) ⌝ }
 {
@@ -160,7 +168,7 @@ fn input(chart: &[i32], edge: Edge, row: &mut [i32]) -> bool
     let q = chart::second_value(chart, edge);
     let x = state::join_word(p, q);
     put(row, k, x);
-    true
+    Move::Successor
 }
 
 // Whether the relation of a code (docs/memory.md) holds.
@@ -178,21 +186,21 @@ fn holds(n: usize, a: i32, b: i32) -> bool
 }
 
 // A side of the relation is variable k, at top, and the other side is x: only `eq` says something of k.
-fn refine(chart: &[i32], n: usize, k: usize, x: i32, row: &mut [i32]) -> bool
+fn refine(chart: &[i32], n: usize, k: usize, x: i32, row: &mut [i32]) -> Move
     requires { ⌜ k < 2147483649 ⌝ }
     ensures { λ r. ⌜ step-of r (now (row .exit)) ≡ refine-by (now (chart .entry)) n k x (now (row .entry)) ⌝ }
 {
     if n == 5 {
         if x == words::TOP {
-            return true;
+            return Move::Successor;
         }
         return put_ranged(chart, k, words::wide(x), row);
     }
-    true
+    Move::Successor
 }
 
 // The relation of code n between the target and an operand: a test, or what it says of a side at top.
-fn assume(chart: &[i32], n: usize, edge: Edge, row: &mut [i32]) -> bool
+fn assume(chart: &[i32], n: usize, edge: Edge, row: &mut [i32]) -> Move
     requires { ⌜ edge .at < 4294967296 ⌝ }
     ensures { λ r. ⌜ step-of r (now (row .exit)) ≡ assume-at (now (chart .entry)) n (edge .at) (now (row .entry)) ⌝ }
 {
@@ -206,17 +214,20 @@ fn assume(chart: &[i32], n: usize, edge: Edge, row: &mut [i32]) -> bool
         let j = chart::first_variable(chart, edge);
         return refine(chart, n, j, x, row);
     }
-    holds(n, x, y)
+    if holds(n, x, y) {
+        return Move::Successor;
+    }
+    Move::Halt
 }
 
 // The operation of the edge, by its code.
-fn apply(chart: &[i32], edge: Edge, row: &mut [i32]) -> bool
+fn apply(chart: &[i32], edge: Edge, row: &mut [i32]) -> Move
     requires { ⌜ edge .at < 4294967296 ⌝ }
     ensures { λ r. ⌜ step-of r (now (row .exit)) ≡ op-by (count (now (chart .entry)) (edge .at + 2)) (now (chart .entry)) (edge .at) (now (row .entry)) ⌝ }
 {
     let n = chart::edge_operation(chart, edge);
     match n {
-        0 => true,
+        0 => Move::Successor,
         1 => assign(chart, edge, row),
         2 => add(chart, edge, row),
         3 => sub(chart, edge, row),
@@ -227,8 +238,8 @@ fn apply(chart: &[i32], edge: Edge, row: &mut [i32]) -> bool
 
 // ---- the transfer
 
-// The successor of the row by the edge, into `out`; whether there is one.
-pub fn successor(chart: &[i32], edge: Edge, row: &[i32], out: &mut [i32]) -> bool
+// The move of the row by the edge, its successor into `out`.
+pub fn successor(chart: &[i32], edge: Edge, row: &[i32], out: &mut [i32]) -> Move
     requires { ⌜ (0 < length (now row)) × (length (now out) ≡ length (now row)) × (edge .at < 4294967296) ⌝ }
     ensures { λ r. ⌜ step-of r (now (out .exit)) ≡ post-at (now (chart .entry)) (edge .at) (now (row .entry)) ⌝ }
 {
@@ -239,7 +250,7 @@ pub fn successor(chart: &[i32], edge: Edge, row: &[i32], out: &mut [i32]) -> boo
         out[0] = location_word(to);
         return apply(chart, edge, out);
     }
-    false
+    Move::Halt
 }
 
 // Whether the row stands at an error location.

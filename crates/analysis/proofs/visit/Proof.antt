@@ -1,64 +1,84 @@
 -- `analysis::visit` meets its contract. Assumes nothing.
-use mathlib.Core.Path.{_≡_, sym, _∙_}
+use mathlib.Core.Path.{_≡_, sym, ap, _∙_}
 use mathlib.Core.Bool.{true, false}
+use mathlib.Core.List.{List}
 use borrow.Author.Needs.{needs}
-use borrow.Author.Tests.{not-true, not-false}
+use lib.IntN.{ℤ}
 use lib.ListN.{length}
-use Rattle.semantics.specs.Algorithm.{halt, to}
-use Rattle.transfer.specs.Transfer.{post-at, error-row}
+use Rattle.transfer.specs.declared.Move.{Move}
+use Rattle.transfer.specs.declared.Move.the-variants.{Halt, Fault, Successor}
+use Rattle.transfer.specs.Transfer.{step-of, post-at, error-row}
 use Rattle.analysis.proofs.visit.Statement.{statement}
 use Rattle.analysis.proofs.visit.Tie as tie
+
+-- the transfer's answer, and the row that it leaves
+module _ (d : tie.After-successor) where
+  abbrev start : tie.Start
+  start = d .before .before
+
+  abbrev row : List ℤ
+  row = d .successor .last .1 .1 .1 .0
+
+  moved : (m : Move) → d .successor .result ≡ m → post-at (start .args .chart .now) (start .args .edge .at) (start .args .copy .now) ≡ step-of m row
+  moved m e = sym (d .successor .ensures) ∙ ap (λ (m : Move). step-of m row) e
+
+  row-length : length row ≡ length (start .args .copy .now)
+  row-length = d .successor .kept .1 .1 .1 .0 ∙ start .pre .2
 
 successor-requires : tie.Need-successor-requires
 successor-requires c κs = let s = c .before in (s .pre .0 .wide, s .pre .2, s .pre .3)
 
 returns : tie.Need-returns
 returns c =
-    let d = c .before .before .before in
-    let s = d .before .before in
-    let h : post-at (s .args .chart .now) (s .args .edge .at) (s .args .copy .now) ≡ halt = sym (d .successor .ensures) ∙ rw (not-true (d .successor .result) (c .before .if1 .taken)) in
-    rw (c .went-on .ensures) (record { out = rw h; kept = s .pre .0 })
-
-returns-2 : tie.Need-returns-2
-returns-2 c =
-    let d = c .before .before .before .before .before .before in
-    let s = d .before .before in
-    let e = d .successor .last .1 .1 .1 .0 in
-    let h : post-at (s .args .chart .now) (s .args .edge .at) (s .args .copy .now) ≡ to e = sym (d .successor .ensures) ∙ rw (not-false (d .successor .result) (c .before .before .before .before .if1 .left)) in
-    let b : error-row (s .args .chart .now) e ≡ true = sym (c .before .before .is-error .ensures) ∙ c .before .if2 .taken in
-    record { out = rw (h, b); kept = s .pre .0 }
+    let i = c .before .before in
+    let d = i .before .before .before .before .before in
+    let b : error-row (start d .args .chart .now) (row d) ≡ true = sym (i .is-error .ensures) ∙ c .before .if1 .taken in
+    rw (c .alarm-by2 .ensures) (record { out = rw (moved d Successor (i .before .before .enum-told3 .given .1), b); kept = start d .pre .0 })
 
 arrive-requires : tie.Need-arrive-requires
 arrive-requires c κs =
-    let d = c .before .before .before .before .before .before .before .before in
-    let s = d .before .before in
-    let len : length (d .successor .last .1 .1 .1 .0) ≡ length (s .args .copy .now) = d .successor .kept .1 .1 .1 .0 ∙ s .pre .2 in
-    rw len (s .pre .0, s .pre .1)
+    let d = c .before .before .before .before .before .before .before .before .before in
+    rw (row-length d) (start d .pre .0, start d .pre .1)
+
+returns-2 : tie.Need-returns-2
+returns-2 c =
+    let d = c .before .before .before .before in
+    rw (c .went-on .ensures) (record { out = rw (moved d Halt (c .before .enum-told .given .1)); kept = start d .pre .0 })
 
 returns-3 : tie.Need-returns-3
 returns-3 c =
-    let r = c .before .before .arrive in
-    let d = c .before .before .before .before .before .before .before .before .before .before .before in
-    let s = d .before .before in
-    let e = d .successor .last .1 .1 .1 .0 in
-    let h : post-at (s .args .chart .now) (s .args .edge .at) (s .args .copy .now) ≡ to e = sym (d .successor .ensures) ∙ rw (not-false (d .successor .result) (c .before .before .before .before .before .before .before .before .before .if1 .left)) in
-    let b : error-row (s .args .chart .now) e ≡ false = sym (c .before .before .before .before .before .before .before .is-error .ensures) ∙ c .before .before .before .before .before .before .if2 .left in
-    let len : length e ≡ length (s .args .copy .now) = d .successor .kept .1 .1 .1 .0 ∙ s .pre .2 in
-    rw (h, b) (rw len at (r .ensures))
+    let d = c .before .before .before .before in
+    rw (c .alarm-by .ensures) (record { out = rw (moved d Fault (c .before .enum-told2 .given .1)); kept = start d .pre .0 })
+
+returns-4 : tie.Need-returns-4
+returns-4 c =
+    let r = c .before .before in
+    let f = r .before .before .before .before in
+    let i = f .before in
+    let d = i .before .before .before .before .before in
+    let b : error-row (start d .args .chart .now) (row d) ≡ false = sym (i .is-error .ensures) ∙ f .if1 .left in
+    rw (moved d Successor (i .before .before .enum-told3 .given .1), b) (rw (row-length d) at (r .arrive .ensures))
 
 pub visit-spec : {M : Type 1} → statement M
 visit-spec =
     tie.close
     (tie.spec
     successor-requires
+    (λ c. search needs)
+    (λ c κs. search needs)
+    (λ c. search needs)
+    (λ c κs. search needs)
+    (λ c. search needs)
+    (λ c κs. search needs)
     (λ c κs. search needs)
     (λ c. search needs)
     returns
-    (λ c κs. search needs)
-    (λ c. search needs)
-    returns-2
     arrive-requires
     (λ c. search needs)
+    returns-2
+    (λ c. search needs)
+    returns-3
     (λ c. search needs)
     (λ c. search needs)
-    returns-3)
+    (λ c. search needs)
+    returns-4)

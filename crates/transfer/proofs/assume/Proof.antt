@@ -1,5 +1,5 @@
 -- `transfer::assume` meets its contract. Assumes nothing.
-use mathlib.Core.Path.{_≡_, ap, _∙_}
+use mathlib.Core.Path.{_≡_, sym, ap, _∙_}
 use mathlib.Core.Bool.{Bool, true, false}
 use Prim.Native.Nat.{ℕ, _+_}
 use borrow.Author.Needs.{needs, sfits-of}
@@ -9,8 +9,10 @@ use mir.Syntax.{w32}
 use mir.Facts.{sfits-lit}
 use mir.Val.{SFits, ofZ}
 use Rattle.words.proofs.Words.{bits-eq, bits-ne, told}
+use Rattle.semantics.specs.Lists.{pick}
 use Rattle.semantics.specs.Chart.{eqZ}
-use Rattle.transfer.specs.Transfer.{step-of, first-at, target-at, holds-by, refine-by, tested-by, assume-at}
+use Rattle.semantics.specs.Algorithm.{halt, to}
+use Rattle.transfer.specs.Transfer.{first-at, target-at, holds-by, refine-by, tested-by, assume-at}
 use Rattle.transfer.proofs.assume.Statement.{statement}
 use Rattle.transfer.proofs.assume.Tie as tie
 
@@ -62,16 +64,19 @@ returns-2 c =
     let top : eqZ (y o) (pos 32768) ≡ true = rw (o .first-operand .ensures) at (bits-eq w32 {b = pos 32768} (right-fits o) (sfits-lit tt) (m .before .if2 .taken)) in
     rw (left-known o (m .before .before .if1 .left), top) (c .before .refine2 .ensures ∙ λ i. refine-by (a .chart .now) (a .n) (p i) (q i) (a .row .now))
 
-returns-3 : tie.Need-returns-3
+-- neither side is at top: the test decides
+decided : (c : tie.After-holds) (t : Bool) → c .holds .result ≡ t →
+    let a = start (c .before .before .before) .args in
+    pick t (to (a .row .now)) halt ≡ assume-at (a .chart .now) (a .n) (a .edge .at) (a .row .now)
 unfolding assume-at tested-by
-returns-3 c =
+decided c t e =
     let o = c .before .before .before in
     let a = start o .args in
     let p = told (left-fits o) (left-is o) in
     let q = told (right-fits o) (o .first-operand .ensures) in
     let h = c .holds .ensures ∙ λ i. holds-by (a .n) (p i) (q i) in
     let known : eqZ (y o) (pos 32768) ≡ false = rw (o .first-operand .ensures) at (bits-ne w32 {b = pos 32768} (right-fits o) (sfits-lit tt) (c .before .if2 .left)) in
-    rw (left-known o (c .before .before .if1 .left), known) (ap (λ (b : Bool). step-of b (a .row .now)) h)
+    rw (left-known o (c .before .before .if1 .left), known) (ap (λ (b : Bool). pick b (to (a .row .now)) halt) (sym e ∙ h))
 
 pub assume-spec : {M : Type 1} → statement M
 assume-spec =
@@ -90,4 +95,6 @@ assume-spec =
     returns-2
     (λ c κs. search needs)
     (λ c. search needs)
-    returns-3)
+    (λ c. decided (c .before) true (c .if3 .taken))
+    (λ c. search needs)
+    (λ c. decided (c .before) false (c .if3 .left)))

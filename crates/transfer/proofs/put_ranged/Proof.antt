@@ -2,6 +2,7 @@
 use mathlib.Core.Path.{_≡_, sym, _∙_}
 use Prim.Native.Nat.{_+_, _*_}
 use borrow.Author.Needs.{needs, sfits-of}
+use borrow.Author.Tests.{not-true, not-false}
 use lib.IntN.{ℤ, pos}
 use lib.ListN.{getD}
 use mir.Syntax.{w32, w64}
@@ -32,33 +33,33 @@ module _ (c : tie.After-lies-within) where
         toZ-ofZ w64 (start .args .z) (start .fits .z),
       )
 
-  is-edge-within : c .lies-within .result ≡ within (getD (start .args .chart .now) (3 + 3 * start .args .k) (pos 0)) (getD (start .args .chart .now) (3 + 3 * start .args .k + 1) (pos 0)) (start .args .z)
-  is-edge-within =
+  in-range : c .lies-within .result ≡ within (getD (start .args .chart .now) (3 + 3 * start .args .k) (pos 0)) (getD (start .args .chart .now) (3 + 3 * start .args .k + 1) (pos 0)) (start .args .z)
+  in-range =
       let p = c .before .before .variable-low .ensures in
       let q = c .before .variable-high .ensures in
       told ∙ λ i. within (p i) (q i) (start .args .z)
 
-fits : (c : tie.Then1) → SFits w32 (c .before .before .before .before .args .z)
+returns : tie.Need-returns
+unfolding set-ranged
+returns c = rw (sym (in-range (c .before)) ∙ not-true _ (c .if1 .taken))
+
+fits : (c : tie.Else1) → SFits w32 (c .before .before .before .before .args .z)
 fits c =
     let b = c .before in
-    within-fits (lo b) (hi b) (start b .args .z) (sfits-of {z = lo b} (b .before .before .variable-low .ok)) (sfits-of {z = hi b} (b .before .variable-high .ok)) (sym (told b) ∙ c .if1 .taken)
+    within-fits (lo b) (hi b) (start b .args .z) (sfits-of {z = lo b} (b .before .before .variable-low .ok)) (sfits-of {z = hi b} (b .before .variable-high .ok)) (sym (told b) ∙ not-false _ (c .if1 .left))
 
 cast-x : tie.Need-cast-x
 cast-x c =
     let s = c .before .before .before .before in
     rw (toZ-ofZ w64 (s .args .z) (s .fits .z)) (fits c)
 
-returns : tie.Need-returns
+returns-2 : tie.Need-returns-2
 unfolding set-ranged
-returns c =
+returns-2 c =
     let h = c .before .before .before in
     let s = h .before .before .before .before in
     let z = s .args .z in
-    rw (sym (is-edge-within (h .before)) ∙ h .if1 .taken, c .before .put .ensures, toZ-ofZ w64 z (s .fits .z), toZ-ofZ w32 z (fits h))
-
-returns-2 : tie.Need-returns-2
-unfolding set-ranged
-returns-2 c = rw (sym (is-edge-within (c .before)) ∙ c .if1 .left)
+    rw (sym (in-range (h .before)) ∙ not-false _ (h .if1 .left), c .before .put .ensures, toZ-ofZ w64 z (s .fits .z), toZ-ofZ w32 z (fits h))
 
 pub put-ranged-spec : {M : Type 1} → statement M
 put-ranged-spec =
@@ -67,8 +68,8 @@ put-ranged-spec =
     (λ c κs. search needs)
     (λ c κs. search needs)
     (λ c κs. search needs)
+    returns
     cast-x
     (λ c κs. search needs)
     (λ c. search needs)
-    returns
     returns-2)
