@@ -5,17 +5,17 @@ use semantics::Settings;
 ghost use mathlib.Core.Path.{_≡_};
 ghost use Prim.Native.Nat.{ℕ, _*_, _≤_};
 ghost use lib.Dec.{T};
-ghost use lib.IntN.{pos};
+ghost use lib.IntN.{pos, natAbs};
 ghost use lib.ListN.{length};
 ghost use Rattle.semantics.specs.declared.Analysis.{Analysis};
 ghost use Rattle.semantics.specs.Algorithm.{start, allowed};
 ghost use Rattle.semantics.specs.Encoding.{decode, well-formed};
-ghost use Rattle.semantics.specs.Memory.{width, load, analysis-ok};
-ghost use Rattle.checks.specs.Form.{lent};
+ghost use Rattle.semantics.specs.Memory.{width, load};
+ghost use Rattle.checks.specs.Form.{lent, InForm};
 ghost use Rattle.analysis.specs.Loaded.{domain-of, Loaded};
 ghost use Rattle.transfer.specs.Transfer.{initial-row};
 ghost use Rattle.calls.specs.Calls.{Begins, Ends, Ends-called};
-ghost use Rattle.semantics.specs.Outcomes.{refusal, put-in, started, resumed, start-cases, start-outcome, run-cases, run-outcome};
+ghost use Rattle.semantics.specs.Outcomes.{refusal, size-of, form-of, put-in, started, resumed, start-cases, start-outcome, run-cases, run-outcome};
 
 // What a call answers, and the record as it leaves it.
 pub struct Called {
@@ -25,7 +25,7 @@ pub struct Called {
 
 // 11, 12, 20, 14: the first that refuses a start, or 0.
 fn start_refusal(chart: &[i32], settings: Settings, capacity: i32, table: usize, list: usize) -> u32
-    ensures { λ r. ⌜ r ≡ refusal (start-cases (now (chart .entry)) settings capacity table list) ⌝ }
+    ensures { λ r. ⌜ r ≡ refusal (start-cases settings capacity (size-of (now (chart .entry)) (natAbs capacity) table list)) ⌝ }
 {
     if !checks::capacity_ok(capacity) {
         return 11;
@@ -35,30 +35,19 @@ fn start_refusal(chart: &[i32], settings: Settings, capacity: i32, table: usize,
     if !checks::is_allowed(merge, stop) {
         return 12;
     }
-    if !chart::well_formed(chart) {
-        return 20;
-    }
-    if checks::is_short(chart, capacity as u32, table, list) {
-        return 14;
-    }
-    0
+    checks::size_refusal(chart, capacity as u32, table, list)
 }
 
 // 13, 20, 14, 21, 22, 23: the first that refuses a run, or 0.
 fn run_refusal(chart: &[i32], budget: i32, a: Analysis, table: &[i32], list: &[i32]) -> u32
-    ensures { λ r. ⌜ r ≡ refusal (run-cases (now (chart .entry)) budget (lent (now (table .entry)) (now (list .entry)) a)) ⌝ }
+    ensures { λ r. ⌜ r ≡ refusal (run-cases budget (form-of (now (chart .entry)) (lent (now (table .entry)) (now (list .entry)) a)) (a .verdict) (a .iterations)) ⌝ }
 {
     if !checks::budget_ok(budget) {
         return 13;
     }
-    if !chart::well_formed(chart) {
-        return 20;
-    }
-    if checks::is_short(chart, a.capacity, table.len(), list.len()) {
-        return 14;
-    }
-    if !checks::analysis_ok(chart, table, list, a) {
-        return 21;
+    let earlier = checks::form_refusal(chart, a, table, list);
+    if earlier != 0 {
+        return earlier;
     }
     let verdict = a.verdict;
     if semantics::has_verdict(verdict) {
@@ -134,7 +123,7 @@ fn run_through(
     table: &mut [i32],
     list: &mut [i32],
 ) -> Analysis
-    requires { ⌜ T (well-formed (now chart)) × (a .capacity * width (decode (now chart)) ≤ length (now table)) × (a .capacity ≤ length (now list)) × T (analysis-ok (decode (now chart)) (lent (now table) (now list) a)) ⌝ }
+    requires { ⌜ InForm (now chart) (lent (now table) (now list) a) ⌝ }
     ensures { λ r. ⌜ put-in (decode (now (chart .entry))) (resumed (decode (now (chart .entry))) (pos budget) (load (decode (now (chart .entry))) (lent (now (table .entry)) (now (list .entry)) a))) (lent (now (table .entry)) (now (list .entry)) a) ≡ lent (now (table .exit)) (now (list .exit)) r ⌝ }
 {
     let width = chart::width(chart);

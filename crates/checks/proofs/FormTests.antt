@@ -1,25 +1,24 @@
--- Facts behind the form check: the loops' turns, parts of lists, the two parts of rule 21, and what 14 asks.
+-- Facts behind the form check: the loops' turns, parts of lists, the two parts of rule 21, and what 20, 14 and 21 ask.
 -- Assumes nothing.
-use mathlib.Core.Path.{_≡_, refl, ap, sym, subst, _∙_}
+use mathlib.Core.Path.{_≡_, refl, ap, sym, _∙_}
 use mathlib.Core.Bool.{Bool, true, false, _&&_, _||_, not}
 use mathlib.Core.List.{List, [], _∷_, _++_}
-use Prim.Native.Nat.{ℕ, suc, _+_, _*_, _<_, _≤_}
+use Prim.Native.Nat.{ℕ, suc, _+_, _<_}
 use native.Mathlib.Nat.{add-zero}
 use native.Mathlib.Numerals.{add-one}
 use native.Mathlib.Omega.{arith}
-use lib.Dec.{T, ltb}
-use borrow.Author.Tests.{ltb-false}
 use lib.IntN.{ℤ, pos}
 use lib.ListN.{length, getD, take, drop}
 use lib.Seq.{drop-cons, drop-drop, getD-drop}
 use Rattle.semantics.specs.Lists.{some-of, all, all-pairs, all-of}
-use Rattle.semantics.specs.Chart.{Chart, eqZ, within}
-use Rattle.semantics.specs.Encoding.{several, var-in, count, decode}
+use Rattle.semantics.specs.Chart.{eqZ, within}
+use Rattle.semantics.specs.Encoding.{several, var-in, count, decode, well-formed}
 use Rattle.semantics.specs.declared.Analysis.{Analysis}
-use Rattle.semantics.specs.Memory.{value-ok, below, width, row-ok, rows-ok, each-once, analysis-ok}
+use Rattle.semantics.specs.Memory.{Memory, value-ok, below, width, row-ok, rows-ok, each-once, analysis-ok}
 use Rattle.semantics.specs.Outcomes.{short}
 use Rattle.semantics.proofs.Decoded.{vars-count, locs-count, edges-count}
-use Rattle.checks.specs.Form.{lent, lent-tests, record-tests}
+use Rattle.semantics.proofs.FirstCase as first
+use Rattle.checks.specs.Form.{lent, lent-tests, record-tests, InForm}
 
 -- ---- tests
 
@@ -105,12 +104,8 @@ record-grouped i p q {n′ = n′} {e′ = e′} {m′ = m′} {v′ = v′} w x
   go true true true true true true false = refl
   go true true true true true true true = refl
 
--- what 14 asks
-or-false : (a b : Bool) → (a || b) ≡ false → (a ≡ false) × (b ≡ false)
-or-false true b e = absurd (subst T e tt)
-or-false false b e = (refl, e)
-
-pub enough : (c : Chart) (r t l : ℕ) → short c r t l ≡ false → (r * width c ≤ t) × (r ≤ l)
-enough c r t l e =
-    let h = or-false (ltb t (r * width c)) (ltb l r) e in
-    (ltb-false t (r * width c) (h .0), ltb-false l r (h .1))
+-- none of 20, 14 and 21 holds
+pub in-form : (words : List ℤ) (m : Memory) → not (well-formed words) ≡ false → short (decode words) (m .analysis .capacity) (length (m .table)) (length (m .waitlist)) ≡ false → not (analysis-ok (decode words) m) ≡ false → InForm words m
+in-form words m p q r =
+    let h = first.enough (decode words) (m .analysis .capacity) (length (m .table)) (length (m .waitlist)) q in
+    record { chart = first.passed (well-formed words) p; table = h .0; list = h .1; analysis = first.passed (analysis-ok (decode words) m) r }

@@ -1,6 +1,7 @@
-// The tests of 11 to 14, and form rule 21: whether lent words and a record are an analysis of a chart. Leaves look at
-// one row or one part of the words; the counts are tested first, since they bound what is read after. What looks at a
-// row or a table asks that it has enough words, since 14 is judged before 21; all else is total.
+// The tests of 11 to 14, form rule 21: whether lent words and a record are an analysis of a chart, and the refusals that
+// calls share: 20, 14 and 21. Leaves look at one row or one part of the words; the counts are tested first, since they
+// bound what is read after. What looks at a row or a table asks that it has enough words, since 14 is judged before 21;
+// all else is total.
 use semantics::Analysis;
 use semantics::EdgeId;
 use semantics::Mode;
@@ -16,7 +17,7 @@ ghost use Rattle.semantics.specs.Chart.{eqZ, within};
 ghost use Rattle.semantics.specs.Algorithm.{allowed};
 ghost use Rattle.semantics.specs.Encoding.{several, var-in, decode};
 ghost use Rattle.semantics.specs.Memory.{width, capacity-ok, value-ok, below, row-ok, rows-ok, each-once, is-alarm, empty-if-safe, analysis-ok};
-ghost use Rattle.semantics.specs.Outcomes.{budget-ok, short};
+ghost use Rattle.semantics.specs.Outcomes.{refusal, budget-ok, short, size-of, form-of};
 ghost use Rattle.checks.specs.Form.{lent, lent-tests, record-tests};
 
 // ---- the reached table
@@ -214,7 +215,7 @@ fn record_ok(a: Analysis, edges: usize) -> bool
     counts & edge_ok(edge, verdict) & rest & empty_if_safe(verdict, a.waiting)
 }
 
-// ---- the tests of 11, 13, 14 and 21, for other crates
+// ---- the tests of 11, 13, 14 and 21
 
 // A capacity that 11 lets pass.
 pub fn capacity_ok(capacity: i32) -> bool
@@ -231,7 +232,7 @@ pub fn budget_ok(budget: i32) -> bool
 }
 
 // Fewer words are lent than the capacity takes (14).
-pub fn is_short(chart: &[i32], capacity: u32, table: usize, list: usize) -> bool
+fn is_short(chart: &[i32], capacity: u32, table: usize, list: usize) -> bool
     ensures { λ r. ⌜ r ≡ short (decode (now (chart .entry))) capacity table list ⌝ }
 {
     let width = chart::width(chart);
@@ -240,7 +241,7 @@ pub fn is_short(chart: &[i32], capacity: u32, table: usize, list: usize) -> bool
 }
 
 // Form rule 21. That the words lent are enough (14) is judged before.
-pub fn analysis_ok(chart: &[i32], table: &[i32], list: &[i32], a: Analysis) -> bool
+fn analysis_ok(chart: &[i32], table: &[i32], list: &[i32], a: Analysis) -> bool
     requires { ⌜ (a .capacity * width (decode (now chart)) ≤ length (now table)) × (a .capacity ≤ length (now list)) ⌝ }
     ensures { λ r. ⌜ r ≡ analysis-ok (decode (now (chart .entry))) (lent (now (table .entry)) (now (list .entry)) a) ⌝ }
 {
@@ -252,4 +253,33 @@ pub fn analysis_ok(chart: &[i32], table: &[i32], list: &[i32], a: Analysis) -> b
         return record_ok(a, edges);
     }
     false
+}
+
+// ---- the refusals that calls share
+
+// 20, 14: the first that refuses a call with a capacity and so many table and list words, or 0.
+pub fn size_refusal(chart: &[i32], capacity: u32, table: usize, list: usize) -> u32
+    ensures { λ r. ⌜ r ≡ refusal (size-of (now (chart .entry)) capacity table list) ⌝ }
+{
+    if !chart::well_formed(chart) {
+        return 20;
+    }
+    if is_short(chart, capacity, table, list) {
+        return 14;
+    }
+    0
+}
+
+// 20, 14, 21: the first that refuses a call on an analysis, or 0.
+pub fn form_refusal(chart: &[i32], a: Analysis, table: &[i32], list: &[i32]) -> u32
+    ensures { λ r. ⌜ r ≡ refusal (form-of (now (chart .entry)) (lent (now (table .entry)) (now (list .entry)) a)) ⌝ }
+{
+    let earlier = size_refusal(chart, a.capacity, table.len(), list.len());
+    if earlier != 0 {
+        return earlier;
+    }
+    if !analysis_ok(chart, table, list, a) {
+        return 21;
+    }
+    0
 }

@@ -16,10 +16,10 @@ ghost use lib.IntN.{natAbs};
 ghost use lib.ListN.{length, set};
 ghost use Rattle.semantics.specs.Text.{decimal};
 ghost use Rattle.semantics.specs.Encoding.{val, decode, well-formed};
-ghost use Rattle.semantics.specs.Memory.{width, state-in, states-in, load, analysis-ok};
+ghost use Rattle.semantics.specs.Memory.{width, state-in, states-in, load};
 ghost use Rattle.semantics.specs.Listing.{mode-text, order-text, verdict-text, loc-text, val-text, mark, slot-text, slots-text, header-text, listing-text};
-ghost use Rattle.semantics.specs.Outcomes.{refusal, text-of, listing-cases, listing-outcome};
-ghost use Rattle.checks.specs.Form.{lent};
+ghost use Rattle.semantics.specs.Outcomes.{refusal, form-of, text-of, listing-cases, listing-outcome};
+ghost use Rattle.checks.specs.Form.{lent, InForm};
 ghost use Rattle.writer.specs.Writing.{Put, limit};
 ghost use Rattle.listing.specs.Pieces.{tabbed, values-text, words-text, counts-text, marked};
 
@@ -231,7 +231,7 @@ fn put_slots(
 
 // Writes the listing as far as it fits, and answers how long it is.
 fn write_listing(chart: &[i32], table: &[i32], list: &[i32], a: Analysis, out: &mut [u8]) -> usize
-    requires { ⌜ T (well-formed (now chart)) × (a .capacity * width (decode (now chart)) ≤ length (now table)) × (a .capacity ≤ length (now list)) × T (analysis-ok (decode (now chart)) (lent (now table) (now list) a)) ⌝ }
+    requires { ⌜ InForm (now chart) (lent (now table) (now list) a) ⌝ }
     ensures { λ r. ⌜ Put 0 (listing-text (decode (now (chart .entry))) (load (decode (now (chart .entry))) (lent (now (table .entry)) (now (list .entry)) a))) (now (out .entry)) (now (out .exit)) r ⌝ }
 {
     let used = a.used;
@@ -242,7 +242,7 @@ fn write_listing(chart: &[i32], table: &[i32], list: &[i32], a: Analysis, out: &
 
 // How long the listing is; it is written nowhere.
 fn listing_length(chart: &[i32], table: &[i32], list: &[i32], a: Analysis) -> usize
-    requires { ⌜ T (well-formed (now chart)) × (a .capacity * width (decode (now chart)) ≤ length (now table)) × (a .capacity ≤ length (now list)) × T (analysis-ok (decode (now chart)) (lent (now table) (now list) a)) ⌝ }
+    requires { ⌜ InForm (now chart) (lent (now table) (now list) a) ⌝ }
     ensures { λ r. ⌜ r ≡ min (length (text-of (decode (now (chart .entry))) (lent (now (table .entry)) (now (list .entry)) a))) limit ⌝ }
 {
     let mut none = [0u8; 1];
@@ -254,16 +254,11 @@ fn listing_length(chart: &[i32], table: &[i32], list: &[i32], a: Analysis) -> us
 // 20, 14, 21, 15: the first that refuses a listing into so many bytes, or 0.
 fn listing_refusal(chart: &[i32], a: Analysis, table: &[i32], list: &[i32], space: usize) -> u32
     requires { ⌜ space < limit ⌝ }
-    ensures { λ r. ⌜ r ≡ refusal (listing-cases (now (chart .entry)) (lent (now (table .entry)) (now (list .entry)) a) space) ⌝ }
+    ensures { λ r. ⌜ r ≡ refusal (listing-cases (form-of (now (chart .entry)) (lent (now (table .entry)) (now (list .entry)) a)) space (text-of (decode (now (chart .entry))) (lent (now (table .entry)) (now (list .entry)) a))) ⌝ }
 {
-    if !chart::well_formed(chart) {
-        return 20;
-    }
-    if checks::is_short(chart, a.capacity, table.len(), list.len()) {
-        return 14;
-    }
-    if !checks::analysis_ok(chart, table, list, a) {
-        return 21;
+    let earlier = checks::form_refusal(chart, a, table, list);
+    if earlier != 0 {
+        return earlier;
     }
     if semantics::LISTING_BYTES <= space {
         return 0;

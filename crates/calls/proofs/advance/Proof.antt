@@ -5,23 +5,21 @@ use mathlib.Core.List.{[]}
 use native.Mathlib.Omega.{arith}
 use borrow.Author.Needs.{needs}
 use denote.Ref.{now}
-use lib.ListN.{length}
+use lib.Dec.{T}
 use mir.Syntax.{w32}
 use mir.ValLaws.{toZ-ofZ}
-use Rattle.semantics.specs.Encoding.{decode}
-use Rattle.semantics.specs.Outcomes.{run-cases, refusal, run-outcome}
-use Rattle.checks.specs.Form.{lent}
-use Rattle.calls.proofs.Refusals.{RunPasses, run-passes, ends-refused, ends-through}
+use Rattle.semantics.specs.Outcomes.{budget-ok, form-of, run-cases, refusal, run-outcome}
+use Rattle.checks.specs.Form.{lent, InForm}
+use Rattle.calls.proofs.Refusals.{run-passes, ends-refused, ends-through}
 use Rattle.calls.proofs.Sized.{budgeted}
-use Rattle.checks.proofs.FormTests.{enough}
 use Rattle.calls.proofs.advance.Statement.{statement}
 use Rattle.calls.proofs.advance.Tie as tie
 
 -- nothing refuses the run
-none : (c : tie.Else1) → let s = c .before .before .before .before .args in refusal (run-cases (now (s .chart)) (s .budget) (lent (now (s .table)) (now (s .list)) (s .a))) ≡ 0
+none : (c : tie.Else1) → let s = c .before .before .before .before .args in refusal (run-cases (s .budget) (form-of (now (s .chart)) (lent (now (s .table)) (now (s .list)) (s .a))) (s .a .verdict) (s .a .iterations)) ≡ 0
 none c = let s = c .before .before .before .before in rw (sym (toZ-ofZ w32 (s .args .budget) (s .fits .budget))) (sym (c .before .run-refusal .ensures) ∙ c .if1 .left)
 
-passes : (c : tie.Else1) → let s = c .before .before .before .before .args in RunPasses (now (s .chart)) (s .budget) (lent (now (s .table)) (now (s .list)) (s .a))
+passes : (c : tie.Else1) → let s = c .before .before .before .before .args in T (budget-ok (s .budget)) × InForm (now (s .chart)) (lent (now (s .table)) (now (s .list)) (s .a))
 passes c = let s = c .before .before .before .before .args in run-passes (now (s .chart)) (s .budget) (lent (now (s .table)) (now (s .list)) (s .a)) (none c)
 
 returns : tie.Need-returns
@@ -31,22 +29,17 @@ returns c =
     let s = c .before .before .before .before .before in
     let m = lent (now (s .args .table)) (now (s .args .list)) (s .args .a) in
     ends-refused (k .result) _ m [] _ _
-    (k .ensures ∙ ap (λ z. refusal (run-cases (now (s .args .chart)) z m)) (toZ-ofZ w32 (s .args .budget) (s .fits .budget)))
+    (k .ensures ∙ ap (λ z. refusal (run-cases z (form-of (now (s .args .chart)) m) (s .args .a .verdict) (s .args .a .iterations))) (toZ-ofZ w32 (s .args .budget) (s .fits .budget)))
     (c .before .if1 .taken) (c .refused .ensures) refl
 
 cast-run-through : tie.Need-cast-run-through
 cast-run-through c =
     let s = c .before .before .before .before in
-    let k = budgeted (s .args .budget) (passes c .budget) in
+    let k = budgeted (s .args .budget) (passes c .0) in
     rw (toZ-ofZ w32 (s .args .budget) (s .fits .budget)) (k .sign, omega (arith, k .few))
 
 run-through-requires : tie.Need-run-through-requires
-run-through-requires c κs =
-    let f = c .before .before in
-    let s = f .before .before .before .before in
-    let p = passes f in
-    let h = enough (decode (now (s .args .chart))) (s .args .a .capacity) (length (now (s .args .table))) (length (now (s .args .list))) (p .room) in
-    (p .chart, h .0, h .1, p .form)
+run-through-requires c κs = passes (c .before .before) .1
 
 returns-2 : tie.Need-returns-2
 unfolding run-outcome

@@ -27,10 +27,10 @@ many c = c .edge-count .ensures .0 ∙ sym (edges-count (now (c .before .before 
 
 -- the words of the capacity lie in the table
 fits : (c : tie.After-edge-count) → c .before .before .args .a .capacity * c .before .width .result ≤ length (now (c .before .before .args .table))
-fits c = rw (wide c) (c .before .before .pre .1)
+fits c = rw (wide c) (c .before .before .pre .table)
 
 mul-size : tie.Need-mul-size
-mul-size c = let w = c .before .before in let s = w .before in omega (arith, words-fit (now (s .args .chart)) (w .width .result) (w .width .ensures .0) (s .pre .0) (s .args .a .capacity) (omega arith))
+mul-size c = let w = c .before .before in let s = w .before in omega (arith, words-fit (now (s .args .chart)) (w .width .result) (w .width .ensures .0) (s .pre .chart) (s .args .a .capacity) (omega arith))
 
 slice-relend-prefix-run-core : tie.Need-slice-relend-prefix-run-core
 slice-relend-prefix-run-core c = fits (c .before)
@@ -39,10 +39,10 @@ slice-aggregate-run-core : tie.Need-slice-aggregate-run-core
 slice-aggregate-run-core c = sym (length-take-le _ (now (c .before .before .before .before .args .table)) (fits (c .before .before)))
 
 slice-relend-prefix-run-core-2 : tie.Need-slice-relend-prefix-run-core-2
-slice-relend-prefix-run-core-2 c = c .before .before .before .before .pre .2
+slice-relend-prefix-run-core-2 c = c .before .before .before .before .pre .list
 
 slice-aggregate-run-core-2 : tie.Need-slice-aggregate-run-core-2
-slice-aggregate-run-core-2 c = sym (length-take-le _ (now (c .before .before .before .before .before .args .list)) (c .before .before .before .before .before .pre .2))
+slice-aggregate-run-core-2 c = sym (length-take-le _ (now (c .before .before .before .before .before .args .list)) (c .before .before .before .before .before .pre .list))
 
 run-core-requires : tie.Need-run-core-requires
 run-core-requires c κs =
@@ -50,7 +50,7 @@ run-core-requires c κs =
     let s = g .before .before in
     let ws = now (s .args .chart) in
     let m = lent (now (s .args .table)) (now (s .args .list)) (s .args .a) in
-    rw (wide g, many g) (entered (decode ws) m (s .pre .1) (s .pre .2) (s .pre .3), iterations-few (decode ws) m (s .pre .3), narrow ws (s .pre .0), edges-near ws (s .pre .0))
+    rw (wide g, many g) (entered (decode ws) m (s .pre .table) (s .pre .list) (s .pre .analysis), iterations-few (decode ws) m (s .pre .analysis), narrow ws (s .pre .chart), edges-near ws (s .pre .chart))
 
 returns : tie.Need-returns
 returns c =
@@ -59,7 +59,7 @@ returns c =
     let ws = now (s .args .chart) in
     let m = lent (now (s .args .table)) (now (s .args .list)) (s .args .a) in
     let k = c .before .before .run-core in
-    rw (wide g) (run-leaves ws (s .pre .0) m (k .result) _ _ (s .pre .1) (s .pre .2) (s .pre .3) (s .args .budget) (rw (wide g, many g) at (k .ensures)))
+    rw (wide g) (run-leaves ws (s .pre .chart) m (k .result) _ _ (s .pre .table) (s .pre .list) (s .pre .analysis) (s .args .budget) (rw (wide g, many g) at (k .ensures)))
 
 pub run-through-spec : {M : Type 1} → statement M
 run-through-spec =

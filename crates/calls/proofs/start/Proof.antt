@@ -9,17 +9,15 @@ use lib.IntN.{natAbs}
 use lib.ListN.{length}
 use mir.Syntax.{w32}
 use mir.ValLaws.{toZ-ofZ}
-use Rattle.semantics.specs.Encoding.{decode}
-use Rattle.semantics.specs.Outcomes.{start-cases, refusal, start-outcome}
+use Rattle.semantics.specs.Outcomes.{size-of, start-cases, refusal, start-outcome}
 use Rattle.checks.specs.Form.{lent}
 use Rattle.calls.proofs.Refusals.{StartPasses, start-passes, ends-refused, ends-through}
 use Rattle.calls.proofs.Sized.{counted}
-use Rattle.checks.proofs.FormTests.{enough}
 use Rattle.calls.proofs.start.Statement.{statement}
 use Rattle.calls.proofs.start.Tie as tie
 
 -- nothing refuses the start
-none : (c : tie.Else1) → let s = c .before .before .args in refusal (start-cases (now (s .chart)) (s .settings) (s .capacity) (length (now (s .table))) (length (now (s .list)))) ≡ 0
+none : (c : tie.Else1) → let s = c .before .before .args in refusal (start-cases (s .settings) (s .capacity) (size-of (now (s .chart)) (natAbs (s .capacity)) (length (now (s .table))) (length (now (s .list))))) ≡ 0
 none c = let s = c .before .before in rw (sym (toZ-ofZ w32 (s .args .capacity) (s .fits .capacity))) (sym (c .before .start-refusal .ensures) ∙ c .if1 .left)
 
 passes : (c : tie.Else1) → let s = c .before .before .args in StartPasses (now (s .chart)) (s .settings) (s .capacity) (length (now (s .table))) (length (now (s .list)))
@@ -31,7 +29,7 @@ returns c =
     let k = c .before .before .start-refusal in
     let s = c .before .before .before in
     ends-refused (k .result) _ (lent (now (s .args .table)) (now (s .args .list)) (s .args .a)) [] _ _
-    (k .ensures ∙ ap (λ z. refusal (start-cases (now (s .args .chart)) (s .args .settings) z (length (now (s .args .table))) (length (now (s .args .list))))) (toZ-ofZ w32 (s .args .capacity) (s .fits .capacity)))
+    (k .ensures ∙ ap (λ z. refusal (start-cases (s .args .settings) z (size-of (now (s .args .chart)) (natAbs z) (length (now (s .args .table))) (length (now (s .args .list)))))) (toZ-ofZ w32 (s .args .capacity) (s .fits .capacity)))
     (c .before .if1 .taken) (c .refused .ensures) refl
 
 cast-start-through : tie.Need-cast-start-through
@@ -46,8 +44,7 @@ start-through-requires c κs =
     let s = f .before .before in
     let p = passes f in
     let k = counted (s .args .capacity) (p .capacity) in
-    let h = enough (decode (now (s .args .chart))) (natAbs (s .args .capacity)) (length (now (s .args .table))) (length (now (s .args .list))) (p .room) in
-    rw (toZ-ofZ w32 (s .args .capacity) (s .fits .capacity)) (p .chart, p .settings, k .some, k .few, h .0, h .1)
+    rw (toZ-ofZ w32 (s .args .capacity) (s .fits .capacity)) (p .chart, p .settings, k .some, k .few, p .room .0, p .room .1)
 
 returns-2 : tie.Need-returns-2
 unfolding start-outcome

@@ -1,5 +1,5 @@
 -- `listing::listing` meets its contract. Assumes nothing.
-use mathlib.Core.Path.{sym, ap, _∙_}
+use mathlib.Core.Path.{_≡_, sym, ap, _∙_}
 use mathlib.Core.List.{List, _++_}
 use Prim.Native.Nat.{ℕ, _+_, _≤_}
 use native.Mathlib.Nat.{zero-add}
@@ -9,11 +9,10 @@ use lib.IntN.{ℤ}
 use lib.ListN.{length, drop}
 use Rattle.semantics.specs.Encoding.{decode}
 use Rattle.semantics.specs.Memory.{Memory}
-use Rattle.semantics.specs.Outcomes.{Outcome, fine}
-use Rattle.checks.specs.Form.{lent}
+use Rattle.semantics.specs.Outcomes.{Outcome, fine, refusal, text-of}
+use Rattle.checks.specs.Form.{lent, InForm}
 use Rattle.writer.proofs.Written.{put-fits}
-use Rattle.semantics.specs.Outcomes.{text-of}
-use Rattle.listing.proofs.Refusals.{Passed, listing-passed, listing-refused, listing-through}
+use Rattle.listing.proofs.Refusals.{cases, listing-passes, listing-refused, listing-through}
 use Rattle.listing.proofs.listing.Statement.{statement}
 use Rattle.listing.proofs.listing.Tie as tie
 
@@ -25,10 +24,11 @@ module _ (s : tie.Start) where
   memory = lent (s .args .table .now) (s .args .list .now) (s .args .a)
 
 -- nothing refuses
-through : (c : tie.Else1) → let s = c .before .before .before in Passed (words s) (memory s) (length (s .args .space .now))
-through c =
-    let s = c .before .before .before in
-    listing-passed (words s) (memory s) (length (s .args .space .now)) (sym (c .before .listing-refusal .ensures) ∙ c .if1 .left)
+none : (c : tie.Else1) → let s = c .before .before .before in refusal (cases (words s) (memory s) (s .args .space .now)) ≡ 0
+none c = sym (c .before .listing-refusal .ensures) ∙ c .if1 .left
+
+through : (c : tie.Else1) → let s = c .before .before .before in InForm (words s) (memory s) × (length (text-of (decode (words s)) (memory s)) ≤ length (s .args .space .now))
+through c = let s = c .before .before .before in listing-passes (words s) (memory s) (s .args .space .now) (none c)
 
 returns : tie.Need-returns
 returns c =
@@ -38,7 +38,7 @@ returns c =
     (c .refused .ensures ∙ ap (λ (x : Outcome). x .answer) o, ap (λ (x : Outcome). x .space) o)
 
 write-listing-requires : tie.Need-write-listing-requires
-write-listing-requires c κs = let h = through (c .before) in (h .formed, h .enough .0, h .enough .1, h .ok)
+write-listing-requires c κs = through (c .before) .0
 
 returns-2 : tie.Need-returns-2
 returns-2 c =
@@ -46,8 +46,8 @@ returns-2 c =
     let s = b .before .before .before in
     let space = s .args .space .now in
     let text = text-of (decode (words s)) (memory s) in
-    let o = listing-through (words s) (memory s) space (b .before .listing-refusal .ensures) (b .if1 .left) in
-    let long : 0 + length text ≤ length space = omega (arith, through b .fits) in
+    let o = listing-through (words s) (memory s) space (none b) in
+    let long : 0 + length text ≤ length space = omega (arith, through b .1) in
     let f = put-fits (c .before .before .before .write-listing .ensures) long in (
       c .gone-through .ensures ∙ ap fine (f .1 ∙ zero-add (length text)) ∙ ap (λ (x : Outcome). x .answer) o,
       f .0 ∙ ap (λ (n : ℕ). text ++ drop n space) (zero-add (length text)) ∙ ap (λ (x : Outcome). x .space) o,

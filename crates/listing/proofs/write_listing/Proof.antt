@@ -15,20 +15,20 @@ use Rattle.listing.proofs.write_listing.Statement.{statement}
 use Rattle.listing.proofs.write_listing.Tie as tie
 
 order : (s : tie.Start) → (s .args .a .used ≤ s .args .a .capacity) × (s .args .a .waiting ≤ s .args .a .used)
-order s = counts-in-order (decode (s .args .chart .now)) (lent (s .args .table .now) (s .args .list .now) (s .args .a)) (s .pre .3)
+order s = counts-in-order (decode (s .args .chart .now)) (lent (s .args .table .now) (s .args .list .now) (s .args .a)) (s .pre .analysis)
 
 slice-aggregate-put-slots : tie.Need-slice-aggregate-put-slots
 slice-aggregate-put-slots c =
     let s = c .before .before .before .before .before .before .before in
     let o = order s in
-    sym (length-take-le (s .args .a .waiting) (s .args .list .now) (omega (arith, s .pre .2, o .0, o .1)))
+    sym (length-take-le (s .args .a .waiting) (s .args .list .now) (omega (arith, s .pre .list, o .0, o .1)))
 
 put-slots-requires : tie.Need-put-slots-requires
 put-slots-requires c κs =
     let s = c .before .before .before .before .before .before .before in
     let o = order s in
     let w = width (decode (s .args .chart .now)) in
-    (s .pre .0, omega (arith, s .pre .1, mul-le-mul-right w (o .0)), few-used (decode (s .args .chart .now)) (lent (s .args .table .now) (s .args .list .now) (s .args .a)) (s .pre .3))
+    (s .pre .chart, omega (arith, s .pre .table, mul-le-mul-right w (o .0)), few-used (decode (s .args .chart .now)) (lent (s .args .table .now) (s .args .list .now) (s .args .a)) (s .pre .analysis))
 
 returns : tie.Need-returns
 returns c =

@@ -1,0 +1,52 @@
+-- `checks::form_refusal` meets its contract: 21 where 20 and 14 refuse nothing. Assumes nothing.
+use mathlib.Core.Path.{_≡_, sym, ap, _∙_}
+use mathlib.Core.Bool.{Bool, not}
+use mathlib.Core.List.{List, [], _∷_}
+use borrow.Author.Needs.{needs}
+use borrow.Author.Tests.{not-true, not-false}
+use lib.ListN.{length}
+use Rattle.semantics.specs.Encoding.{decode}
+use Rattle.semantics.specs.Memory.{analysis-ok}
+use Rattle.semantics.specs.Outcomes.{Case, case, refusal, size-of, form-of}
+use Rattle.semantics.proofs.FirstCase.{NoneHolds, none-holds, enough, later, sooner}
+use Rattle.checks.specs.Form.{lent}
+use Rattle.checks.proofs.form_refusal.Statement.{statement}
+use Rattle.checks.proofs.form_refusal.Tie as tie
+
+module _ (s : tie.Start) where
+  abbrev ok : Bool
+  ok = analysis-ok (decode (s .args .chart .now)) (lent (s .args .table .now) (s .args .list .now) (s .args .a))
+
+  -- 20 and 14, and what comes after them
+  abbrev size : List Case
+  size = size-of (s .args .chart .now) (s .args .a .capacity) (length (s .args .table .now)) (length (s .args .list .now))
+
+  abbrev rest : List Case
+  rest = case 21 (not ok) ∷ []
+
+module _ (c : tie.Else1) where
+  abbrev start : tie.Start
+  start = c .before .before
+
+  none : NoneHolds (size start)
+  none = none-holds (size start) tt (sym (c .before .size-refusal .ensures) ∙ c .if1 .left)
+
+  last : {b : Bool} → ok start ≡ b → refusal (case 21 (not b) ∷ []) ≡ refusal (form-of (start .args .chart .now) (lent (start .args .table .now) (start .args .list .now) (start .args .a)))
+  last e = ap (λ (x : Bool). refusal (case 21 (not x) ∷ [])) (sym e) ∙ sym (later (size start) (rest start) none)
+
+returns : tie.Need-returns
+returns c = let s = c .before .before in sooner (size s) (rest s) _ (c .before .size-refusal .ensures) (c .if1 .taken)
+
+analysis-ok-requires : tie.Need-analysis-ok-requires
+analysis-ok-requires c κs =
+    let s = start c .args in
+    enough (decode (s .chart .now)) (s .a .capacity) (length (s .table .now)) (length (s .list .now)) (none c .1 .0)
+
+returns-2 : tie.Need-returns-2
+returns-2 c = last (c .before .before) (sym (c .before .analysis-ok .ensures) ∙ not-true _ (c .if2 .taken))
+
+returns-3 : tie.Need-returns-3
+returns-3 c = last (c .before .before) (sym (c .before .analysis-ok .ensures) ∙ not-false _ (c .if2 .left))
+
+pub form-refusal-spec : {M : Type 1} → statement M
+form-refusal-spec = tie.close (tie.spec (λ c κs. search needs) returns analysis-ok-requires returns-2 returns-3)
