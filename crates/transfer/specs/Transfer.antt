@@ -85,7 +85,7 @@ holds-by n a b =
 -- a side of the relation of code n is variable k, at top; the other side is x. "With eq, one side known [..]: that
 -- variable takes the value if in its range, else no successor. Every other case passes unchanged"
 unfoldable pub refine-by : List ℤ → ℕ → ℕ → ℤ → List ℤ → Step (List ℤ)
-refine-by c n k x e = pick (eqb n 5 && not (eqZ x (pos 32768))) (set-ranged c k x e) (to e)
+refine-by c n k x e = pick (not (eqZ x (pos 32768)) && eqb n 5) (set-ranged c k x e) (to e)
 
 -- its sides are x, variable k, and y, variable j where it is at top
 unfoldable pub tested-by : List ℤ → ℕ → ℕ → ℕ → ℤ → ℤ → List ℤ → Step (List ℤ)

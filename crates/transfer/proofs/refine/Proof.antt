@@ -15,8 +15,8 @@ use Rattle.transfer.proofs.refine.Statement.{statement}
 use Rattle.transfer.proofs.refine.Tie as tie
 
 -- the test, of the word and of its bits
-tested : (s : tie.Start) → (eqb (s .args .n) 5 && not (eqZ (s .args .x) (pos 32768))) ≡ (eqb (s .args .n) 5 && not (eqb (ofZ w32 (s .args .x)) (ofZ w32 (pos 32768))))
-tested s = ap (λ (b : Bool). eqb (s .args .n) 5 && not b) (sym (bits-eqb w32 {b = pos 32768} (s .fits .x) (sfits-lit tt)))
+tested : (s : tie.Start) → (not (eqZ (s .args .x) (pos 32768)) && eqb (s .args .n) 5) ≡ (not (eqb (ofZ w32 (s .args .x)) (ofZ w32 (pos 32768))) && eqb (s .args .n) 5)
+tested s = ap (λ (b : Bool). not b && eqb (s .args .n) 5) (sym (bits-eqb w32 {b = pos 32768} (s .fits .x) (sfits-lit tt)))
 
 returns : tie.Need-returns
 unfolding refine-by
