@@ -14,11 +14,11 @@ use Rattle.semantics.specs.Lists.{some-of, all, all-pairs, all-of}
 use Rattle.semantics.specs.Chart.{eqZ, within}
 use Rattle.semantics.specs.Encoding.{several, var-in, count, decode, well-formed}
 use Rattle.semantics.specs.declared.Analysis.{Analysis}
-use Rattle.semantics.specs.Memory.{Memory, value-ok, below, width, row-ok, rows-ok, each-once, analysis-ok}
+use Rattle.semantics.specs.Memory.{Memory, value-ok, below, width, row-ok, rows-ok, each-once, lent-tests, record-tests, analysis-ok}
 use Rattle.semantics.specs.Outcomes.{short}
 use Rattle.semantics.proofs.Decoded.{vars-count, locs-count, edges-count}
 use Rattle.semantics.proofs.FirstCase as first
-use Rattle.checks.specs.Form.{lent, lent-tests, record-tests, InForm}
+use Rattle.checks.specs.Form.{lent, InForm}
 
 -- ---- tests
 

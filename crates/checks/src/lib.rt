@@ -16,9 +16,9 @@ ghost use Rattle.semantics.specs.Lists.{all, all-pairs, all-of};
 ghost use Rattle.semantics.specs.Chart.{eqZ, within};
 ghost use Rattle.semantics.specs.Algorithm.{allowed};
 ghost use Rattle.semantics.specs.Encoding.{several, var-in, decode};
-ghost use Rattle.semantics.specs.Memory.{width, capacity-ok, value-ok, below, row-ok, rows-ok, each-once, is-alarm, empty-if-safe, analysis-ok};
+ghost use Rattle.semantics.specs.Memory.{width, capacity-ok, value-ok, below, row-ok, rows-ok, each-once, is-alarm, empty-if-safe, lent-tests, record-tests, analysis-ok};
 ghost use Rattle.semantics.specs.Outcomes.{refusal, budget-ok, short, size-of, form-of};
-ghost use Rattle.checks.specs.Form.{lent, lent-tests, record-tests};
+ghost use Rattle.checks.specs.Form.{lent};
 
 // ---- the reached table
 

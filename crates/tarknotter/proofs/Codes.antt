@@ -8,7 +8,7 @@ use lib.IntN.{ℤ}
 use lib.ListN.{length}
 use Rattle.semantics.specs.Lists.{pick, all-of}
 use Rattle.semantics.specs.Chart.{Chart}
-use Rattle.semantics.specs.Memory.{analysis-ok}
+use Rattle.semantics.specs.Memory.{lent-tests, record-tests, analysis-ok}
 use Rattle.semantics.specs.declared.Mode.{Mode}
 use Rattle.semantics.specs.declared.Mode.the-variants.{Sep, Join}
 use Rattle.semantics.specs.declared.Order.{Order}
@@ -16,7 +16,7 @@ use Rattle.semantics.specs.declared.Order.the-variants.{Old, New}
 use Rattle.semantics.specs.declared.Verdict.{Verdict}
 use Rattle.semantics.specs.declared.Verdict.the-variants.{Open, Safe, Alarm, Full}
 use Rattle.semantics.specs.declared.Analysis.{Analysis}
-use Rattle.checks.specs.Form.{lent, lent-tests, record-tests}
+use Rattle.checks.specs.Form.{lent}
 use Rattle.tarknotter.specs.declared.Record.{Record}
 use Rattle.tarknotter.specs.Records.{mode-code, order-code, verdict-code, record-of, mode-in, order-in, verdict-in, codes-named, analysis-in}
 

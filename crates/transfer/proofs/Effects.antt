@@ -122,20 +122,15 @@ module _ (c : Chart) (ok : T (chart-ok c)) (rest : List ℤ) (l : ℤ) (xs : Lis
   refine-is : (r : Rel) (k : ℕ) (z : ℤ) → k < length (c .vars) → Plain (known z) → refine-by ws (rel-code r) k z e ≡ row-step l (one-known (c .vars) r (var k) z xs)
   unfolding refine-by
   refine-is eq k z h p = rw p (set-ranged-is k z h)
-  refine-is ne k z h p = refl
-  refine-is lt k z h p = refl
-  refine-is le k z h p = refl
-  refine-is gt k z h p = refl
-  refine-is ge k z h p = refl
+  refine-is ne k z h p = rw p
+  refine-is lt k z h p = rw p
+  refine-is le k z h p = rw p
+  refine-is gt k z h p = rw p
+  refine-is ge k z h p = rw p
 
-  nothing-known : (r : Rel) (k : ℕ) → refine-by ws (rel-code r) k (pos 32768) e ≡ to e
+  nothing-known : (n k : ℕ) → refine-by ws n k (pos 32768) e ≡ to e
   unfolding refine-by
-  nothing-known eq k = refl
-  nothing-known ne k = refl
-  nothing-known lt k = refl
-  nothing-known le k = refl
-  nothing-known gt k = refl
-  nothing-known ge k = refl
+  nothing-known n k = refl
 
   -- only a variable is at top
   abbrev Sided : Operand → Value → Type 0
@@ -150,7 +145,7 @@ module _ (c : Chart) (ok : T (chart-ok c)) (rest : List ℤ) (l : ℤ) (xs : Lis
   tested-is r k (num z) (known x) top h o p q s = absurd s
   tested-is r k (var j) (known x) top h o p q s = rw p (refine-is r j x (ltb→lt j (length (c .vars)) o) p)
   tested-is r k a top (known y) h o p q s = refine-is r k y h q
-  tested-is r k a top top h o p q s = nothing-known r k
+  tested-is r k a top top h o p q s = nothing-known (rel-code r) k
 
   -- ---- operands
 

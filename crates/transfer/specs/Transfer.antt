@@ -1,6 +1,6 @@
 -- The transfer of an edge of the encoded chart on a row of words, the test of an error location, and the initial row,
 -- with no word on the form of either: a word past the end is 0, a number's sign does not count. Assumes nothing.
-use mathlib.Core.Bool.{Bool, _||_, not}
+use mathlib.Core.Bool.{Bool, _&&_, _||_, not}
 use mathlib.Core.List.{List, [], _∷_}
 use Prim.Native.Nat.{ℕ, zero, suc, _+_, _*_}
 use lib.Dec.{ltb, eqb}
@@ -82,9 +82,10 @@ unfoldable pub holds-by : ℕ → ℤ → ℤ → Bool
 holds-by n a b =
     pick (eqb n 5) (eqZ a b) (pick (eqb n 6) (not (eqZ a b)) (pick (eqb n 7) (ltZ a b) (pick (eqb n 8) (leZ a b) (pick (eqb n 9) (ltZ b a) (leZ b a)))))
 
--- a side of the relation of code n is variable k, at top; the other side is x
+-- a side of the relation of code n is variable k, at top; the other side is x. "With eq, one side known [..]: that
+-- variable takes the value if in its range, else no successor. Every other case passes unchanged"
 unfoldable pub refine-by : List ℤ → ℕ → ℕ → ℤ → List ℤ → Step (List ℤ)
-refine-by c n k x e = pick (eqb n 5) (pick (eqZ x (pos 32768)) (to e) (set-ranged c k x e)) (to e)
+refine-by c n k x e = pick (not (eqZ x (pos 32768)) && eqb n 5) (set-ranged c k x e) (to e)
 
 -- its sides are x, variable k, and y, variable j where it is at top
 unfoldable pub tested-by : List ℤ → ℕ → ℕ → ℕ → ℤ → ℤ → List ℤ → Step (List ℤ)

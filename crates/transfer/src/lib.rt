@@ -190,10 +190,7 @@ fn refine(chart: &[i32], n: usize, k: usize, x: i32, row: &mut [i32]) -> Move
     requires { ⌜ k < 2147483649 ⌝ }
     ensures { λ r. ⌜ step-of r (now (row .exit)) ≡ refine-by (now (chart .entry)) n k x (now (row .entry)) ⌝ }
 {
-    if n == 5 {
-        if x == words::TOP {
-            return Move::Successor;
-        }
+    if (x != words::TOP) & (n == 5) {
         return put_ranged(chart, k, words::wide(x), row);
     }
     Move::Successor

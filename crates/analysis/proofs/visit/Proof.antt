@@ -25,30 +25,12 @@ module _ (d : tie.After-successor) where
   row-length : length row ≡ length (start .args .copy .now)
   row-length = d .successor .kept .1 .1 .1 .0 ∙ start .pre .2
 
-successor-requires : tie.Need-successor-requires
-successor-requires c κs = let s = c .before in (s .pre .0 .wide, s .pre .2, s .pre .3)
-
 returns : tie.Need-returns
 returns c =
     let i = c .before .before in
     let d = i .before .before .before .before .before in
     let b : error-row (start d .args .chart .now) (row d) ≡ true = sym (i .is-error .ensures) ∙ c .before .if1 .taken in
     rw (c .alarm-by2 .ensures) (record { out = rw (moved d Successor (i .before .before .enum-told3 .given .1), b); kept = start d .pre .0 })
-
-arrive-requires : tie.Need-arrive-requires
-arrive-requires c κs =
-    let d = c .before .before .before .before .before .before .before .before .before in
-    rw (row-length d) (start d .pre .0, start d .pre .1)
-
-returns-2 : tie.Need-returns-2
-returns-2 c =
-    let d = c .before .before .before .before in
-    rw (c .went-on .ensures) (record { out = rw (moved d Halt (c .before .enum-told .given .1)); kept = start d .pre .0 })
-
-returns-3 : tie.Need-returns-3
-returns-3 c =
-    let d = c .before .before .before .before in
-    rw (c .alarm-by .ensures) (record { out = rw (moved d Fault (c .before .enum-told2 .given .1)); kept = start d .pre .0 })
 
 returns-4 : tie.Need-returns-4
 returns-4 c =
@@ -63,7 +45,7 @@ pub visit-spec : {M : Type 1} → statement M
 visit-spec =
     tie.close
     (tie.spec
-    successor-requires
+    (λ c κs. let s = c .before in (s .pre .0 .wide, s .pre .2, s .pre .3))
     (λ c. search needs)
     (λ c κs. search needs)
     (λ c. search needs)
@@ -73,11 +55,11 @@ visit-spec =
     (λ c κs. search needs)
     (λ c. search needs)
     returns
-    arrive-requires
+    (λ c κs. let d = c .before .before .before .before .before .before .before .before .before in rw (row-length d) (start d .pre .0, start d .pre .1))
     (λ c. search needs)
-    returns-2
+    (λ c. let d = c .before .before .before .before in rw (c .went-on .ensures) (record { out = rw (moved d Halt (c .before .enum-told .given .1)); kept = start d .pre .0 }))
     (λ c. search needs)
-    returns-3
+    (λ c. let d = c .before .before .before .before in rw (c .alarm-by .ensures) (record { out = rw (moved d Fault (c .before .enum-told2 .given .1)); kept = start d .pre .0 }))
     (λ c. search needs)
     (λ c. search needs)
     (λ c. search needs)

@@ -4,7 +4,7 @@ use Prim.Native.Nat.{ℕ}
 use borrow.Author.Needs.{needs}
 use Rattle.semantics.specs.Lists.{all-of}
 use Rattle.semantics.specs.Encoding.{count}
-use Rattle.checks.specs.Form.{record-tests}
+use Rattle.semantics.specs.Memory.{record-tests}
 use Rattle.checks.proofs.FormTests.{passed, failed, both-parts}
 use Rattle.checks.proofs.analysis_ok.Statement.{statement}
 use Rattle.checks.proofs.analysis_ok.Tie as tie

@@ -15,8 +15,7 @@ use lib.Seq.{length-take-le}
 use Rattle.semantics.specs.Lists.{all, all-of}
 use Rattle.semantics.specs.Chart.{Chart}
 use Rattle.semantics.specs.Encoding.{decode}
-use Rattle.semantics.specs.Memory.{width, below, rows-ok, each-once, zeros}
-use Rattle.checks.specs.Form.{lent-tests}
+use Rattle.semantics.specs.Memory.{width, below, rows-ok, each-once, zeros, lent-tests}
 use Rattle.semantics.proofs.Decoded.{width-is}
 use Rattle.words.proofs.Rows.{drop-take}
 use Rattle.checks.proofs.FormTests.{passed, failed, lent-grouped}

@@ -66,8 +66,7 @@ returns-2 c =
 
 -- neither side is at top: the test decides
 decided : (c : tie.After-holds) (t : Bool) → c .holds .result ≡ t →
-    let a = start (c .before .before .before) .args in
-    pick t (to (a .row .now)) halt ≡ assume-at (a .chart .now) (a .n) (a .edge .at) (a .row .now)
+    let a = start (c .before .before .before) .args in pick t (to (a .row .now)) halt ≡ assume-at (a .chart .now) (a .n) (a .edge .at) (a .row .now)
 unfolding assume-at tested-by
 decided c t e =
     let o = c .before .before .before in

@@ -1,35 +1,35 @@
 -- `transfer::refine` meets its contract. Assumes nothing.
-use mathlib.Core.Path.{_∙_}
+use mathlib.Core.Path.{_≡_, sym, ap, _∙_}
+use mathlib.Core.Bool.{Bool, _&&_, not}
 use borrow.Author.Needs.{needs, sfits-of}
-use borrow.Author.Tests.{eq-eqb, ne-eqb}
+use lib.Dec.{eqb}
 use lib.IntN.{pos}
 use mir.Syntax.{w32, w64}
 use mir.Facts.{sfits-lit}
+use mir.Val.{ofZ}
 use mir.ValLaws.{toZ-ofZ}
-use Rattle.words.proofs.Words.{bits-eq, bits-ne}
+use Rattle.semantics.specs.Chart.{eqZ}
+use Rattle.words.proofs.Words.{bits-eqb}
 use Rattle.transfer.specs.Transfer.{refine-by}
 use Rattle.transfer.proofs.refine.Statement.{statement}
 use Rattle.transfer.proofs.refine.Tie as tie
 
+-- the test, of the word and of its bits
+tested : (s : tie.Start) → (not (eqZ (s .args .x) (pos 32768)) && eqb (s .args .n) 5) ≡ (not (eqb (ofZ w32 (s .args .x)) (ofZ w32 (pos 32768))) && eqb (s .args .n) 5)
+tested s = ap (λ (b : Bool). not b && eqb (s .args .n) 5) (sym (bits-eqb w32 {b = pos 32768} (s .fits .x) (sfits-lit tt)))
+
 returns : tie.Need-returns
 unfolding refine-by
 returns c =
-    let s = c .before .before in
-    rw (eq-eqb (s .args .n) 5 (c .before .if1 .taken), bits-eq w32 {a = s .args .x} {b = pos 32768} (s .fits .x) (sfits-lit tt) (c .if2 .taken))
+    let w = c .before .before .before in
+    let s = w .before .before in
+    let x = w .wide .result in
+    rw (tested s ∙ w .before .if1 .taken)
+    (c .before .put-ranged .ensures ∙ rw (toZ-ofZ w64 x (sfits-of {z = x} (w .wide .ok)), w .wide .ensures, toZ-ofZ w32 (s .args .x) (s .fits .x)))
 
 returns-2 : tie.Need-returns-2
 unfolding refine-by
-returns-2 c =
-    let w = c .before .before .before in
-    let s = w .before .before .before in
-    let x = w .wide .result in
-    rw (eq-eqb (s .args .n) 5 (w .before .before .if1 .taken), bits-ne w32 {a = s .args .x} {b = pos 32768} (s .fits .x) (sfits-lit tt) (w .before .if2 .left))
-    (c .before .put-ranged .ensures ∙ rw (toZ-ofZ w64 x (sfits-of {z = x} (w .wide .ok)), w .wide .ensures, toZ-ofZ w32 (s .args .x) (s .fits .x)))
-
-returns-3 : tie.Need-returns-3
-unfolding refine-by
-returns-3 c = rw (ne-eqb (c .before .args .n) 5 (c .if1 .left))
+returns-2 c = rw (tested (c .before) ∙ c .if1 .left)
 
 pub refine-spec : {M : Type 1} → statement M
-refine-spec =
-    tie.close (tie.spec returns (λ c κs. search needs) (λ c κs. search needs) (λ c. search needs) returns-2 returns-3)
+refine-spec = tie.close (tie.spec (λ c κs. search needs) (λ c κs. search needs) (λ c. search needs) returns returns-2)
