@@ -134,7 +134,7 @@ fn put_value(out: &mut [u8], at: usize, w: i32) -> usize
     writer::put_signed(out, place, w)
 }
 
-// The values of a row. The empty text before them keeps the place within writing's limit.
+// The values of a row. The empty text before them keeps the place within the writer's limit.
 fn put_values(out: &mut [u8], at: usize, values: &[i32]) -> usize
     ensures { λ r. ⌜ Put at (values-text (now (values .entry))) (now (out .entry)) (now (out .exit)) r ⌝ }
 {

@@ -20,7 +20,7 @@ one-edge o = record {
 }
 
 -- an operation, the values of the two variables before it, and those after it
-pub record Move : Type 0 where
+pub record Sample : Type 0 where
   pub op : Op
   pub x : ℤ
   pub y : ℤ
@@ -28,24 +28,24 @@ pub record Move : Type 0 where
   pub y′ : ℤ
 
 -- the operation takes x y to x′ y′
-abbrev takes : Op → ℤ → ℤ → ℤ → ℤ → Move
+abbrev takes : Op → ℤ → ℤ → ℤ → ℤ → Sample
 takes o x y x′ y′ = record { op = o; x = x; y = y; x′ = x′; y′ = y′ }
 
 -- the operation, an `if` or `skip`, leaves x y as they are
-abbrev keeps : Op → ℤ → ℤ → Move
+abbrev keeps : Op → ℤ → ℤ → Sample
 keeps o x y = takes o x y x y
 
 -- the two states are a run
-abbrev pub Runs : Move → Type 0
+abbrev pub Runs : Sample → Type 0
 Runs m = Execution (system (one-edge (m .op))) (record { loc = 0; vals = m .x ∷ m .y ∷ [] } ∷ record { loc = 1; vals = m .x′ ∷ m .y′ ∷ [] } ∷ [])
 
 -- a single claim over the list
-abbrev pub AllRun : List Move → Type 0
+abbrev pub AllRun : List Sample → Type 0
 AllRun [] = Unit
 AllRun (m ∷ ms) = Runs m × AllRun ms
 
 -- each operation and each relation, at the ends of ranges and of p..q, with numbers and variables as operands
-abbrev pub some-moves : List Move
+abbrev pub some-moves : List Sample
 some-moves =
     takes (assign 0 (var 1)) (pos 1) (pos 2) (pos 2) (pos 2)
     ∷ takes (assign 1 (num (pos 9))) (negsuc 8) (pos 2) (negsuc 8) (pos 9)

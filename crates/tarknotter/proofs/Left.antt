@@ -1,4 +1,4 @@
--- From what the walker's calls leave to what the boundary owes. Assumes nothing.
+-- From what the calls leave to what the boundary owes. Assumes nothing.
 use mathlib.Core.Path.{_≡_, refl, sym, ap, subst, _∙_}
 use mathlib.Core.Bool.{Bool, true, false, not}
 use mathlib.Core.List.{List, [], _∷_}
@@ -14,7 +14,7 @@ use Rattle.tarknotter.specs.Replies.{as-reply}
 use Rattle.tarknotter.specs.Records.{settings-in, settings-named}
 use Rattle.tarknotter.specs.Calls.{start-by-codes, record-after, Ends-by-codes}
 
--- what the walker answers, with the record before where it refuses
+-- what a call answers, with the record before where it refuses
 pub left : {o : Outcome} {before : Record} {w : walker.Called} {r : Called} {t l : List ℤ} → Ends-called o w t l → (r .reply ≡ as-reply (w .answer)) × (r .record ≡ record-after before (w .answer) (w .analysis)) →
     Ends-by-codes o before r t l
 left {before = before} e h =

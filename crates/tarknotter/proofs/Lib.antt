@@ -1,3 +1,3 @@
--- Codes read back, then the way from the walker's calls to the boundary.
+-- Codes read back, then the way from the calls to the boundary.
 pub mod Codes
 pub mod Left

@@ -189,7 +189,7 @@ fn analysis_in(r: Record) -> Analysis
 
 // ---- the calls
 
-// What the walker answers, with the record before where it refuses.
+// What a call answers, with the record before where it refuses.
 fn answered(before: Record, c: calls::Called) -> Called
     ensures { λ r. ⌜ (r .reply ≡ as-reply (c .answer)) × (r .record ≡ record-after before (c .answer) (c .analysis)) ⌝ }
 {
