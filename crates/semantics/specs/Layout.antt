@@ -1,0 +1,129 @@
+-- The numbers of the layout, each under its name: the word for top, the sizes of the rows of an encoded chart, the place
+-- of each word in its row, and the codes of operations. docs/memory.md shows them as pictures. Assumes nothing.
+use Prim.Native.Nat.{ℕ, _+_, _*_}
+use lib.IntN.{ℤ, pos}
+
+-- "unspecific written 32,768, which no variable can hold"
+abbrev pub top-word : ℤ
+top-word = pos 32768
+
+-- ---- sizes, in words
+
+-- an encoded chart begins with its numbers of variables, locations and edges
+abbrev pub counts-size : ℕ
+counts-size = 3
+
+-- a variable: low, high, init
+abbrev pub variable-size : ℕ
+variable-size = 3
+
+-- a name, a byte a word
+abbrev pub name-size : ℕ
+name-size = 16
+
+-- a location: its kind and its name
+abbrev pub location-size : ℕ
+location-size = 17
+
+-- an edge: from, to, operation, target, and two operands of a tag and a value
+abbrev pub edge-size : ℕ
+edge-size = 8
+
+-- ---- places
+
+-- of variable k in an encoded chart
+abbrev pub variable-at : ℕ → ℕ
+variable-at k = counts-size + variable-size * k
+
+-- ---- places in a row
+
+-- of a variable
+abbrev pub low-place : ℕ
+low-place = 0
+
+abbrev pub high-place : ℕ
+high-place = 1
+
+abbrev pub init-place : ℕ
+init-place = 2
+
+-- of a location
+abbrev pub kind-place : ℕ
+kind-place = 0
+
+abbrev pub name-place : ℕ
+name-place = 1
+
+-- of an edge
+abbrev pub from-place : ℕ
+from-place = 0
+
+abbrev pub to-place : ℕ
+to-place = 1
+
+abbrev pub operation-place : ℕ
+operation-place = 2
+
+abbrev pub target-place : ℕ
+target-place = 3
+
+abbrev pub first-tag-place : ℕ
+first-tag-place = 4
+
+abbrev pub first-value-place : ℕ
+first-value-place = 5
+
+abbrev pub second-tag-place : ℕ
+second-tag-place = 6
+
+abbrev pub second-value-place : ℕ
+second-value-place = 7
+
+-- ---- codes
+
+-- of operations; an `if` has one for each relation
+abbrev pub skip-code : ℕ
+skip-code = 0
+
+abbrev pub set-code : ℕ
+set-code = 1
+
+abbrev pub add-code : ℕ
+add-code = 2
+
+abbrev pub sub-code : ℕ
+sub-code = 3
+
+abbrev pub in-code : ℕ
+in-code = 4
+
+abbrev pub eq-code : ℕ
+eq-code = 5
+
+abbrev pub ne-code : ℕ
+ne-code = 6
+
+abbrev pub lt-code : ℕ
+lt-code = 7
+
+abbrev pub le-code : ℕ
+le-code = 8
+
+abbrev pub gt-code : ℕ
+gt-code = 9
+
+abbrev pub ge-code : ℕ
+ge-code = 10
+
+-- of an operand: a number, or a variable
+abbrev pub number-tag : ℤ
+number-tag = pos 0
+
+abbrev pub variable-tag : ℤ
+variable-tag = pos 1
+
+-- ---- against wrapping
+
+-- the magnitude of any word is below it; a count or place below it, times the size of a row and added to, does not wrap
+abbrev pub index-limit : ℕ
+index-limit = 2147483649
