@@ -12,9 +12,8 @@ use Rattle.semantics.specs.declared.Settings.{Settings}
 use Rattle.semantics.specs.declared.Verdict.{Verdict}
 use Rattle.semantics.specs.declared.Verdict.the-variants.{Open, Safe, Alarm, Full}
 use Rattle.semantics.specs.declared.Analysis.{Analysis}
-use Rattle.semantics.specs.Algorithm.{Domain, Exploration, Taken, verdict-of, leave, finish, iteration, iterate-if, run}
+use Rattle.semantics.specs.Algorithm.{Domain, Exploration, Taken, verdict-of, leave, finish, iteration, run, has-verdict}
 use Rattle.semantics.specs.Tidy.{Every, Queue, Tidy}
-use Rattle.semantics.specs.Outcomes.{has-verdict}
 use Rattle.semantics.proofs.Tidy.{Left, take-left, Keeps, iteration-tidy}
 use Rattle.state.specs.Rows.{rows-of}
 use Rattle.waitlist.specs.Waits.{waits, TakenFrom}
@@ -73,26 +72,14 @@ played-at c row e w r s gs u t t₂ l₂ wa p lw re y = rw (← lw, ← re) y
 -- ---- the run
 
 module _ (D : Domain (List ℤ) ℕ) (gs : List ℕ) where
-  closed : (v : Verdict) (x : Exploration (List ℤ)) → has-verdict v ≡ true → iterate-if D gs v x ≡ x
-  closed Open x h = absurd (subst T (sym h) tt)
-  closed Safe x h = refl
-  closed Alarm x h = refl
-  closed Full x h = refl
-
-  opened : (v : Verdict) (x : Exploration (List ℤ)) → has-verdict v ≡ false → iterate-if D gs v x ≡ iteration D gs x
-  opened Open x h = refl
-  opened Safe x h = absurd (subst T h tt)
-  opened Alarm x h = absurd (subst T h tt)
-  opened Full x h = absurd (subst T h tt)
-
   pub run-closed : (n : ℕ) (x : Exploration (List ℤ)) → has-verdict (x .verdict) ≡ true → run D gs n x ≡ x
   unfolding run
   run-closed zero x h = refl
-  run-closed (suc n) x h = ap (run D gs n) (closed (x .verdict) x h) ∙ run-closed n x h
+  run-closed (suc n) x h = rw h (run-closed n x h)
 
   pub run-open : (n m : ℕ) (x : Exploration (List ℤ)) → has-verdict (x .verdict) ≡ false → n ≡ suc m → run D gs n x ≡ run D gs m (iteration D gs x)
   unfolding run
-  run-open n m x h e = ap (λ (q : ℕ). run D gs q x) e ∙ ap (run D gs m) (opened (x .verdict) x h)
+  run-open n m x h e = rw (e, h)
 
   pub run-none : (n : ℕ) (x : Exploration (List ℤ)) → n ≡ 0 → run D gs n x ≡ x
   unfolding run

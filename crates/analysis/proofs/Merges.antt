@@ -11,8 +11,8 @@ use lib.ListN.{length, drop}
 use Rattle.semantics.specs.declared.Mode.{Mode}
 use Rattle.semantics.specs.declared.Mode.the-variants.{Sep, Join}
 use Rattle.semantics.specs.Chart.{eqZ}
-use Rattle.semantics.specs.Lists.{pick, some-of, cons-unless}
-use Rattle.semantics.specs.Algorithm.{wait, wait-all, changed, merged, keep-if, of-place, leq-joined, stopped, allowed}
+use Rattle.semantics.specs.Lists.{pick, some-of}
+use Rattle.semantics.specs.Algorithm.{wait, wait-all, changed, merged, of-place, leq-joined, stopped, allowed}
 use Rattle.semantics.specs.Tidy.{Every}
 use Rattle.semantics.proofs.Values.{left-true, right-true}
 use Rattle.words.proofs.Words.{eqZ-true}
@@ -30,7 +30,7 @@ rewaits-all e i [] wa = refl
 rewaits-all e i (x ∷ xs) wa = go (same-words (row-merge e x) x) (rewaits-all e (suc i) xs)
   where
     go : (b : Bool) → ((v : List ℕ) → rewaits e (suc i) xs v ≡ wait-all (changed rows-only e (suc i) xs) v)
-        → rewaits e (suc i) xs (wait-unless b i wa) ≡ wait-all (cons-unless b i (changed rows-only e (suc i) xs)) wa
+        → rewaits e (suc i) xs (wait-unless b i wa) ≡ wait-all (pick b (changed rows-only e (suc i) xs) (i ∷ (changed rows-only e (suc i) xs))) wa
     go true ih = ih wa
     go false ih = ih (wait i wa)
 
@@ -100,7 +100,7 @@ place-above e [] n z = tt
 place-above e (x ∷ xs) n z = go (same-place e x) refl (place-above e xs n (z .1))
   where
     go : (b : Bool) → same-place e x ≡ b → Every (Above e) (of-place rows-only e (map (row-merge e) xs))
-        → Every (Above e) (keep-if rows-only (same-place e (pick b (row-join e x) x)) (pick b (row-join e x) x) (of-place rows-only e (map (row-merge e) xs)))
+        → Every (Above e) (pick (same-place e (pick b (row-join e x) x)) ((pick b (row-join e x) x) ∷ (of-place rows-only e (map (row-merge e) xs))) (of-place rows-only e (map (row-merge e) xs)))
     go true p ih = let g = above-new e x n (z .0) p in rw (g .place) (g, ih)
     go false p ih = rw p ih
 
@@ -115,7 +115,7 @@ join-some e (x ∷ xs) n z = go (same-place e x) refl (join-some e xs n (z .1)) 
   where
     go : (b : Bool) → same-place e x ≡ b → leq-joined rows-only e (of-place rows-only e (map (row-merge e) xs)) ≡ some-of (row-leq e) (map (row-merge e) xs)
         → Every (Above e) (of-place rows-only e (map (row-merge e) xs))
-        → leq-joined rows-only e (keep-if rows-only (same-place e (pick b (row-join e x) x)) (pick b (row-join e x) x) (of-place rows-only e (map (row-merge e) xs)))
+        → leq-joined rows-only e (pick (same-place e (pick b (row-join e x) x)) ((pick b (row-join e x) x) ∷ (of-place rows-only e (map (row-merge e) xs))) (of-place rows-only e (map (row-merge e) xs)))
         ≡ some-of (row-leq e) (pick b (row-join e x) x ∷ map (row-merge e) xs)
     go true p ih above =
         let g = above-new e x n (z .0) p in

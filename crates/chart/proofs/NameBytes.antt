@@ -10,11 +10,11 @@ use lib.Dec.{T, leb, eqb, leb→le, eqb→eq}
 use lib.IntN.{ℤ, pos, natAbs}
 use lib.ListN.{length, getD, take, drop}
 use lib.Seq.{drop-drop}
-use Rattle.semantics.specs.Lists.{all}
+use Rattle.semantics.specs.Lists.{all, pick}
 use Rattle.semantics.specs.Text.{between, name-byte, name-ok}
 use Rattle.semantics.specs.Chart.{Loc, eqZ}
 use Rattle.semantics.specs.Listing.{loc-text}
-use Rattle.semantics.specs.Encoding.{byte-unless, name-in, loc-in, several, count, decode, begins-with, encode, chart-ok, well-formed}
+use Rattle.semantics.specs.Encoding.{name-in, loc-in, several, count, decode, begins-with, encode, chart-ok, well-formed}
 use Rattle.semantics.proofs.Values.{and-left, and-right}
 use Rattle.semantics.proofs.StatesOk.{bounds}
 use Rattle.chart.specs.Encoded.{locations-at, byte-of}
@@ -50,7 +50,7 @@ bytes-in zero ws = (refl, omega arith)
 bytes-in (suc n) [] = (refl, omega arith)
 bytes-in (suc n) (x ∷ xs) = go (eqZ x (pos 0)) (bytes-in n xs) where
   go : (b : Bool) → (map natAbs (take (length (name-in n xs)) xs) ≡ name-in n xs) × (length (name-in n xs) ≤ length xs)
-      → (map natAbs (take (length (byte-unless b x (name-in n xs))) (x ∷ xs)) ≡ byte-unless b x (name-in n xs)) × (length (byte-unless b x (name-in n xs)) ≤ length (x ∷ xs))
+      → (map natAbs (take (length (pick b [] (natAbs x ∷ (name-in n xs)))) (x ∷ xs)) ≡ pick b [] (natAbs x ∷ (name-in n xs))) × (length (pick b [] (natAbs x ∷ (name-in n xs))) ≤ length (x ∷ xs))
   go true ih = (refl, omega arith)
   go false ih = (ap (λ (bs : List ℕ). natAbs x ∷ bs) (ih .0), omega (arith, ih .1))
 

@@ -10,14 +10,14 @@ use lib.Dec.{eqb, eqb·suc-zero}
 use lib.IntN.{ℤ, pos, negsuc, natAbs}
 use lib.ListN.{length, getD, drop}
 use lib.Seq.{drop-nil, drop-cons, drop-drop}
-use Rattle.semantics.specs.Lists.{all}
+use Rattle.semantics.specs.Lists.{all, pick}
 use Rattle.semantics.specs.Text.{same-bytes}
 use Rattle.semantics.specs.Chart.{Loc, eqZ}
-use Rattle.semantics.specs.Encoding.{byte-unless, name-in, loc-in, several, distinct-names, count}
+use Rattle.semantics.specs.Encoding.{name-in, loc-in, several, distinct-names, count}
 use Rattle.semantics.proofs.Values.{and-assoc}
 
 -- the first word left, and the words after it; past the end there is no byte more
-pub name-step : (n : ℕ) (ws : List ℤ) (i : ℕ) → name-in (suc n) (drop i ws) ≡ byte-unless (eqZ (getD ws i (pos 0)) (pos 0)) (getD ws i (pos 0)) (name-in n (drop (suc i) ws))
+pub name-step : (n : ℕ) (ws : List ℤ) (i : ℕ) → name-in (suc n) (drop i ws) ≡ pick (eqZ (getD ws i (pos 0)) (pos 0)) [] (natAbs (getD ws i (pos 0)) ∷ (name-in n (drop (suc i) ws)))
 name-step n [] i = rw (drop-nil {A = ℤ} i)
 name-step n (x ∷ xs) zero = refl
 name-step n (x ∷ xs) (suc i) = name-step n xs i
@@ -31,7 +31,7 @@ module _ (ws : List ℤ) (i : ℕ) (more : i < 16) where
   left : 16 - i ≡ suc (16 - (i + 1))
   left = omega arith
 
-  pub name-left : name-in (16 - i) (drop (i + 1) ws) ≡ byte-unless (eqb (count ws (i + 1)) 0) (getD ws (i + 1) (pos 0)) (name-in (16 - (i + 1)) (drop (i + 1 + 1) ws))
+  pub name-left : name-in (16 - i) (drop (i + 1) ws) ≡ pick (eqb (count ws (i + 1)) 0) [] (natAbs (getD ws (i + 1) (pos 0)) ∷ (name-in (16 - (i + 1)) (drop (i + 1 + 1) ws)))
   name-left = rw (left, add-one (i + 1), ← abs-zero (getD ws (i + 1) (pos 0))) (name-step (16 - (i + 1)) ws (i + 1))
 
   -- the name ends here; it has one byte more
@@ -42,9 +42,9 @@ module _ (ws : List ℤ) (i : ℕ) (more : i < 16) where
   name-goes n e t = let z : eqb (count ws (i + 1)) 0 ≡ false = sym (abs-zero (getD ws (i + 1) (pos 0))) ∙ t in omega (arith, rw (name-left, z) at e)
 
 -- words of different numbers begin different names
-apart : (a b : ℤ) (s t : List ℕ) → (natAbs a ≡ natAbs b → ⊥) → same-bytes (byte-unless (eqb (natAbs a) 0) a s) (byte-unless (eqb (natAbs b) 0) b t) ≡ false
+apart : (a b : ℤ) (s t : List ℕ) → (natAbs a ≡ natAbs b → ⊥) → same-bytes (pick (eqb (natAbs a) 0) [] (natAbs a ∷ s)) (pick (eqb (natAbs b) 0) [] (natAbs b ∷ t)) ≡ false
 apart a b s t h = go (eqb (natAbs a) 0) (eqb (natAbs b) 0) refl refl where
-  go : (u v : Bool) → eqb (natAbs a) 0 ≡ u → eqb (natAbs b) 0 ≡ v → same-bytes (byte-unless u a s) (byte-unless v b t) ≡ false
+  go : (u v : Bool) → eqb (natAbs a) 0 ≡ u → eqb (natAbs b) 0 ≡ v → same-bytes (pick u [] (natAbs a ∷ s)) (pick v [] (natAbs b ∷ t)) ≡ false
   go true true p q = absurd (h (eqb-true _ _ p ∙ sym (eqb-true _ _ q)))
   go true false p q = refl
   go false true p q = refl

@@ -14,8 +14,8 @@ use lib.ListN.{length, take, drop, replicate, length-map}
 use lib.Signed.{nonNeg, leZ}
 use Rattle.semantics.specs.Lists.{pick, all}
 use Rattle.semantics.specs.Text.{name-byte, name-ok}
-use Rattle.semantics.specs.Chart.{Var, Chart, eqZ, small, in-range, Operand, Op, assign, add, sub, input, assume, skip}
-use Rattle.semantics.specs.Encoding.{kind-word, var-words, loc-words, tag, held, op-words, edge-words, var-in, byte-unless, name-in, loc-in, operand, operand-if, op-of, edge-in, operand-ok, op-ok, edge-ok, begins-with}
+use Rattle.semantics.specs.Chart.{Var, Chart, eqZ, small, in-range, Operand, Op, assign, add, sub, input, assume, skip, num, var}
+use Rattle.semantics.specs.Encoding.{kind-word, var-words, loc-words, tag, held, op-words, edge-words, var-in, name-in, loc-in, operand, op-of, edge-in, operand-ok, op-ok, edge-ok, begins-with}
 use Rattle.semantics.specs.Memory.{below, zeros}
 use Rattle.semantics.proofs.Values.{and-left, and-right, and-true, and-assoc}
 use Rattle.semantics.proofs.Reloaded.{word-back}
@@ -61,7 +61,7 @@ pub name-few : (n : ℕ) (ws : List ℤ) → length (name-in n ws) ≤ n
 name-few zero ws = omega arith
 name-few (suc n) [] = omega arith
 name-few (suc n) (x ∷ xs) = go (eqZ x (pos 0)) (name-few n xs) where
-  go : (b : Bool) → length (name-in n xs) ≤ n → length (byte-unless b x (name-in n xs)) ≤ suc n
+  go : (b : Bool) → length (name-in n xs) ≤ n → length (pick b [] (natAbs x ∷ (name-in n xs))) ≤ suc n
   go true h = omega arith
   go false h = omega arith
 
@@ -76,7 +76,7 @@ name-row : (n : ℕ) (ws : List ℤ) → n ≤ length ws → bytes-exact n (name
 name-row zero ws h = refl
 name-row (suc n) [] h = absurd (omega arith)
 name-row (suc n) (x ∷ xs) h = go (name-row n xs (omega arith)) (eqZ x (pos 0)) where
-  go : bytes-exact n (name-in n xs) xs ≡ bytes-fine n (length (name-in n xs)) xs → (b : Bool) → bytes-exact (suc n) (byte-unless b x (name-in n xs)) (x ∷ xs) ≡ bytes-fine (suc n) (length (byte-unless b x (name-in n xs))) (x ∷ xs)
+  go : bytes-exact n (name-in n xs) xs ≡ bytes-fine n (length (name-in n xs)) xs → (b : Bool) → bytes-exact (suc n) (pick b [] (natAbs x ∷ (name-in n xs))) (x ∷ xs) ≡ bytes-fine (suc n) (length (pick b [] (natAbs x ∷ (name-in n xs)))) (x ∷ xs)
   go ih true = rw (sub-zero (suc n)) (and-true _ ∙ begins-zeros (suc n) (x ∷ xs) h)
   go ih false =
       let m = length (name-in n xs) in
@@ -135,7 +135,7 @@ module _ (vars : List Var) (vw : List ℤ) (in-words : (k : ℕ) (z : ℤ) → k
   operand-row : (a x : ℤ) → eqZ (tag (operand a x)) a && eqZ (held (operand a x)) x && operand-ok vars (operand a x) ≡ operand-fine (length vars) a x
   unfolding operand-fine
   operand-row a x = go (eqZ a (pos 0)) refl where
-    go : (u : Bool) → eqZ a (pos 0) ≡ u → eqZ (tag (operand-if u x)) a && eqZ (held (operand-if u x)) x && operand-ok vars (operand-if u x) ≡ pick u (small x) (eqZ a (pos 1) && below (length vars) x)
+    go : (u : Bool) → eqZ a (pos 0) ≡ u → eqZ (tag (pick u (num x) (var (natAbs x)))) a && eqZ (held (pick u (num x) (var (natAbs x)))) x && operand-ok vars (pick u (num x) (var (natAbs x))) ≡ pick u (small x) (eqZ a (pos 1) && below (length vars) x)
     go true e = rw (eqZ-sym (pos 0) a, e, eqZ-refl x)
     go false e = rw (eqZ-sym (pos 1) a, said x) (sym (and-assoc (eqZ a (pos 1)) (nonNeg x) (ltb (natAbs x) (length vars))))
 

@@ -7,12 +7,12 @@ use lib.Dec.{T}
 use lib.IntN.{ℤ, natAbs}
 use lib.ListN.{length}
 use Rattle.semantics.specs.Chart.{Chart}
-use Rattle.semantics.specs.Algorithm.{Exploration}
+use Rattle.semantics.specs.Algorithm.{Exploration, has-verdict}
 use Rattle.semantics.specs.Constants.{AbstractState, initial}
 use Rattle.semantics.specs.Encoding.{decode, well-formed, chart-ok}
 use Rattle.semantics.specs.Memory.{Memory}
 use Rattle.semantics.specs.Listing.{listing-text}
-use Rattle.semantics.specs.Outcomes.{Outcome, has-verdict, started, put-in, start-outcome, run-outcome, listing-outcome}
+use Rattle.semantics.specs.Outcomes.{Outcome, started, put-in, start-outcome, run-outcome, listing-outcome}
 use Rattle.semantics.specs.Program.{explored}
 use Rattle.semantics.proofs.Stored.{Good}
 use Rattle.semantics.proofs.Encoded.{well-formed-split}

@@ -9,7 +9,7 @@ ghost use Rattle.semantics.specs.Text.{fields};
 ghost use Rattle.semantics.specs.Chart.{Chart};
 ghost use Rattle.semantics.specs.Encoding.{encode};
 ghost use Rattle.semantics.specs.Reading.{So-far, judge, ended, refused-at, bad-byte-line, open-line};
-ghost use Rattle.semantics.specs.Outcomes.{held-unless, held-by, read-outcome};
+ghost use Rattle.semantics.specs.Outcomes.{chart-outcome, held-by, read-outcome};
 ghost use Rattle.reader.specs.Held.{Few, Rows, Names, Stepped, lines-judged, goes-on, nothing-judged, Came, Ready, Advanced};
 
 mod edge;
@@ -33,8 +33,8 @@ const MOST_BYTES: usize = 32768;
 // The rows to the words lent, after their counts; or 14, where these are too few.
 fn hold(t: Tally, table: &[i32], words: &mut [i32]) -> semantics::Answer
     requires { ⌜ Few t × (length (now table) ≡ 3160) ⌝ }
-    ensures { λ r. ⌜ ((c : Chart) → Rows t (now (table .entry)) c → r ≡ held-unless (ltb (length (now (words .entry))) (length (encode c))) c (now (words .entry)) .answer) ⌝ }
-    ensures { λ _. ⌜ ((c : Chart) → Rows t (now (table .entry)) c → now (words .exit) ≡ held-unless (ltb (length (now (words .entry))) (length (encode c))) c (now (words .entry)) .words) ⌝ }
+    ensures { λ r. ⌜ ((c : Chart) → Rows t (now (table .entry)) c → r ≡ chart-outcome c (now (words .entry)) .answer) ⌝ }
+    ensures { λ _. ⌜ ((c : Chart) → Rows t (now (table .entry)) c → now (words .exit) ≡ chart-outcome c (now (words .entry)) .words) ⌝ }
 {
     let size = used_words(t);
     if words.len() < size + COUNTS_WORDS {

@@ -2,7 +2,7 @@
 use mathlib.Core.Path.{_≡_, refl, sym, ap, _∙_, subst}
 use mathlib.Core.Bool.{Bool, true, false, _&&_}
 use mathlib.Core.List.{List, [], _∷_}
-use mathlib.Core.Option.{Option, some}
+use mathlib.Core.Option.{Option, some, none}
 use Prim.Native.Nat.{ℕ, zero, suc}
 use native.Mathlib.Omega.{arith}
 use native.Mathlib.Nat.{le-antisymm}
@@ -10,7 +10,7 @@ use lib.Dec.{T, eqb→eq, leb→le}
 use lib.ListN.{length, getD, set}
 use lib.IntN.{ℤ, pos, negsuc, _+ℤ_, _-ℤ_}
 use lib.Signed.{leZ}
-use Rattle.semantics.specs.Lists.{all-pairs, some-if}
+use Rattle.semantics.specs.Lists.{all-pairs, pick}
 use Rattle.semantics.specs.Chart.{Value, known, top, Var, Operand, num, var, Rel, eq, ne, lt, le, gt, ge, Op, assign, add, sub, input, assume, skip, eqZ, within, holds, Ranged, Matches₁, Matches, value, Becomes, in-range}
 use Rattle.semantics.specs.Constants.{equal-value, leq-value, value-or-top, join-values, operand-value, both, assign-value, refine, one-known, tested, one-of, effect}
 use Rattle.semantics.proofs.ListFacts.{from-true}
@@ -159,7 +159,7 @@ ranged-set (v ∷ vs) (x ∷ xs) (suc k) z r q = ranged-set vs xs k z (r .1) (q 
 Gives : Option (List Value) → List ℤ → Type 0
 Gives o ys = (us : List Value) × (o ≡ some us) × Matches us ys
 
-some-gives : (b : Bool) (us : List Value) (ys : List ℤ) → T b → Matches us ys → Gives (some-if b us) ys
+some-gives : (b : Bool) (us : List Value) (ys : List ℤ) → T b → Matches us ys → Gives (pick b (some us) none) ys
 unfolding Gives
 some-gives true us ys t m = (us, refl, m)
 some-gives false us ys t m = absurd t

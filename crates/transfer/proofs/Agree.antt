@@ -13,7 +13,7 @@ use lib.ListN.{length, drop}
 use Rattle.semantics.specs.Lists.{At, pick, all, all-pairs}
 use Rattle.semantics.specs.Chart.{Value, known, top, Edge, Numbered, number-from, numbered, Chart, eqZ, error-location}
 use Rattle.semantics.specs.Algorithm.{Step, halt, fault, to}
-use Rattle.semantics.specs.Constants.{AbstractState, equal-value, leq-value, value-or-top, join-value, join-values, same-location, equal, leq, join, join-all, leq-join-all, effect, arrive-at, post-if, post, constants, initial}
+use Rattle.semantics.specs.Constants.{AbstractState, equal-value, leq-value, value-or-top, join-value, join-values, same-location, equal, leq, join, join-all, leq-join-all, effect, arrive-at, post, constants, initial}
 use Rattle.semantics.specs.Tidy.{Every}
 use Rattle.semantics.specs.Encoding.{word, encode, count, decode, op-ok, edge-ok, chart-ok, well-formed}
 use Rattle.semantics.specs.Memory.{row}
@@ -165,7 +165,7 @@ module _ (c : Chart) (ok : T (chart-ok c)) (rest : List ℤ) where
       let u : T (op-ok (c .vars) (g .op)) = search (and-left, and-right) in
       rw (from, there, effect-is c ok rest (pos (g .to)) (f .vals) (plain-of c ok f h) i (pos (g .from)) (pos (g .to)) (g .op) u read) (go (eqb (g .from) (f .loc)))
     where
-      go : (t : Bool) → pick t (row-step (pos (g .to)) (effect (c .vars) (g .op) (f .vals))) halt ≡ row-of (post-if t (c .vars) g (f .vals))
+      go : (t : Bool) → pick t (row-step (pos (g .to)) (effect (c .vars) (g .op) (f .vals))) halt ≡ row-of (pick t (arrive-at (g .to) (effect (c .vars) (g .op) (f .vals))) halt)
       go true = arrive-is (g .to) (effect (c .vars) (g .op) (f .vals))
       go false = refl
 

@@ -10,7 +10,7 @@ use lib.Dec.{T, ltb→lt}
 use lib.IntN.{ℤ, pos, natAbs, _+ℤ_, _-ℤ_}
 use lib.ListN.{length, getD, set, List·getD-map}
 use lib.Signed.{leZ}
-use Rattle.semantics.specs.Lists.{pick, some-if, all}
+use Rattle.semantics.specs.Lists.{pick, all}
 use Rattle.semantics.specs.Chart.{Value, known, top, Var, Operand, num, var, Rel, eq, ne, lt, le, gt, ge, Op, assign, add, sub, input, assume, skip, Chart, eqZ, small, holds, in-range}
 use Rattle.semantics.specs.Algorithm.{Step, halt, to}
 use Rattle.semantics.specs.Constants.{operand-value, both, assign-value, one-of, one-known, tested, effect}
@@ -64,7 +64,7 @@ abbrev pub row-step : ℤ → Option (List Value) → Step (List ℤ)
 row-step l none = halt
 row-step l (some xs) = to (l ∷ map word xs)
 
-step-if : (l : ℤ) (t : Bool) (xs : List Value) → pick t (to (l ∷ map word xs)) halt ≡ row-step l (some-if t xs)
+step-if : (l : ℤ) (t : Bool) (xs : List Value) → pick t (to (l ∷ map word xs)) halt ≡ row-step l (pick t (some xs) none)
 step-if l true xs = refl
 step-if l false xs = refl
 

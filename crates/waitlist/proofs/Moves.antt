@@ -13,10 +13,10 @@ use lib.Seq.{take-at, drop-at, drop-cons, set-at, append-snoc, take-suc, take-su
 use Rattle.semantics.specs.Chart.{eqZ}
 use Rattle.semantics.specs.declared.Order.the-variants.{Old, New}
 use Rattle.semantics.specs.Algorithm.{without, take-last, later}
-use Rattle.semantics.specs.Lists.{cons-unless}
 use Rattle.words.proofs.Words.{eqZ-sym}
 use Rattle.waitlist.specs.Waits.{Stored, pushed, shifted, others, next-place, kept-at, TakenFrom}
 use Rattle.waitlist.proofs.WaitWords.{held, kept, map-append, front, back}
+use Rattle.semantics.specs.Lists.{pick}
 
 -- ---- the loops' turns
 
@@ -160,7 +160,7 @@ others-held : (k : ℕ) (wa : List ℕ) → others (pos k) (map pos wa) ≡ map 
 others-held k [] = refl
 others-held k (x ∷ wa) = rw (eqZ-sym (pos x) (pos k), others-held k wa) (go (eqb k x))
   where
-    go : (b : Bool) → cons-unless b (pos x) (map pos (without k wa)) ≡ map pos (cons-unless b x (without k wa))
+    go : (b : Bool) → pick b (map pos (without k wa)) ((pos x) ∷ (map pos (without k wa))) ≡ map pos (pick b (without k wa) (x ∷ (without k wa)))
     go true = refl
     go false = refl
 
@@ -235,14 +235,14 @@ module _ (k : ℤ) (l₀ : List ℤ) (n : ℕ) (l : List ℤ) (j i : ℕ) (s : R
   clear : set l i (pos 0) ≡ A ++ (replicate (suc (i - j)) (pos 0) ++ R)
   clear = ap (λ (z : List ℤ). set z i (pos 0)) whole ∙ cleared k A R (i - j) j i x la ld
 
-  left : others k (take n l₀) ≡ A ++ cons-unless (eqZ x k) x (others k (take (n - (i + 1)) R))
+  left : others k (take n l₀) ≡ A ++ pick (eqZ x k) (others k (take (n - (i + 1)) R)) (x ∷ (others k (take (n - (i + 1)) R)))
   left =
       let m : n - i ≡ suc (n - (i + 1)) = omega arith in
       s .done ∙ ap (λ (z : List ℤ). take j l ++ others k z) (ap (λ (z : List ℤ). take (n - i) z) next ∙ ap (λ (q : ℕ). take q (x ∷ R)) m)
 
   pub remove-turn : Removing k l₀ n (kept-at (eqZ x k) (set l i (pos 0)) j x) (next-place (eqZ x k) j) (i + 1)
   remove-turn = go (eqZ x k) left where
-    go : (b : Bool) → others k (take n l₀) ≡ A ++ cons-unless b x (others k (take (n - (i + 1)) R)) → Removing k l₀ n (kept-at b (set l i (pos 0)) j x) (next-place b j) (i + 1)
+    go : (b : Bool) → others k (take n l₀) ≡ A ++ pick b (others k (take (n - (i + 1)) R)) (x ∷ (others k (take (n - (i + 1)) R))) → Removing k l₀ n (kept-at b (set l i (pos 0)) j x) (next-place b j) (i + 1)
     go true e =
         let t : take j (set l i (pos 0)) ≡ A = ap (take j) clear ∙ take-at A (replicate (suc (i - j)) (pos 0) ++ R) j la in
         let m : suc (i - j) ≡ i + 1 - j = omega (arith, s .below) in

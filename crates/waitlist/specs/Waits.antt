@@ -7,9 +7,9 @@ use Prim.Native.Nat.{ℕ, _+_, _-_, _≤_}
 use lib.IntN.{ℤ, pos, natAbs}
 use lib.ListN.{length, take, getD, set, replicate}
 use Rattle.semantics.specs.Chart.{eqZ}
-use Rattle.semantics.specs.Lists.{cons-unless}
 use Rattle.semantics.specs.declared.Order.{Order}
 use Rattle.semantics.specs.Algorithm.{take-by, wait}
+use Rattle.semantics.specs.Lists.{pick}
 
 -- the slots that the first n words say
 abbrev pub waits : ℕ → List ℤ → List ℕ
@@ -34,7 +34,7 @@ shifted (x ∷ l) = getD l 0 (pos 0) ∷ shifted l
 -- the words other than k
 abbrev pub others : ℤ → List ℤ → List ℤ
 others k [] = []
-others k (x ∷ l) = cons-unless (eqZ x k) x (others k l)
+others k (x ∷ l) = pick (eqZ x k) (others k l) (x ∷ (others k l))
 
 -- the slot waits, unless its abstract state is the same as before
 abbrev pub wait-unless : Bool → ℕ → List ℕ → List ℕ

@@ -7,10 +7,11 @@ use borrow.Author.Tests.{not-true, not-false, eq-eqb, ne-eqb}
 use lib.Dec.{eqb}
 use mir.Syntax.{w32}
 use mir.ValLaws.{toZ-ofZ}
-use Rattle.semantics.specs.Outcomes.{Case, case, refusal, budget-ok, has-verdict, form-of, run-cases}
+use Rattle.semantics.specs.Outcomes.{Case, case, refusal, budget-ok, form-of, run-cases}
 use Rattle.semantics.proofs.FirstCase.{none-holds, later, sooner}
 use Rattle.checks.specs.Form.{lent}
 use Rattle.calls.proofs.run_refusal.Statement.{statement}
+use Rattle.semantics.specs.Algorithm.{has-verdict}
 use Rattle.calls.proofs.run_refusal.Tie as tie
 
 module _ (s : tie.Start) where
