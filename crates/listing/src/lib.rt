@@ -273,8 +273,8 @@ fn listing_refusal(chart: &[i32], a: Analysis, table: &[i32], list: &[i32], spac
 
 // Writes the listing of an analysis and answers its length, or refuses and writes nothing.
 pub fn listing(chart: &[i32], a: Analysis, table: &[i32], list: &[i32], space: &mut [u8]) -> Answer
-    ensures { λ r. ⌜ r ≡ listing-outcome (now (chart .entry)) (lent (now (table .entry)) (now (list .entry)) a) (now (space .entry)) .answer ⌝ }
-    ensures { λ _. ⌜ now (space .exit) ≡ listing-outcome (now (chart .entry)) (lent (now (table .entry)) (now (list .entry)) a) (now (space .entry)) .space ⌝ }
+    ensures answer { λ r. ⌜ r ≡ listing-outcome (now (chart .entry)) (lent (now (table .entry)) (now (list .entry)) a) (now (space .entry)) .answer ⌝ }
+    ensures space { λ _. ⌜ now (space .exit) ≡ listing-outcome (now (chart .entry)) (lent (now (table .entry)) (now (list .entry)) a) (now (space .entry)) .space ⌝ }
 {
     let number = listing_refusal(chart, a, table, list, space.len());
     if number != 0 {

@@ -112,8 +112,8 @@ fn put_chart(chart: &[u8], go: Go, out: &mut [u8]) -> usize
 
 // What the program prints for an input: its bytes at the front of those lent, and how many they are.
 pub fn respond(input: &[u8], out: &mut [u8; semantics::LISTING_BYTES]) -> usize
-    ensures { λ r. ⌜ r ≡ length (output (now (input .entry))) ⌝ }
-    ensures { λ _. ⌜ now (out .exit) ≡ output (now (input .entry)) ++ drop (length (output (now (input .entry)))) (now (out .entry)) ⌝ }
+    ensures count { λ r. ⌜ r ≡ length (output (now (input .entry))) ⌝ }
+    ensures bytes { λ _. ⌜ now (out .exit) ≡ output (now (input .entry)) ++ drop (length (output (now (input .entry)))) (now (out .entry)) ⌝ }
 {
     match go_line::read(input) {
         GoLine::Refused(n) => put_refusal(out, n, 0),

@@ -92,6 +92,17 @@ put-then {at} {r} {r′} {bs} {cs} {out} {out′} {out″} p q =
 pub put-same : {at r : ℕ} {bs cs out out′ : List ℕ} → bs ≡ cs → Put at bs out out′ r → Put at cs out out′ r
 put-same {at} {r} {out = out} {out′ = out′} e p = subst (λ (l : List ℕ). Put at l out out′ r) e p
 
+-- what a loop has put so far: with the rest put after it, the whole is put
+abbrev pub Completes : ℕ → List ℕ → List ℕ → ℕ → List ℕ → List ℕ → Type 0
+Completes at whole out place rest out′ = (out″ : List ℕ) (r : ℕ) → Put place rest out′ out″ r → Put at whole out out″ r
+
+pub one-more : {at place place′ : ℕ} {whole rest piece rest′ out out′ out″ : List ℕ} → Completes at whole out place rest out′ → rest ≡ piece ++ rest′ → Put place piece out′ out″ place′
+    → Completes at whole out place′ rest′ out″
+one-more f e p o r q = f o r (put-same (sym e) (put-then p q))
+
+pub all-put : {at place : ℕ} {whole rest out out′ : List ℕ} → Completes at whole out place rest out′ → rest ≡ [] → length out′ < limit → Put at whole out out′ place
+all-put {place = place} {out′ = out′} f e s = f out′ place (put-same (sym e) (put-none place out′ s))
+
 -- where it fits: the bytes before, what was put, the bytes after
 pub put-fits : {at r : ℕ} {bs out out′ : List ℕ} → Put at bs out out′ r → at + length bs ≤ length out
     → (out′ ≡ take at out ++ (bs ++ drop (at + length bs) out)) × (r ≡ at + length bs)

@@ -2,9 +2,9 @@
 -- slots before it are written. Assumes nothing.
 use mathlib.Core.Path.{_≡_, refl, sym, ap, _∙_}
 use mathlib.Core.Bool.{Bool, false}
-use mathlib.Core.List.{List, map}
-use Prim.Native.Nat.{ℕ, _+_, _-_, _*_, _≤_}
-use native.Mathlib.Nat.{suc-mul, zero-mul}
+use mathlib.Core.List.{List, _++_, map}
+use Prim.Native.Nat.{ℕ, _+_, _-_, _*_, _≤_, suc}
+use native.Mathlib.Nat.{suc-mul, zero-mul, sub-zero}
 use native.Mathlib.Numerals.{add-one}
 use native.Mathlib.Omega.{arith}
 use borrow.Author.Needs.{needs}
@@ -17,21 +17,24 @@ use Rattle.semantics.specs.Memory.{width, state-in, states-in}
 use Rattle.semantics.specs.Listing.{slot-text, slots-text}
 use Rattle.words.proofs.Rows.{span, part-length, row-in}
 use Rattle.checks.proofs.FormTests.{width-is, stride-is}
-use Rattle.writer.specs.Writing.{Put}
-use Rattle.writer.proofs.Written.{put-none, put-then, put-same}
+use Rattle.writer.proofs.Written.{Completes, one-more, all-put}
 use Rattle.listing.proofs.TextPieces.{slots-turn, marked-from-none}
 use Rattle.listing.proofs.put_slots.Statement.{statement}
 use Rattle.listing.proofs.put_slots.Tie as tie
 
+-- the lines of n slots whose words are t, from slot s on
+abbrev lines : List ℤ → List ℤ → ℕ → ℕ → List ℤ → List ℕ
+lines chart list s n t = slots-text (decode chart) (map natAbs list) s (states-in (width (decode chart)) n t)
+
 abbrev Inv-loop : tie.InvT-loop
 Inv-loop out₀ at chart table list used w stride marks place₀ from₀ s₀ out place from s =
-    (s ≤ used) × (from ≡ s * stride) × (length out ≡ length out₀) × Put at (slots-text (decode chart) (map natAbs list) 0 (states-in (width (decode chart)) s table)) out₀ out place
+    (s ≤ used) × (from ≡ s * stride) × (length out ≡ length out₀) × Completes at (lines chart list 0 used table) out₀ place (lines chart list s (used - s) (drop from table)) out
 
 abbrev μ-loop : tie.MeasureT-loop
 μ-loop out₀ at chart table list used w stride marks place₀ from₀ s₀ out place from s = used - s
 
 loop-holds : tie.Need-loop-holds Inv-loop μ-loop
-loop-holds c = (omega arith, sym (zero-mul (c .before .before .before .before .layout-of .result .stride)), refl, put-none _ _ (omega arith))
+loop-holds c = let y = c .before .before .before .before in (omega arith, sym (zero-mul (y .layout-of .result .stride)), refl, rw (sub-zero (y .before .before .args .used)) λ _ _ p. p)
 
 -- what the loop is lent
 module _ (m : tie.After-mark-waiting Inv-loop μ-loop) where
@@ -80,8 +83,8 @@ module _ (c : tie.In-loop Inv-loop μ-loop) where
   room : from + w outer ≤ length (table outer)
   room = omega (arith, next, wide outer, far outer)
 
-  row-is : take (from + w outer - from) (drop from (table outer)) ≡ take (width (decode (chart outer))) (drop (s * width (decode (chart outer))) (table outer))
-  row-is = let at = c .before .loop .inv .1 ∙ ap (λ (n : ℕ). s * n) (far outer) in rw span (λ j. take (wide outer j) (drop (at j) (table outer)))
+  row-is : take (from + w outer - from) (drop from (table outer)) ≡ take (width (decode (chart outer))) (drop from (table outer))
+  row-is = rw span (λ j. take (wide outer j) (drop from (table outer)))
 
   -- the slot's mark
   mark-of : getD (outer .mark-waiting .last .0) s false ≡ some-of (eqb s) (waits outer)
@@ -99,20 +102,19 @@ loop-again c =
     let k = c .before .before in
     let p = k .before .before .before in
     let l = p .before .loop in
-    let d = decode (chart (outer p)) in (
-      omega (arith, p .loop-test .taken),
-      rw (add-one, suc-mul, l .inv .1),
-      k .put-slot .kept .0 ∙ l .inv .2,
-      put-same
-          (sym (slots-turn d (waits (outer p)) (width d) (l .s) (table (outer p))))
-          (put-then (l .inv .3) (put-same (λ j. slot-text d (l .s) (state-in (row-is p j)) (mark-of p j)) (k .put-slot .ensures))),
-    )
+    let o = outer p in
+    let d = decode (chart o) in
+    let used = start o .args .used in
+    let n : used - l .s ≡ suc (used - (l .s + 1)) = omega (arith, p .loop-test .taken) in
+    let turn = (λ j. slots-text d (waits o) (l .s) (states-in (width d) (n j) (drop (l .from) (table o)))) ∙ slots-turn d (waits o) (width d) (l .from) (l .s) (used - (l .s + 1)) (table o)
+    ∙ (λ j. slot-text d (l .s) (state-in (sym (row-is p) j)) (sym (mark-of p) j) ++ slots-text d (waits o) (l .s + 1) (states-in (width d) (used - (l .s + 1)) (drop (l .from + sym (far o) j) (table o)))) in
+    (omega (arith, p .loop-test .taken), rw (add-one, suc-mul, l .inv .1), k .put-slot .kept .0 ∙ l .inv .2, one-more (l .inv .3) turn (k .put-slot .ensures))
 
 returns : tie.Need-returns Inv-loop μ-loop
 returns c =
     let b = c .before in
-    let n : start (b .before .before) .args .used ≡ b .loop .s = omega (arith, b .loop .inv .0, c .loop-test .left) in
-    rw n (b .loop .inv .3)
+    let n : start (b .before .before) .args .used - b .loop .s ≡ 0 = omega (arith, c .loop-test .left) in
+    all-put (b .loop .inv .3) (rw n) (omega arith)
 
 pub put-slots-spec : {M : Type 1} → statement M
 put-slots-spec =
