@@ -10,6 +10,7 @@ use native.Mathlib.Omega.{arith}
 use lib.Dec.{T, eqb, eqb-refl, ltb→lt}
 use lib.IntN.{ℤ, pos, natAbs}
 use lib.ListN.{length, drop}
+use Rattle.semantics.specs.Layout.{top-word}
 use Rattle.semantics.specs.Lists.{At, pick, all, all-pairs}
 use Rattle.semantics.specs.Chart.{Value, known, top, Edge, Numbered, number-from, numbered, Chart, eqZ, error-location}
 use Rattle.semantics.specs.Algorithm.{Step, halt, fault, to}
@@ -33,19 +34,19 @@ use Rattle.transfer.proofs.Effects.{Plain, AllPlain, values-plain, row-
 equal-is : (x y : Value) → Plain x → Plain y → eqZ (word x) (word y) ≡ equal-value x y
 equal-is (known a) (known b) p q = refl
 equal-is (known a) top p q = p
-equal-is top (known b) p q = eqZ-sym (pos 32768) b ∙ q
+equal-is top (known b) p q = eqZ-sym top-word b ∙ q
 equal-is top top p q = refl
 
 leq-is : (x y : Value) → Plain x → Plain y → word-leq (word x) (word y) ≡ leq-value x y
 leq-is (known a) (known b) p q = rw q
 leq-is (known a) top p q = refl
-leq-is top (known b) p q = rw (q, eqZ-sym (pos 32768) b, q)
+leq-is top (known b) p q = rw (q, eqZ-sym top-word b, q)
 leq-is top top p q = refl
 
 join-is : (x y : Value) → Plain x → Plain y → word-join (word x) (word y) ≡ word (join-value x y)
-join-is x y p q = ap (λ (t : Bool). pick t (word y) (pos 32768)) (equal-is x y p q) ∙ go (equal-value x y)
+join-is x y p q = ap (λ (t : Bool). pick t (word y) top-word) (equal-is x y p q) ∙ go (equal-value x y)
   where
-    go : (t : Bool) → pick t (word y) (pos 32768) ≡ word (value-or-top t y)
+    go : (t : Bool) → pick t (word y) top-word ≡ word (value-or-top t y)
     go true = refl
     go false = refl
 

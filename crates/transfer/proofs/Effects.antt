@@ -10,11 +10,12 @@ use lib.Dec.{T, ltb→lt}
 use lib.IntN.{ℤ, pos, natAbs, _+ℤ_, _-ℤ_}
 use lib.ListN.{length, getD, set, List·getD-map}
 use lib.Signed.{leZ}
+use Rattle.semantics.specs.Layout.{top-word}
 use Rattle.semantics.specs.Lists.{pick, all}
 use Rattle.semantics.specs.Chart.{Value, known, top, Var, Operand, num, var, Rel, eq, ne, lt, le, gt, ge, Op, assign, add, sub, input, assume, skip, Chart, eqZ, small, holds, in-range}
 use Rattle.semantics.specs.Algorithm.{Step, halt, to}
 use Rattle.semantics.specs.Constants.{operand-value, both, assign-value, one-of, one-known, tested, effect}
-use Rattle.semantics.specs.Encoding.{word, tag, held, rel-code, op-words, encode, count, var-ok, operand-ok, op-ok, chart-ok}
+use Rattle.semantics.specs.Encoding.{word, tag, held, rel-code, op-words, encode, count, var-ok, operand-ok, op-ok, chart-ok, word-at}
 use Rattle.semantics.proofs.Values.{and-left, and-right}
 use Rattle.semantics.proofs.StatesOk.{ValOk, ValsOk}
 use Rattle.semantics.proofs.Stored.{not-any}
@@ -25,7 +26,7 @@ use Rattle.transfer.proofs.Places.{range-is}
 
 -- a value whose word is top's only where it is top
 abbrev pub Plain : Value → Type 0
-Plain (known z) = eqZ z (pos 32768) ≡ false
+Plain (known z) = eqZ z top-word ≡ false
 Plain top = Unit
 
 small-plain : (z : ℤ) → T (small z) → Plain (known z)
@@ -75,7 +76,7 @@ module _ (c : Chart) (ok : T (chart-ok c)) (rest : List ℤ) (l : ℤ) (xs : Lis
   abbrev e : List ℤ
   e = l ∷ map word xs
 
-  get-word : (k : ℕ) → getD e (k + 1) (pos 0) ≡ word (getD xs k (known (pos 0)))
+  get-word : (k : ℕ) → word-at e (k + 1) ≡ word (getD xs k (known (pos 0)))
   get-word k = rw (add-one k) (List·getD-map word xs k (known (pos 0)))
 
   set-word : (k : ℕ) (x : Value) → set e (k + 1) (word x) ≡ l ∷ map word (set xs k x)
@@ -85,16 +86,16 @@ module _ (c : Chart) (ok : T (chart-ok c)) (rest : List ℤ) (l : ℤ) (xs : Lis
   unfolding set-ranged
   set-ranged-is k z h = (λ i. pick (range-is c ok rest k z h i) (to (set-word k (known z) i)) halt) ∙ step-if l (in-range (c .vars) k z) (set xs k (known z))
 
-  top-is : (k : ℕ) → to (set e (k + 1) (pos 32768)) ≡ row-step l (some (set xs k top))
+  top-is : (k : ℕ) → to (set e (k + 1) top-word) ≡ row-step l (some (set xs k top))
   top-is k = ap to (set-word k top)
 
-  assign-is : (k : ℕ) (x : Value) → k < length (c .vars) → Plain x → set-value ws k (eqZ (word x) (pos 32768)) (word x) e ≡ row-step l (assign-value (c .vars) k x xs)
+  assign-is : (k : ℕ) (x : Value) → k < length (c .vars) → Plain x → set-value ws k (eqZ (word x) top-word) (word x) e ≡ row-step l (assign-value (c .vars) k x xs)
   unfolding set-value
   assign-is k (known z) h p = rw p (set-ranged-is k z h)
   assign-is k top h p = top-is k
 
   both-is : (f : ℤ → ℤ → ℤ) (k : ℕ) (x y : Value) → k < length (c .vars) → Plain x → Plain y
-      → set-value ws k (eqZ (word x) (pos 32768) || eqZ (word y) (pos 32768)) (f (word x) (word y)) e ≡ row-step l (assign-value (c .vars) k (both f x y) xs)
+      → set-value ws k (eqZ (word x) top-word || eqZ (word y) top-word) (f (word x) (word y)) e ≡ row-step l (assign-value (c .vars) k (both f x y) xs)
   unfolding set-value
   both-is f k (known a) (known b) h p q = rw (p, q) (set-ranged-is k (f a b) h)
   both-is f k (known a) top h p q = rw p (top-is k)
@@ -104,7 +105,7 @@ module _ (c : Chart) (ok : T (chart-ok c)) (rest : List ℤ) (l : ℤ) (xs : Lis
   join-is : (k : ℕ) (p q : ℤ) → to (set e (k + 1) (word-join p q)) ≡ row-step l (some (set xs k (one-of (eqZ p q) p)))
   join-is k p q = ap (λ (z : ℤ). to (set e (k + 1) z)) (go (eqZ p q) refl) ∙ ap to (set-word k (one-of (eqZ p q) p))
     where
-      go : (t : Bool) → eqZ p q ≡ t → pick t q (pos 32768) ≡ word (one-of t p)
+      go : (t : Bool) → eqZ p q ≡ t → pick t q top-word ≡ word (one-of t p)
       go true h = sym (eqZ-true p q h)
       go false h = refl
 
@@ -128,7 +129,7 @@ module _ (c : Chart) (ok : T (chart-ok c)) (rest : List ℤ) (l : ℤ) (xs : Lis
   refine-is gt k z h p = rw p
   refine-is ge k z h p = rw p
 
-  nothing-known : (n k : ℕ) → refine-by ws n k (pos 32768) e ≡ to e
+  nothing-known : (n k : ℕ) → refine-by ws n k top-word e ≡ to e
   unfolding refine-by
   nothing-known n k = refl
 
@@ -164,11 +165,11 @@ module _ (c : Chart) (ok : T (chart-ok c)) (rest : List ℤ) (l : ℤ) (xs : Lis
   -- ---- the operations: the edge's words, from i on, are two for its locations and six for its operation
   module _ (i : ℕ) (from goal : ℤ) where
     abbrev pub Reads : Op → Type 0
-    Reads o = (j : ℕ) → j < 8 → getD ws (i + j) (pos 0) ≡ getD (from ∷ goal ∷ op-words o) j (pos 0)
+    Reads o = (j : ℕ) → j < 8 → word-at ws (i + j) ≡ word-at (from ∷ goal ∷ op-words o) j
 
     -- add and sub, by their code
     both-effect : (f : ℤ → ℤ → ℤ) (n v : ℕ) (a b : Operand) → T (op-ok (c .vars) (add v a b))
-        → ((j : ℕ) → j < 8 → getD ws (i + j) (pos 0) ≡ getD (from ∷ goal ∷ pos n ∷ pos v ∷ tag a ∷ held a ∷ tag b ∷ held b ∷ []) j (pos 0))
+        → ((j : ℕ) → j < 8 → word-at ws (i + j) ≡ word-at (from ∷ goal ∷ pos n ∷ pos v ∷ tag a ∷ held a ∷ tag b ∷ held b ∷ []) j)
         → both-at f ws i e ≡ row-step l (assign-value (c .vars) v (both f (operand-value a xs) (operand-value b xs)) xs)
     unfolding both-at set-result
     both-effect f n v a b t r =

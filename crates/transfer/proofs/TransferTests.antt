@@ -7,12 +7,12 @@ use native.Mathlib.Numerals.{add-one}
 use native.Mathlib.Omega.{arith}
 use lib.IntN.{ℤ, pos}
 use lib.Signed.{leZ}
-use lib.ListN.{length, take, getD, set}
+use lib.ListN.{length, take, set}
 use lib.Seq.{take-all, take-suc-set, append-snoc}
 use mir.Syntax.{w32}
 use mir.Val.{SFits}
 use Rattle.semantics.specs.Chart.{within}
-use Rattle.semantics.specs.Encoding.{count}
+use Rattle.semantics.specs.Encoding.{count, word-at}
 use Rattle.semantics.proofs.Values.{left-true, right-true}
 use Rattle.words.proofs.Words.{between-fits}
 use Rattle.transfer.specs.Transfer.{initial-words, initial-row}
@@ -26,7 +26,7 @@ unfolding initial-row
 initial-start c out n h e = let f : n + 1 - 1 ≡ n = omega arith in rw (take-suc-set out 0 (pos 0) h, f, e)
 
 module _ (c out : List ℤ) (i at n : ℕ) where
-  pub initial-turn : (v : ℤ) → v ≡ getD c at (pos 0) → i < length out → i ≤ n
+  pub initial-turn : (v : ℤ) → v ≡ word-at c at → i < length out → i ≤ n
       → take i out ++ initial-words c at (n + 1 - i) ≡ take (i + 1) (set out i v) ++ initial-words c (at + 3) (n + 1 - (i + 1))
   initial-turn v q h l =
       let e : n + 1 - i ≡ suc (n - i) = omega arith in

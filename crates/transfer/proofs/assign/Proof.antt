@@ -1,7 +1,7 @@
 -- `transfer::assign` meets its contract. Assumes nothing.
+use Rattle.semantics.specs.Layout.{top-word}
 use mathlib.Core.Path.{_∙_}
 use borrow.Author.Needs.{needs, sfits-of}
-use lib.IntN.{pos}
 use mir.Syntax.{w32, w64}
 use mir.Facts.{sfits-lit}
 use mir.ValLaws.{toZ-ofZ}
@@ -19,7 +19,7 @@ returns c =
     let w = c .before .before .before .wide .result in
     c .before .put-value .ensures
     ∙ rw (
-      bits-eqb w32 {a = a} {b = pos 32768} fa (sfits-lit tt),
+      bits-eqb w32 {a = a} {b = top-word} fa (sfits-lit tt),
       toZ-ofZ w64 w (sfits-of {z = w} (c .before .before .before .wide .ok)),
       c .before .before .before .wide .ensures,
       toZ-ofZ w32 a fa,

@@ -1,7 +1,8 @@
 -- `transfer::initial` meets its contract. Assumes nothing.
+use Rattle.semantics.specs.Layout.{variable-at, init-place, variable-size}
 use mathlib.Core.Path.{_≡_, sym, ap, _∙_}
 use mathlib.Core.List.{_++_}
-use Prim.Native.Nat.{ℕ, _+_, _-_, _*_, _<_, _≤_}
+use Prim.Native.Nat.{ℕ, _+_, _-_, _<_, _≤_}
 use native.Mathlib.Omega.{arith}
 use borrow.Author.Needs.{needs, sfits-of}
 use lib.ListN.{length, take, set, length-set}
@@ -15,7 +16,7 @@ use Rattle.transfer.proofs.initial.Tie as tie
 
 abbrev Inv-loop : tie.InvT-loop
 Inv-loop chart out₀ n k₀ out k =
-    (k ≤ n) × (length out ≡ n + 1) × (initial-row chart ≡ take (k + 1) out ++ initial-words chart (3 + 3 * k + 2) (n + 1 - (k + 1)))
+    (k ≤ n) × (length out ≡ n + 1) × (initial-row chart ≡ take (k + 1) out ++ initial-words chart (variable-at k + init-place) (n + 1 - (k + 1)))
 
 abbrev μ-loop : tie.MeasureT-loop
 μ-loop chart out₀ n k₀ out k = n - k
@@ -38,10 +39,10 @@ loop-again c =
     let v = toZ-ofZ w32 x (sfits-of {z = x} (c .variable-init .ok)) ∙ c .variable-init .ensures in
     let h : k + 1 < length o = omega arith in
     let l : k + 1 ≤ n = omega arith in
-    let next : 3 + 3 * k + 2 + 3 ≡ 3 + 3 * (k + 1) + 2 = omega arith in (
+    let next : variable-at k + init-place + variable-size ≡ variable-at (k + 1) + init-place = omega arith in (
       omega arith,
       simp length-set (b .loop .inv .1),
-      b .loop .inv .2 ∙ initial-turn ws o (k + 1) (3 + 3 * k + 2) n y v h l
+      b .loop .inv .2 ∙ initial-turn ws o (k + 1) (variable-at k + init-place) n y v h l
           ∙ ap (λ (at : ℕ). take (k + 1 + 1) (set o (k + 1) y) ++ initial-words ws at (n + 1 - (k + 1 + 1))) next,
     )
 
@@ -57,7 +58,7 @@ returns c =
     let n = b .before .var-count .result in
     let h : length (b .loop .out) ≤ k + 1 = omega arith in
     let l : n < k + 1 = omega arith in
-    sym (b .loop .inv .2 ∙ initial-end (b .before .before .args .chart .now) (b .loop .out) (k + 1) (3 + 3 * k + 2) n h l)
+    sym (b .loop .inv .2 ∙ initial-end (b .before .before .args .chart .now) (b .loop .out) (k + 1) (variable-at k + init-place) n h l)
 
 pub initial-spec : {M : Type 1} → statement M
 initial-spec =
