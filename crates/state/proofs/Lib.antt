@@ -1,2 +1,3 @@
--- Turns of the loops over rows.
+-- Layouts and places; the turns of the loops.
+pub mod Layouts
 pub mod RowLoops

@@ -2,22 +2,81 @@
 -- word on the rows' form; rows of a table; and the rows as a domain of the algorithm. Assumes nothing.
 use mathlib.Core.Bool.{Bool, false, _&&_, _||_}
 use mathlib.Core.List.{List, [], _∷_, _++_}
-use Prim.Native.Nat.{ℕ, zero, suc}
-use lib.IntN.{ℤ, pos}
-use lib.ListN.{take, drop, getD}
+use Prim.Native.Nat.{ℕ, zero, suc, _+_, _*_}
+use lib.Dec.{ltb}
+use lib.IntN.{ℤ, pos, natAbs}
+use lib.ListN.{take, drop, set}
 use Rattle.semantics.specs.Lists.{pick, all-pairs}
 use Rattle.semantics.specs.Chart.{eqZ}
+use Rattle.semantics.specs.Layout.{top-word}
+use Rattle.semantics.specs.Encoding.{word-at, count}
 use Rattle.semantics.specs.Algorithm.{Domain, Step}
+use Rattle.state.specs.declared.Layout.{Layout}
 
--- ---- words, 32,768 being top
+-- ---- where the words of a state stand
+
+-- before the values: the location's word
+abbrev pub head-size : ℕ
+head-size = 1
+
+-- the words of a variable
+abbrev pub value-size : ℕ
+value-size = 1
+
+-- the words of a state
+abbrev pub width-of : Layout → ℕ
+width-of l = l .head + l .value * l .variables
+
+-- the tables of an encoded chart: slot follows slot
+abbrev pub layout-of : List ℤ → Layout
+layout-of ws = record {
+  head = head-size;
+  value = value-size;
+  variables = count ws 0;
+  stride = head-size + value-size * count ws 0;
+}
+
+-- the word of a row's location
+abbrev pub location-word : List ℤ → ℤ
+location-word e = word-at e 0
+
+-- the location, its sign left out
+abbrev pub location-in : List ℤ → ℕ
+location-in e = natAbs (location-word e)
+
+-- the values, a word each
+abbrev pub values-of : List ℤ → List ℤ
+values-of e = drop head-size e
+
+-- where the word of variable k stands
+abbrev pub value-place : ℕ → ℕ
+value-place k = k + head-size
+
+-- the value of variable k
+abbrev pub value-at : List ℤ → ℕ → ℤ
+value-at e k = word-at e (value-place k)
+
+-- the word of a location; one that no word can hold has 0
+unfoldable pub id-word : ℕ → ℤ
+id-word n = pick (ltb n 2147483648) (pos n) (pos 0)
+
+-- the row at another location
+abbrev pub with-location : List ℤ → ℕ → List ℤ
+with-location e n = set e 0 (id-word n)
+
+-- the row with another value of variable k
+abbrev pub with-value : List ℤ → ℕ → ℤ → List ℤ
+with-value e k x = set e (value-place k) x
+
+-- ---- words
 
 -- x lies under y: y is top, or it is "the same value in both"
 abbrev pub word-leq : ℤ → ℤ → Bool
-word-leq x y = eqZ y (pos 32768) || eqZ x y
+word-leq x y = eqZ y top-word || eqZ x y
 
 -- "equal values stay, all else becomes unspecific"
 abbrev pub word-join : ℤ → ℤ → ℤ
-word-join x y = pick (eqZ x y) y (pos 32768)
+word-join x y = pick (eqZ x y) y top-word
 
 -- lists of one length, each word under the one at its place
 abbrev pub words-leq : List ℤ → List ℤ → Bool
@@ -37,15 +96,15 @@ same-words e s = all-pairs eqZ e s
 
 -- "the locations agree"
 abbrev pub same-place : List ℤ → List ℤ → Bool
-same-place e s = eqZ (getD e 0 (pos 0)) (getD s 0 (pos 0))
+same-place e s = eqZ (location-word e) (location-word s)
 
 -- the row e lies under the row s
 abbrev pub row-leq : List ℤ → List ℤ → Bool
-row-leq e s = same-place e s && words-leq (drop 1 e) (drop 1 s)
+row-leq e s = same-place e s && words-leq (values-of e) (values-of s)
 
 -- e joined into s
 abbrev pub row-join : List ℤ → List ℤ → List ℤ
-row-join e s = take 1 s ++ words-join (drop 1 e) (drop 1 s)
+row-join e s = take head-size s ++ words-join (values-of e) (values-of s)
 
 -- the same where the locations agree, else s
 abbrev pub row-merge : List ℤ → List ℤ → List ℤ
