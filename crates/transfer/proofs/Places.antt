@@ -5,7 +5,6 @@ use mathlib.Core.List.{List, [], _∷_, _++_, map, append-assoc}
 use Prim.Native.Nat.{ℕ, zero, suc, _+_, _*_, _<_}
 use native.Mathlib.Nat.{mul-suc}
 use native.Mathlib.Omega.{arith}
-use borrow.Author.Tests.{lt-ltb}
 use lib.Dec.{T}
 use lib.IntN.{ℤ, pos}
 use lib.ListN.{length, getD, length-append, List·getD-append}
@@ -19,12 +18,7 @@ use Rattle.semantics.specs.Encoding.{word, kind-word, var-words, loc-words, edg
 use Rattle.semantics.proofs.StatesOk.{Bounds, bounds}
 use Rattle.semantics.proofs.Encoded.{kind-back, each-length, every-of, loc-wide, edge-wide, every-any}
 use Rattle.chart.specs.Encoded.{locations-at}
-use Rattle.transfer.specs.Transfer.{location-word, edge-at, error-row, initial-words, initial-row}
-
--- the word of a location that a word can hold
-pub placed : (n : ℕ) → n < 2147483648 → location-word n ≡ pos n
-unfolding location-word
-placed n h = rw (lt-ltb n 2147483648 h)
+use Rattle.transfer.specs.Transfer.{edge-at, error-row, initial-words, initial-row}
 
 pub at-some : {A : Type 0} (xs : List A) (n : ℕ) → n < length xs → (x : A) × At xs n x
 at-some [] n h = absurd (omega arith)

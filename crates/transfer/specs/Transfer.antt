@@ -3,16 +3,15 @@
 use mathlib.Core.Bool.{Bool, _&&_, _||_, not, true}
 use mathlib.Core.List.{List, [], _∷_}
 use Prim.Native.Nat.{ℕ, zero, suc, _+_, _*_}
-use lib.Dec.{ltb, eqb}
+use lib.Dec.{eqb}
 use lib.IntN.{ℤ, pos, natAbs, _+ℤ_, _-ℤ_}
-use lib.ListN.{set}
 use lib.Signed.{leZ, ltZ}
 use Rattle.semantics.specs.Lists.{pick}
 use Rattle.semantics.specs.Chart.{eqZ, within}
 use Rattle.semantics.specs.Layout.{top-word, variable-size, location-size, edge-size, variable-at, high-place, init-place, to-place, operation-place, target-place, first-tag-place, first-value-place, second-tag-place, second-value-place, skip-code, set-code, add-code, sub-code, in-code, eq-code, ne-code, lt-code, le-code, gt-code, number-tag}
 use Rattle.semantics.specs.Algorithm.{Step, halt, fault, to}
 use Rattle.semantics.specs.Encoding.{word-at, count, kind-word}
-use Rattle.state.specs.Rows.{word-join}
+use Rattle.state.specs.Rows.{location-in, value-at, with-location, with-value, word-join}
 use Rattle.chart.specs.Encoded.{locations-at, edges-at}
 use Rattle.transfer.specs.declared.Move.{Move}
 use Rattle.transfer.specs.declared.Move.the-variants.{Halt, Fault, Successor}
@@ -38,15 +37,15 @@ edges-from g (suc n) = g ∷ edges-from (suc g) n
 
 -- an operand by its tag and its own word: a number, or the word of a variable
 abbrev pub operand-by : ℤ → ℤ → List ℤ → ℤ
-operand-by tag z e = pick (eqZ tag number-tag) z (word-at e (natAbs z + 1))
+operand-by tag z e = pick (eqZ tag number-tag) z (value-at e (natAbs z))
 
 -- variable k becomes z if that lies in its range; the low end stands first in its row
 unfoldable pub set-ranged : List ℤ → ℕ → ℤ → List ℤ → Step (List ℤ)
-set-ranged c k z e = pick (within (word-at c (variable-at k)) (word-at c (variable-at k + high-place)) z) (to (set e (k + 1) z)) halt
+set-ranged c k z e = pick (within (word-at c (variable-at k)) (word-at c (variable-at k + high-place)) z) (to (with-value e k z)) halt
 
 -- variable k becomes top, or z if that lies in its range
 unfoldable pub set-value : List ℤ → ℕ → Bool → ℤ → List ℤ → Step (List ℤ)
-set-value c k top z e = pick top (to (set e (k + 1) top-word)) (set-ranged c k z e)
+set-value c k top z e = pick top (to (with-value e k top-word)) (set-ranged c k z e)
 
 -- ---- the operations of the edge at i: its target, and its operands
 
@@ -76,7 +75,7 @@ both-at f c i e = let a = first-at c i e in let b = second-at c i e in set-resul
 
 -- `in v p q`: "known if p = q, else unspecific"
 unfoldable pub input-at : List ℤ → ℕ → List ℤ → Step (List ℤ)
-input-at c i e = to (set e (target-at c i + 1) (word-join (word-at c (i + first-value-place)) (word-at c (i + second-value-place))))
+input-at c i e = to (with-value e (target-at c i) (word-join (word-at c (i + first-value-place)) (word-at c (i + second-value-place))))
 
 -- the relation of code n holds
 unfoldable pub holds-by : ℕ → ℤ → ℤ → Bool
@@ -95,7 +94,7 @@ tested-by c n k j x y e =
 
 -- `if v rel a`, the relation of code n
 unfoldable pub assume-at : List ℤ → ℕ → ℕ → List ℤ → Step (List ℤ)
-assume-at c n i e = tested-by c n (target-at c i) (count c (i + first-value-place)) (word-at e (target-at c i + 1)) (first-at c i e) e
+assume-at c n i e = tested-by c n (target-at c i) (count c (i + first-value-place)) (value-at e (target-at c i)) (first-at c i e) e
 
 -- the operation of code n
 unfoldable pub op-by : ℕ → List ℤ → ℕ → List ℤ → Step (List ℤ)
@@ -104,13 +103,9 @@ op-by n c i e =
 
 -- ---- the transfer
 
--- the word of a location; one that no word can hold has 0
-unfoldable pub location-word : ℕ → ℤ
-location-word n = pick (ltb n 2147483648) (pos n) (pos 0)
-
 -- by the edge whose words stand at i, from first among them
 unfoldable pub post-at : List ℤ → ℕ → List ℤ → Step (List ℤ)
-post-at c i e = pick (eqb (count c i) (count e 0)) (op-by (count c (i + operation-place)) c i (set e 0 (location-word (count c (i + to-place))))) halt
+post-at c i e = pick (eqb (count c i) (location-in e)) (op-by (count c (i + operation-place)) c i (with-location e (count c (i + to-place)))) halt
 
 -- by edge g, edges from 0
 unfoldable pub post-words : List ℤ → ℕ → List ℤ → Step (List ℤ)
@@ -120,7 +115,7 @@ post-words c g e = post-at c (edge-at c g) e
 
 -- the word of the location's kind says so
 unfoldable pub error-row : List ℤ → List ℤ → Bool
-error-row c e = eqZ (word-at c (locations-at c + location-size * count e 0)) (kind-word true)
+error-row c e = eqZ (word-at c (locations-at c + location-size * location-in e)) (kind-word true)
 
 -- the first of n variables' initial words stands at i
 abbrev pub initial-words : List ℤ → ℕ → ℕ → List ℤ

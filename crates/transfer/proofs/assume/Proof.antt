@@ -1,10 +1,8 @@
 -- `transfer::assume` meets its contract. Assumes nothing.
 use mathlib.Core.Path.{_≡_, sym, ap, _∙_}
 use mathlib.Core.Bool.{Bool, true, false}
-use Prim.Native.Nat.{ℕ, _+_}
 use borrow.Author.Needs.{needs, sfits-of}
-use lib.IntN.{ℤ, pos}
-use lib.ListN.{getD}
+use lib.IntN.{ℤ}
 use mir.Syntax.{w32}
 use mir.Facts.{sfits-lit}
 use mir.Val.{SFits, ofZ}
@@ -13,7 +11,7 @@ use Rattle.semantics.specs.Layout.{top-word}
 use Rattle.semantics.specs.Lists.{pick}
 use Rattle.semantics.specs.Chart.{eqZ}
 use Rattle.semantics.specs.Algorithm.{halt, to}
-use Rattle.semantics.specs.Encoding.{word-at}
+use Rattle.state.specs.Rows.{value-at}
 use Rattle.transfer.specs.Transfer.{first-at, target-at, holds-by, refine-by, tested-by, assume-at}
 use Rattle.transfer.proofs.assume.Statement.{statement}
 use Rattle.transfer.proofs.assume.Tie as tie
@@ -24,22 +22,22 @@ module _ (c : tie.After-first-operand) where
   start = c .before .before .before .before .before
 
   abbrev left : ℤ
-  left = c .before .before .word-at .result
+  left = c .before .before .value-at .result
 
   abbrev x : ℤ
-  x = getD (start .args .row .now) (target-at (start .args .chart .now) (start .args .edge .at) + 1) (pos 0)
+  x = value-at (start .args .row .now) (target-at (start .args .chart .now) (start .args .edge .at))
 
   abbrev y : ℤ
   y = first-at (start .args .chart .now) (start .args .edge .at) (start .args .row .now)
 
   left-fits : SFits w32 left
-  left-fits = sfits-of {z = left} (c .before .before .word-at .ok)
+  left-fits = sfits-of {z = left} (c .before .before .value-at .ok)
 
   right-fits : SFits w32 (c .first-operand .result)
   right-fits = sfits-of {z = c .first-operand .result} (c .first-operand .ok)
 
   left-is : left ≡ x
-  left-is = c .before .before .word-at .ensures ∙ ap (λ (n : ℕ). word-at (start .args .row .now) (n + 1)) (c .before .before .before .before .edge-target .ensures .0)
+  left-is = c .before .before .value-at .ensures ∙ ap (value-at (start .args .row .now)) (c .before .before .before .before .edge-target .ensures .0)
 
   left-known : (ofZ w32 left ≡ ofZ w32 top-word → ⊥) → eqZ x top-word ≡ false
   left-known e = rw left-is at (bits-ne w32 {a = left} {b = top-word} left-fits (sfits-lit tt) e)
@@ -84,7 +82,6 @@ assume-spec =
     tie.close
     (tie.spec
     (λ c κs. search needs)
-    (λ c. search needs)
     (λ c κs. search needs)
     (λ c κs. search needs)
     (λ c κs. search needs)

@@ -60,7 +60,7 @@ returns-2 c =
     let h = c .before .before .before in
     let s = h .before .before .before .before in
     let z = s .args .z in
-    rw (sym (in-range (h .before)) ∙ not-false _ (h .if1 .left), c .before .put .ensures, toZ-ofZ w64 z (s .fits .z), toZ-ofZ w32 z (fits h))
+    rw (sym (in-range (h .before)) ∙ not-false _ (h .if1 .left), c .before .set-value .ensures, toZ-ofZ w64 z (s .fits .z), toZ-ofZ w32 z (fits h))
 
 pub put-ranged-spec : {M : Type 1} → statement M
 put-ranged-spec =
