@@ -10,7 +10,7 @@ use native.Mathlib.Omega.{arith}
 use lib.Dec.{T, eqb, eqb-refl, ltb→lt}
 use lib.IntN.{ℤ, pos, natAbs}
 use lib.ListN.{length, drop}
-use Rattle.semantics.specs.Layout.{top-word, to-place}
+use Rattle.semantics.specs.Layout.{top-word, from-place, to-place}
 use Rattle.semantics.specs.Lists.{At, pick, all, all-pairs}
 use Rattle.semantics.specs.Chart.{Value, known, top, Edge, Numbered, number-from, numbered, Chart, eqZ, error-location}
 use Rattle.semantics.specs.Algorithm.{Step, halt, fault, to}
@@ -24,8 +24,8 @@ use Rattle.semantics.proofs.StatesOk.{StateOk, join-ok, bounds, keeps, initial-
 use Rattle.semantics.proofs.Encoded.{well-formed-split}
 use Rattle.semantics.proofs.Simulate.{AllPairs, StepR, Agree}
 use Rattle.words.proofs.Words.{eqZ-sym}
+use Rattle.state.specs.Rows.{id-word, word-leq, word-join, words-join, same-words, same-place, row-leq, row-join, join-of, leq-join-of, row-domain}
 use Rattle.state.proofs.Layouts.{id-fits}
-use Rattle.state.specs.Rows.{word-leq, word-join, words-join, same-words, same-place, row-leq, row-join, join-of, leq-join-of, row-domain, id-word}
 use Rattle.transfer.specs.Transfer.{edge-at, edges-from, post-at, post-words, error-row, initial-row}
 use Rattle.transfer.proofs.Places.{edge-word, error-is, initial-is}
 use Rattle.transfer.proofs.Effects.{Plain, AllPlain, values-plain, row-step, effect-is}
@@ -159,9 +159,9 @@ module _ (c : Chart) (ok : T (chart-ok c)) (rest : List ℤ) where
   unfolding post-words post-at post
   post-is n g f a t h =
       let i = edge-at ws n in
-      let z : i ≡ i + 0 = omega arith in
+      let z : i ≡ i + from-place = omega arith in
       let read = edge-word c ok rest n g a in
-      let from : count ws i ≡ g .from = ap (count ws) z ∙ ap natAbs (read 0 (omega arith)) in
+      let from : count ws i ≡ g .from = ap (count ws) z ∙ ap natAbs (read from-place (omega arith)) in
       let few : g .to < 2147483648 = omega (arith, bounds c ok .few-locs, ltb→lt (g .to) (length (c .locs)) (search (and-left, and-right))) in
       let there : id-word (count ws (i + to-place)) ≡ pos (g .to) = ap id-word (ap natAbs (read to-place (omega arith))) ∙ id-fits (g .to) few in
       let u : T (op-ok (c .vars) (g .op)) = search (and-left, and-right) in

@@ -1,6 +1,6 @@
 -- The transfer of an edge of the encoded chart on a row of words, the test of an error location, and the initial row,
 -- with no word on the form of either: a word past the end is 0, a number's sign does not count. Assumes nothing.
-use mathlib.Core.Bool.{Bool, _&&_, _||_, not, true}
+use mathlib.Core.Bool.{Bool, true, _&&_, _||_, not}
 use mathlib.Core.List.{List, [], _∷_}
 use Prim.Native.Nat.{ℕ, zero, suc, _+_, _*_}
 use lib.Dec.{eqb}
@@ -8,8 +8,8 @@ use lib.IntN.{ℤ, pos, natAbs, _+ℤ_, _-ℤ_}
 use lib.Signed.{leZ, ltZ}
 use Rattle.semantics.specs.Lists.{pick}
 use Rattle.semantics.specs.Chart.{eqZ, within}
-use Rattle.semantics.specs.Layout.{top-word, variable-size, location-size, edge-size, variable-at, high-place, init-place, to-place, operation-place, target-place, first-tag-place, first-value-place, second-tag-place, second-value-place, skip-code, set-code, add-code, sub-code, in-code, eq-code, ne-code, lt-code, le-code, gt-code, number-tag}
 use Rattle.semantics.specs.Algorithm.{Step, halt, fault, to}
+use Rattle.semantics.specs.Layout.{top-word, variable-size, location-size, edge-size, variable-at, high-place, init-place, to-place, operation-place, target-place, first-tag-place, first-value-place, second-tag-place, second-value-place, skip-code, set-code, add-code, sub-code, in-code, eq-code, ne-code, lt-code, le-code, gt-code, number-tag}
 use Rattle.semantics.specs.Encoding.{word-at, count, kind-word}
 use Rattle.state.specs.Rows.{location-in, value-at, with-location, with-value, word-join}
 use Rattle.chart.specs.Encoded.{locations-at, edges-at}
@@ -39,7 +39,7 @@ edges-from g (suc n) = g ∷ edges-from (suc g) n
 abbrev pub operand-by : ℤ → ℤ → List ℤ → ℤ
 operand-by tag z e = pick (eqZ tag number-tag) z (value-at e (natAbs z))
 
--- variable k becomes z if that lies in its range; the low end stands first in its row
+-- variable k becomes z if that lies in its range
 unfoldable pub set-ranged : List ℤ → ℕ → ℤ → List ℤ → Step (List ℤ)
 set-ranged c k z e = pick (within (word-at c (variable-at k)) (word-at c (variable-at k + high-place)) z) (to (with-value e k z)) halt
 
@@ -103,7 +103,7 @@ op-by n c i e =
 
 -- ---- the transfer
 
--- by the edge whose words stand at i, from first among them
+-- by the edge whose words stand at i
 unfoldable pub post-at : List ℤ → ℕ → List ℤ → Step (List ℤ)
 post-at c i e = pick (eqb (count c i) (location-in e)) (op-by (count c (i + operation-place)) c i (with-location e (count c (i + to-place)))) halt
 
@@ -113,7 +113,7 @@ post-words c g e = post-at c (edge-at c g) e
 
 -- ---- an error location; the initial row
 
--- the word of the location's kind says so
+-- the word of the location's kind is 1
 unfoldable pub error-row : List ℤ → List ℤ → Bool
 error-row c e = eqZ (word-at c (locations-at c + location-size * location-in e)) (kind-word true)
 

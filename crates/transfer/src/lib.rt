@@ -5,10 +5,10 @@ ghost use mathlib.Core.Path.{_≡_};
 ghost use Prim.Native.Nat.{_+_, _<_};
 ghost use lib.IntN.{_+ℤ_, _-ℤ_};
 ghost use lib.ListN.{length};
-ghost use Rattle.semantics.specs.Layout.{index-limit, operation-place};
 ghost use Rattle.semantics.specs.Chart.{within};
+ghost use Rattle.semantics.specs.Layout.{operation-place, index-limit};
 ghost use Rattle.semantics.specs.Encoding.{count};
-ghost use Rattle.state.specs.Rows.{width-of, layout-of};
+ghost use Rattle.state.specs.Rows.{layout-of, width-of};
 ghost use Rattle.transfer.specs.Transfer.{step-of, operand-by, first-at, second-at, set-ranged, set-value, assign-at, set-result, both-at, input-at, holds-by, refine-by, assume-at, op-by, post-at, error-row, initial-row};
 
 // What a transfer answers, as the rules' `Step`: no successor, document 01's halt among them; a fault, which comes with
@@ -48,12 +48,13 @@ fn operand(tag: i32, w: i32, row: &[i32]) -> i32
     if tag == 0 {
         return w;
     }
-    state::value_at(row, words::magnitude(w))
+    let k = words::magnitude(w);
+    state::value_at(row, k)
 }
 
 // The words of the two operands of an edge.
 fn first_operand(chart: &[i32], edge: Edge, row: &[i32]) -> i32
-    requires { ⌜ edge .at < 4294967296 ⌝ }
+    requires { ⌜ edge .at < index-limit ⌝ }
     ensures { λ r. ⌜ r ≡ first-at (now (chart .entry)) (edge .at) (now (row .entry)) ⌝ }
 {
     let tag = chart::first_tag(chart, edge);
@@ -62,7 +63,7 @@ fn first_operand(chart: &[i32], edge: Edge, row: &[i32]) -> i32
 }
 
 fn second_operand(chart: &[i32], edge: Edge, row: &[i32]) -> i32
-    requires { ⌜ edge .at < 4294967296 ⌝ }
+    requires { ⌜ edge .at < index-limit ⌝ }
     ensures { λ r. ⌜ r ≡ second-at (now (chart .entry)) (edge .at) (now (row .entry)) ⌝ }
 {
     let tag = chart::second_tag(chart, edge);
@@ -100,7 +101,7 @@ fn put_value(chart: &[i32], k: usize, top: bool, z: i64, row: &mut [i32]) -> Mov
 // ---- the operations of an edge, on the row
 
 fn assign(chart: &[i32], edge: Edge, row: &mut [i32]) -> Move
-    requires { ⌜ edge .at < 4294967296 ⌝ }
+    requires { ⌜ edge .at < index-limit ⌝ }
     ensures { λ r. ⌜ step-of r (now (row .exit)) ≡ assign-at (now (chart .entry)) (edge .at) (now (row .entry)) ⌝ }
 {
     let k = chart::edge_target(chart, edge);
@@ -110,7 +111,7 @@ fn assign(chart: &[i32], edge: Edge, row: &mut [i32]) -> Move
 
 // The target becomes z, what an operation makes of a and b, or top where one of them is.
 fn put_result(chart: &[i32], edge: Edge, a: i32, b: i32, z: i64, row: &mut [i32]) -> Move
-    requires { ⌜ edge .at < 4294967296 ⌝ }
+    requires { ⌜ edge .at < index-limit ⌝ }
     ensures { λ r. ⌜ step-of r (now (row .exit)) ≡ set-result (now (chart .entry)) (edge .at) a b z (now (row .entry)) ⌝ }
 {
     let k = chart::edge_target(chart, edge);
@@ -118,7 +119,7 @@ fn put_result(chart: &[i32], edge: Edge, a: i32, b: i32, z: i64, row: &mut [i32]
 }
 
 fn add(chart: &[i32], edge: Edge, row: &mut [i32]) -> Move
-    requires { ⌜ edge .at < 4294967296 ⌝ }
+    requires { ⌜ edge .at < index-limit ⌝ }
     ensures { λ r. ⌜ step-of r (now (row .exit)) ≡ both-at _+ℤ_ (now (chart .entry)) (edge .at) (now (row .entry)) ⌝ }
 {
     let a = first_operand(chart, edge, row);
@@ -127,7 +128,7 @@ fn add(chart: &[i32], edge: Edge, row: &mut [i32]) -> Move
 }
 
 fn sub(chart: &[i32], edge: Edge, row: &mut [i32]) -> Move
-    requires { ⌜ edge .at < 4294967296 ⌝ }
+    requires { ⌜ edge .at < index-limit ⌝ }
     ensures { λ r. ⌜ step-of r (now (row .exit)) ≡ both-at _-ℤ_ (now (chart .entry)) (edge .at) (now (row .entry)) ⌝ }
 {
     let a = first_operand(chart, edge, row);
@@ -137,7 +138,7 @@ fn sub(chart: &[i32], edge: Edge, row: &mut [i32]) -> Move
 
 // A value from p up to q: known only where they are the same.
 fn input(chart: &[i32], edge: Edge, row: &mut [i32]) -> Move
-    requires { ⌜ edge .at < 4294967296 ⌝ }
+    requires { ⌜ edge .at < index-limit ⌝ }
     ensures { λ r. ⌜ step-of r (now (row .exit)) ≡ input-at (now (chart .entry)) (edge .at) (now (row .entry)) ⌝ }
 {
     let k = chart::edge_target(chart, edge);
@@ -175,7 +176,7 @@ fn refine(chart: &[i32], n: usize, k: usize, x: i32, row: &mut [i32]) -> Move
 
 // The relation of code n between the target and an operand: a test, or what it says of a side at top.
 fn assume(chart: &[i32], n: usize, edge: Edge, row: &mut [i32]) -> Move
-    requires { ⌜ edge .at < 4294967296 ⌝ }
+    requires { ⌜ edge .at < index-limit ⌝ }
     ensures { λ r. ⌜ step-of r (now (row .exit)) ≡ assume-at (now (chart .entry)) n (edge .at) (now (row .entry)) ⌝ }
 {
     let k = chart::edge_target(chart, edge);
@@ -196,7 +197,7 @@ fn assume(chart: &[i32], n: usize, edge: Edge, row: &mut [i32]) -> Move
 
 // The operation of the edge, by its code.
 fn apply(chart: &[i32], edge: Edge, row: &mut [i32]) -> Move
-    requires { ⌜ edge .at < 4294967296 ⌝ }
+    requires { ⌜ edge .at < index-limit ⌝ }
     ensures { λ r. ⌜ step-of r (now (row .exit)) ≡ op-by (count (now (chart .entry)) (edge .at + operation-place)) (now (chart .entry)) (edge .at) (now (row .entry)) ⌝ }
 {
     let n = chart::edge_operation(chart, edge);
@@ -214,7 +215,7 @@ fn apply(chart: &[i32], edge: Edge, row: &mut [i32]) -> Move
 
 // The move of the row by the edge, its successor into `out`.
 pub fn successor(chart: &[i32], edge: Edge, row: &[i32], out: &mut [i32]) -> Move
-    requires { ⌜ (0 < length (now row)) × (length (now out) ≡ length (now row)) × (edge .at < 4294967296) ⌝ }
+    requires { ⌜ (0 < length (now row)) × (length (now out) ≡ length (now row)) × (edge .at < index-limit) ⌝ }
     ensures { λ r. ⌜ step-of r (now (out .exit)) ≡ post-at (now (chart .entry)) (edge .at) (now (row .entry)) ⌝ }
 {
     let from = chart::edge_from(chart, edge);

@@ -6,8 +6,8 @@ use lib.IntN.{ℤ}
 use mir.Syntax.{w32}
 use mir.Facts.{sfits-lit}
 use mir.Val.{SFits, ofZ}
-use Rattle.words.proofs.Words.{bits-eq, bits-ne, told}
 use Rattle.semantics.specs.Layout.{top-word}
+use Rattle.words.proofs.Words.{bits-eq, bits-ne, told}
 use Rattle.semantics.specs.Lists.{pick}
 use Rattle.semantics.specs.Chart.{eqZ}
 use Rattle.semantics.specs.Algorithm.{halt, to}

@@ -3,8 +3,8 @@ use mathlib.Core.Path.{ap, _∙_}
 use mathlib.Core.Bool.{true}
 use Prim.Native.Nat.{ℕ, _+_, _*_}
 use borrow.Author.Needs.{needs}
-use Rattle.semantics.specs.Layout.{location-size}
 use Rattle.semantics.specs.Chart.{eqZ}
+use Rattle.semantics.specs.Layout.{location-size}
 use Rattle.semantics.specs.Encoding.{word-at, kind-word}
 use Rattle.chart.specs.Encoded.{locations-at}
 use Rattle.transfer.specs.Transfer.{error-row}
