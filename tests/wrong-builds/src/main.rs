@@ -8,16 +8,17 @@
 //!
 //! It is run in a repository whose target/ was left by `rt ci` or `rt check` (or, beside `rt ci`, was removed before both
 //! began, so that nothing older is trusted), and works on copies of it, in memory where it has room. Each crate is first checked as it stands, and must be proved: else a refusal would show nothing. Edits of the
-//! bodies of different functions are then tried together; an edit of anything else, or one whose error others hide, is tried
-//! alone. An edit is refused where each function that it changes has an error of its own: not one that follows from
+//! bodies of different functions are then tried together, in the part of the crate that these functions stand on; an edit of
+//! anything else, or one whose error others hide, is tried alone. An edit is refused where each function that it changes has an error of its own: not one that follows from
 //! another's, and none for the shape of the code. The whole logs are left in target/wrong-builds/.
 
 mod board;
 mod edit;
+mod function;
 mod log;
 mod scratch;
 
-use std::collections::BTreeMap;
+use std::collections::{BTreeMap, BTreeSet};
 use std::fmt;
 use std::fs;
 use std::io;
@@ -28,6 +29,7 @@ use std::time::{Duration, Instant};
 
 use board::{Board, Task};
 use edit::{Edit, Sources, Target};
+use function::Part;
 use log::Log;
 use scratch::{Room, Scratch};
 
@@ -326,9 +328,22 @@ fn attempt(
         }
         other => other?,
     };
-    let log = scratch.check(&plan.name, &plan.sources, &changed).map_err(said)?;
+    let bodies: Option<Vec<_>> =
+        members.iter().map(|&member| plan.targets[member].bodies()).collect();
+    let Part { sources, below } = match bodies {
+        Some(bodies) => {
+            let names = bodies.into_iter().flatten().cloned().collect();
+            function::part(&plan.sources, &changed, &names)
+        }
+        None => Part { sources: changed, below: BTreeSet::new() },
+    };
+    let log = scratch.check(&plan.name, &plan.sources, &sources).map_err(said)?;
     for &member in members {
         keep(root, &plan.name, &plan.edits[member].0, &log).map_err(said)?;
+    }
+    if let Some(name) = below.iter().find(|name| !log.proves(&plan.name, name)) {
+        let why = format!("{name}, which is as it was, is not proved");
+        return Ok(members.iter().map(|_| Err(why.clone())).collect());
     }
     Ok(members.iter().map(|&member| log.refusal(&plan.name, &plan.targets[member])).collect())
 }

@@ -117,12 +117,15 @@ impl Scratch {
         Ok(())
     }
 
-    fn write(&self, name: &str, sources: &Sources) -> io::Result<()> {
-        for (file, text) in sources {
-            let path = self.home.join("crates").join(name).join(file);
-            if fs::read_to_string(&path)? != *text {
-                fs::write(path, text)?;
-            }
+    /// Makes the files of a crate be these and no others, and leaves those that are so already.
+    fn write(&self, name: &str, files: &Sources) -> io::Result<()> {
+        let home = self.home.join("crates").join(name);
+        let there = sources(&home)?;
+        for file in there.keys().filter(|file| !files.contains_key(*file)) {
+            fs::remove_file(home.join(file))?;
+        }
+        for (file, text) in files.iter().filter(|(file, text)| there.get(*file) != Some(text)) {
+            fs::write(home.join(file), text)?;
         }
         Ok(())
     }
