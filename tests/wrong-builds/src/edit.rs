@@ -3,6 +3,8 @@
 
 use std::collections::{BTreeMap, BTreeSet};
 
+use crate::function::{functions, path_of};
+
 /// The texts of a crate by their path in it, `src/lib.rt`.
 pub type Sources = BTreeMap<String, String>;
 
@@ -26,6 +28,15 @@ pub enum Target {
     Bodies(BTreeSet<String>),
     /// A definition, a contract, a type or a constant, which any function may rest on.
     Whole,
+}
+
+impl Target {
+    pub fn bodies(&self) -> Option<&BTreeSet<String>> {
+        match self {
+            Target::Bodies(names) => Some(names),
+            Target::Whole => None,
+        }
+    }
 }
 
 impl Edit {
@@ -74,31 +85,10 @@ impl Edit {
     }
 }
 
-/// The function whose body the place lies in. In the layout of `rt fmt` a head begins at the margin, a body begins where a
-/// line of the head that is no clause of a contract ends in `{`, and it ends with `}` at the margin.
+/// The function whose body the place lies in.
 fn body_at(file: &str, text: &str, at: usize) -> Option<String> {
-    let module = file.strip_prefix("src/")?.strip_suffix(".rt")?;
-    let (mut name, mut inside) = (None, false);
-    for line in text[..at].lines() {
-        let words = line.trim();
-        let margin = !line.starts_with([' ', '/']);
-        if margin && words == "}" {
-            (name, inside) = (None, false);
-        } else if let (true, Some((_, head))) = (margin, line.split_once("fn ")) {
-            name = head.split(|c: char| !c.is_alphanumeric() && c != '_').next();
-            inside = words.ends_with('{');
-        } else if words.ends_with('{')
-            && !words.starts_with("requires")
-            && !words.starts_with("ensures")
-        {
-            inside = name.is_some();
-        }
-    }
-    let name = name.filter(|_| inside)?;
-    Some(match module {
-        "lib" | "main" => name.to_string(),
-        _ => format!("{}::{name}", module.replace('/', "::")),
-    })
+    let found = functions(text).into_iter().find(|function| function.body.contains(&at))?;
+    path_of(file, found.name)
 }
 
 /// Which edits can be tried together: those that change the bodies of different functions.
