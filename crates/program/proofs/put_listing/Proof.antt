@@ -7,6 +7,9 @@ use Rattle.program.proofs.Held.{shown}
 use Rattle.program.proofs.put_listing.Statement.{statement}
 use Rattle.program.proofs.put_listing.Tie as tie
 
+explore-requires : tie.Need-explore-requires
+explore-requires c κs = search needs
+
 returns : tie.Need-returns
 returns c =
     let s = c .before .before .before .before .before .before .before .before .before .before .before .before in
@@ -20,7 +23,7 @@ put-listing-spec =
     (tie.spec
     (λ c. search needs)
     (λ c. search needs)
-    (λ c κs. search needs)
+    explore-requires
     (λ c. search needs)
     (λ c. search needs)
     (λ c κs. search needs)
