@@ -13,6 +13,10 @@ use Rattle.semantics.specs.Encoding.{count}
 use Rattle.semantics.specs.Outcomes.{Outcome}
 use Rattle.calls.specs.declared.Called.{Called}
 
+-- the answer, and the record as a call leaves it
+abbrev pub Answers : Answer → Analysis → Called → Type 0
+Answers x a r = (r .answer ≡ x) × (r .analysis ≡ a)
+
 -- "determines, from the values at entry alone, the answer and every lent word at exit": these are the outcome's
 -- answer, record, table and waitlist
 pub record Ends (o : Outcome) (r : Answer) (a : Analysis) (t l : List ℤ) : Type 0 where

@@ -14,13 +14,33 @@ ghost use Rattle.semantics.specs.Memory.{width, load};
 ghost use Rattle.checks.specs.Form.{lent, InForm};
 ghost use Rattle.analysis.specs.Loaded.{domain-of, Loaded};
 ghost use Rattle.transfer.specs.Transfer.{initial-row};
-ghost use Rattle.calls.specs.Calls.{Begins, Ends, Ends-called};
-ghost use Rattle.semantics.specs.Outcomes.{refusal, size-of, form-of, put-in, started, resumed, start-cases, start-outcome, run-cases, run-outcome};
+ghost use Rattle.calls.specs.Calls.{Answers, Begins, Ends, Ends-called};
+ghost use Rattle.semantics.specs.Outcomes.{fine, refused-by, refusal, size-of, form-of, put-in, started, resumed, start-cases, start-outcome, run-cases, run-outcome};
 
 // What a call answers, and the record as it leaves it.
 pub struct Called {
     pub answer: Answer,
     pub analysis: Analysis,
+}
+
+// A refused call, which leaves the record as it was.
+fn refuse(number: u32, a: Analysis) -> Called
+    ensures { λ r. ⌜ Answers (refused-by number 0) a r ⌝ }
+{
+    Called {
+        answer: semantics::refused(number, 0),
+        analysis: a,
+    }
+}
+
+// A call that went through, and left the record so.
+fn go_through(a: Analysis) -> Called
+    ensures { λ r. ⌜ Answers (fine 0) a r ⌝ }
+{
+    Called {
+        answer: semantics::gone_through(0),
+        analysis: a,
+    }
 }
 
 // 11, 12, 20, 14: the first that refuses a start, or 0.
@@ -154,53 +174,13 @@ pub fn start(
 {
     let number = start_refusal(chart, settings, capacity, table.len(), list.len());
     if number != 0 {
-        return Called {
-            answer: semantics::refused(number, 0),
-            analysis: a,
-        };
+        return refuse(number, a);
     }
     let begun = start_through(chart, settings, capacity as u32, table, list);
-    Called {
-        answer: semantics::gone_through(0),
-        analysis: begun,
-    }
+    go_through(begun)
 }
 
-// A run with the record by value, and answered.
-fn advance(chart: &[i32], budget: i32, a: Analysis, table: &mut [i32], list: &mut [i32]) -> Called
-    ensures { λ r. ⌜ Ends-called (run-outcome (now (chart .entry)) budget (lent (now (table .entry)) (now (list .entry)) a)) r (now (table .exit)) (now (list .exit)) ⌝ }
-{
-    let number = run_refusal(chart, budget, a, table, list);
-    if number != 0 {
-        return Called {
-            answer: semantics::refused(number, 0),
-            analysis: a,
-        };
-    }
-    let played = run_through(chart, budget as u32, a, table, list);
-    Called {
-        answer: semantics::gone_through(0),
-        analysis: played,
-    }
-}
-
-// Plays iterations until a verdict, until the budget is spent, or until 60,000 were played. The record is advanced in
-// place.
-pub fn run(
-    chart: &[i32],
-    budget: i32,
-    a: &mut Analysis,
-    table: &mut [i32],
-    list: &mut [i32],
-) -> Answer
-    ensures { λ r. ⌜ Ends (run-outcome (now (chart .entry)) budget (lent (now (table .entry)) (now (list .entry)) (now (a .entry)))) r (now (a .exit)) (now (table .exit)) (now (list .exit)) ⌝ }
-{
-    let r = advance(chart, budget, *a, table, list);
-    *a = r.analysis;
-    r.answer
-}
-
-// The same for a caller that holds the record by value: it is put in a local, and lent.
+// Plays iterations until a verdict, until the budget is spent, or until 60,000 were played; the record by value.
 pub fn run_by_value(
     chart: &[i32],
     budget: i32,
@@ -210,7 +190,25 @@ pub fn run_by_value(
 ) -> Called
     ensures { λ r. ⌜ Ends-called (run-outcome (now (chart .entry)) budget (lent (now (table .entry)) (now (list .entry)) a)) r (now (table .exit)) (now (list .exit)) ⌝ }
 {
-    let mut analysis = a;
-    let answer = run(chart, budget, &mut analysis, table, list);
-    Called { answer, analysis }
+    let number = run_refusal(chart, budget, a, table, list);
+    if number != 0 {
+        return refuse(number, a);
+    }
+    let played = run_through(chart, budget as u32, a, table, list);
+    go_through(played)
+}
+
+// The same with the record lent, which is advanced in place.
+pub fn run(
+    chart: &[i32],
+    budget: i32,
+    a: &mut Analysis,
+    table: &mut [i32],
+    list: &mut [i32],
+) -> Answer
+    ensures { λ r. ⌜ Ends (run-outcome (now (chart .entry)) budget (lent (now (table .entry)) (now (list .entry)) (now (a .entry)))) r (now (a .exit)) (now (table .exit)) (now (list .exit)) ⌝ }
+{
+    let r = run_by_value(chart, budget, *a, table, list);
+    *a = r.analysis;
+    r.answer
 }

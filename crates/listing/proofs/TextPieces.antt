@@ -10,7 +10,7 @@ use borrow.Author.Tests.{eqb-true, eqb-false}
 use lib.Dec.{T, eqb, leb→le}
 use lib.IntN.{ℤ, pos, natAbs}
 use lib.ListN.{length, getD, set, take, drop, replicate, getD-replicate, length-set, length-replicate}
-use lib.Seq.{drop-cons, drop-drop, take-all, getD-set-same, getD-set-other}
+use lib.Seq.{drop-cons, drop-drop, getD-set-same, getD-set-other}
 use Rattle.semantics.specs.Lists.{some-of, each}
 use Rattle.semantics.specs.Text.{bytes, decimal, line-of}
 use Rattle.semantics.specs.Chart.{Chart}
@@ -19,9 +19,8 @@ use Rattle.semantics.specs.Memory.{Memory, width, state-in, states-in, load, an
 use Rattle.semantics.specs.Listing.{loc-text, mark, val-text, slot-text, slots-text, header-text, listing-text}
 use Rattle.semantics.specs.declared.Analysis.{Analysis}
 use Rattle.semantics.proofs.Reloaded.{form, states-count}
+use Rattle.state.specs.Rows.{location-in, values-of}
 use Rattle.checks.specs.Form.{lent}
-use Rattle.writer.specs.Writing.{Put}
-use Rattle.writer.proofs.Written.{written-long, put-none}
 use Rattle.listing.specs.Pieces.{tabbed, values-text, words-text, counts-text, marked}
 
 -- ---- lines
@@ -32,32 +31,19 @@ unfolding line-of
 line-end f [] g = refl
 line-end f (x ∷ gs) g = ap (λ (l : List ℕ). f ++ (9 ∷ l)) (line-end x gs g ∙ sym (append-assoc x (each tabbed gs) (tabbed g ++ (10 ∷ []))))
 
-three : (a b c x : List ℕ) → (a ++ (b ++ c)) ++ x ≡ a ++ (b ++ (c ++ x))
-three a b c x = append-assoc a (b ++ c) x ∙ ap (λ (l : List ℕ). a ++ l) (append-assoc b c x)
-
-four : (a b c d x : List ℕ) → (a ++ (b ++ (c ++ d))) ++ x ≡ a ++ (b ++ (c ++ (d ++ x)))
-four a b c d x = append-assoc a (b ++ (c ++ d)) x ∙ ap (λ (l : List ℕ). a ++ l) (three b c d x)
+flat : (f m s o v i u e x : List ℕ) → f ++ ((m ++ (s ++ (o ++ v))) ++ ((i ++ (u ++ e)) ++ x)) ≡ f ++ (m ++ (s ++ (o ++ (v ++ (i ++ (u ++ (e ++ x)))))))
+flat f m s o v i u e x = simp append-assoc
 
 seven : (f m s o v i u e : List ℕ)
     → f ++ ((tabbed m ++ (tabbed s ++ (tabbed o ++ tabbed v))) ++ ((tabbed i ++ (tabbed u ++ tabbed e)) ++ (10 ∷ []))) ≡ line-of f (m ∷ s ∷ o ∷ v ∷ i ∷ u ∷ e ∷ [])
 unfolding line-of
-seven f m s o v i u e =
-    ap (λ (l : List ℕ). f ++ l) (
-    ap (λ (l : List ℕ). (tabbed m ++ (tabbed s ++ (tabbed o ++ tabbed v))) ++ l) (three (tabbed i) (tabbed u) (tabbed e) (10 ∷ []))
-    ∙ four (tabbed m) (tabbed s) (tabbed o) (tabbed v) (tabbed i ++ (tabbed u ++ (tabbed e ++ (10 ∷ []))))
-    )
+seven f m s o v i u e = flat f (tabbed m) (tabbed s) (tabbed o) (tabbed v) (tabbed i) (tabbed u) (tabbed e) (10 ∷ [])
 
 pub header-is : (a : Analysis) → bytes "walk" ++ (words-text a ++ (counts-text a ++ (10 ∷ []))) ≡ header-text a
 unfolding words-text counts-text
 header-is a = seven _ _ _ _ _ _ _ _
 
 -- ---- the turns of the loops
-
--- before the first turn
-pub put-start : {at r : ℕ} {bs out out′ : List ℕ} → Put at bs out out′ r → Put r [] out′ out′ r
-put-start {at} {r} {bs} {out} {out′} p =
-    let l : length out′ ≡ length out = ap length (p .bytes) ∙ written-long at bs out in
-    put-none r out′ r (omega (arith, p .place)) (omega (arith, p .small, l))
 
 values-snoc : (vs : List ℤ) (i : ℕ) → i < length vs → values-text (take (suc i) vs) ≡ values-text (take i vs) ++ tabbed (val-text (val (getD vs i (pos 0))))
 unfolding values-text
@@ -71,13 +57,12 @@ pub values-turn : (vs : List ℤ) (i : ℕ) → i < length vs → values-text (t
 values-turn vs i h = rw add-one (values-snoc vs i h)
 
 -- a slot's line, by its location n and its mark b
-pub slot-is : (c : Chart) (s : ℕ) (row : List ℤ) (n : ℕ) (b : Bool) → 1 ≤ length row → n ≡ natAbs (getD row 0 (pos 0))
-    → decimal s ++ (tabbed (loc-text (c .locs) n) ++ (values-text (take (length row - 1) (drop 1 row)) ++ (tabbed (mark b) ++ (10 ∷ [])))) ≡ slot-text c s (state-in row) b
+pub slot-is : (c : Chart) (s : ℕ) (row : List ℤ) (n : ℕ) (b : Bool) → 1 ≤ length row → n ≡ location-in row
+    → decimal s ++ (tabbed (loc-text (c .locs) n) ++ (values-text (values-of row) ++ (tabbed (mark b) ++ (10 ∷ [])))) ≡ slot-text c s (state-in row) b
 unfolding line-of values-text
 slot-is c s [] n b h p = absurd (omega arith)
 slot-is c s (x ∷ xs) n b h p =
-    let r : take (length (x ∷ xs) - 1) xs ≡ xs = take-all (length (x ∷ xs) - 1) xs (omega arith) in
-    (λ j. decimal s ++ (tabbed (loc-text (c .locs) (p j)) ++ (values-text (r j) ++ (tabbed (mark b) ++ (10 ∷ [])))))
+    (λ j. decimal s ++ (tabbed (loc-text (c .locs) (p j)) ++ (values-text xs ++ (tabbed (mark b) ++ (10 ∷ [])))))
     ∙ ap (λ (l : List ℕ). decimal s ++ (9 ∷ l)) (sym (line-end (loc-text (c .locs) (natAbs x)) (map val-text (map val xs)) (mark b)))
 
 -- the lines of s slots from slot k on, and of one more

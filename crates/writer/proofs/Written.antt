@@ -1,9 +1,9 @@
 -- Writing goes on where it stopped; what fits is written whole. Assumes nothing.
 use mathlib.Core.Path.{_≡_, refl, sym, ap, subst, _∙_}
 use mathlib.Core.List.{List, [], _∷_, _++_}
-use Prim.Native.Nat.{ℕ, zero, suc, _+_, _≤_, _<_, min}
+use Prim.Native.Nat.{ℕ, zero, suc, _+_, _≤_, _<_}
 use native.Mathlib.Nat.{zero-add, suc-add}
-use native.Mathlib.Decide.{decLe}
+use native.Mathlib.Decide.{decLt}
 use native.Mathlib.Omega.{arith}
 use lib.ListN.{length, take, drop, set, length-append}
 use Rattle.writer.specs.Writing.{overwritten, written, limit, Put}
@@ -70,18 +70,19 @@ written-fits (suc at) bs (o ∷ os) h = rw suc-add (ap (λ (l : List ℕ). o ∷
 
 -- ---- `Put`, piece by piece
 
-pub put-none : (at : ℕ) (out : List ℕ) (r : ℕ) → r ≡ min at limit → length out ≤ limit → Put at [] out out r
-put-none at out r e s = record { bytes = sym (written-none at out); place = omega arith; small = s }
+-- before the first piece
+pub put-none : (at : ℕ) (out : List ℕ) → length out < limit → Put at [] out out at
+put-none at out s = record { bytes = sym (written-none at out); place = omega arith; small = s }
 
 pub put-then : {at r r′ : ℕ} {bs cs out out′ out″ : List ℕ} → Put at bs out out′ r → Put r cs out′ out″ r′ → Put at (bs ++ cs) out out″ r′
 put-then {at} {r} {r′} {bs} {cs} {out} {out′} {out″} p q =
     record {
-      bytes = q .bytes ∙ ap (written r cs) (p .bytes) ∙ same (decLe (at + length bs) limit) ∙ written-then at bs cs out;
+      bytes = q .bytes ∙ ap (written r cs) (p .bytes) ∙ same (decLt (at + length bs) limit) ∙ written-then at bs cs out;
       place = rw (length-append bs cs) (omega (arith, p .place, q .place));
       small = p .small;
     }
   where
-    same : Dec (at + length bs ≤ limit) → written r cs (written at bs out) ≡ written (at + length bs) cs (written at bs out)
+    same : Dec (at + length bs < limit) → written r cs (written at bs out) ≡ written (at + length bs) cs (written at bs out)
     same (yes h) = ap (λ (n : ℕ). written n cs (written at bs out)) (omega (arith, p .place))
     same (no h) =
         let l = written-long at bs out in

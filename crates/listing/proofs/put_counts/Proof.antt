@@ -7,7 +7,10 @@ use Rattle.listing.proofs.put_counts.Tie as tie
 
 returns : tie.Need-returns
 unfolding counts-text
-returns c = put-then (c .before .before .before .before .before .before .before .before .before .before .put-number .ensures) (put-then (c .before .before .before .before .before .before .put-number2 .ensures) (c .before .before .put-number3 .ensures))
+returns c =
+    let third = c .before .before in
+    let second = third .before .before .before .before in
+    put-then (second .before .before .before .before .put-number .ensures) (put-then (second .put-number2 .ensures) (third .put-number3 .ensures))
 
 pub put-counts-spec : {M : Type 1} → statement M
 put-counts-spec =

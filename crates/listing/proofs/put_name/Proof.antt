@@ -14,9 +14,8 @@ use mir.ValLaws.{toZ-ofZ}
 use Rattle.chart.specs.Encoded.{byte-of}
 use Rattle.chart.proofs.NameBytes.{names-are-bytes}
 use Rattle.writer.specs.Writing.{Put}
-use Rattle.writer.proofs.Written.{put-then, put-same}
+use Rattle.writer.proofs.Written.{put-none, put-then, put-same}
 use Rattle.listing.specs.Pieces.{tabbed}
-use Rattle.listing.proofs.TextPieces.{put-start}
 use Rattle.listing.proofs.put_name.Statement.{statement}
 use Rattle.listing.proofs.put_name.Tie as tie
 
@@ -27,31 +26,34 @@ abbrev μ-loop : tie.MeasureT-loop
 μ-loop out₀ at chart name place₀ i₀ out place i = length name - i
 
 loop-holds : tie.Need-loop-holds Inv-loop μ-loop
-loop-holds c = (omega arith, refl, put-start (c .before .before .put-byte .ensures))
+loop-holds c = (omega arith, refl, put-none _ _ (omega arith))
 
 -- the byte is the name's
 module _ (c : tie.After-name-byte Inv-loop μ-loop) where
+  abbrev turn : tie.At-loop Inv-loop μ-loop
+  turn = c .before .before .before
+
+  abbrev named : tie.After-name Inv-loop μ-loop
+  named = turn .before .before .before .before .before
+
   abbrev bytes : List ℕ
-  bytes = map natAbs (c .before .before .before .before .before .before .before .before .name .result .now)
+  bytes = map natAbs (named .name .result .now)
 
-  abbrev place : ℕ
-  place = c .before .before .before .loop .i
-
-  byte : c .name-byte .result ≡ getD bytes place 0
+  byte : c .name-byte .result ≡ getD bytes (turn .loop .i) 0
   byte =
-      let n = c .before .before .before .before .before .before .before .before .name in
-      let s = c .before .before .before .before .before .before .before .before .before .before in
+      let s = named .before .before in
       let w = rw (toZ-ofZ w32 _ (sfits-of (c .before .name-byte-arg .given))) at (c .name-byte .ensures) in
-      w ∙ ap byte-of (sym (List·getD-map natAbs (n .result .now) place (pos 0)))
-      ∙ rw (n .ensures) (names-are-bytes (s .args .chart .now) (s .pre) (s .args .l .0) place)
+      w ∙ ap byte-of (sym (List·getD-map natAbs (named .name .result .now) (turn .loop .i) (pos 0)))
+      ∙ rw (named .name .ensures) (names-are-bytes (s .args .chart .now) (s .pre) (s .args .l .0) (turn .loop .i))
 
 loop-again : tie.Need-loop-again Inv-loop μ-loop
 loop-again c =
-    let b = c .before .before .before .before in
-    let l = b .before .before .before .loop in (
+    let p = c .before .before in
+    let b = p .before .before in
+    let l = turn b .loop in (
       omega arith,
-      c .before .before .put-byte2 .kept .0 ∙ l .inv .1,
-      rw (add-one, take-suc (bytes b) (l .i) 0 (rw length-map (b .before .before .loop-test .taken)), ← byte b) (put-then (l .inv .2) (c .before .before .put-byte2 .ensures)),
+      p .put-byte2 .kept .0 ∙ l .inv .1,
+      rw (add-one, take-suc (bytes b) (l .i) 0 (rw length-map (b .before .before .loop-test .taken)), ← byte b) (put-then (l .inv .2) (p .put-byte2 .ensures)),
     )
 
 returns : tie.Need-returns Inv-loop μ-loop

@@ -1,5 +1,4 @@
--- `listing::put_values` meets its contract. The invariant: the values passed are written after what stood first.
--- Assumes nothing.
+-- `listing::put_values` meets its contract. The invariant: the values passed are written. Assumes nothing.
 use mathlib.Core.Path.{_≡_, refl, ap, _∙_}
 use Prim.Native.Nat.{_-_, _≤_}
 use native.Mathlib.Omega.{arith}
@@ -10,33 +9,34 @@ use lib.Seq.{take-all}
 use mir.Syntax.{w32}
 use mir.ValLaws.{toZ-ofZ}
 use Rattle.writer.specs.Writing.{Put}
-use Rattle.writer.proofs.Written.{put-then, put-same}
+use Rattle.writer.proofs.Written.{put-none, put-then, put-same}
 use Rattle.listing.specs.Pieces.{values-text}
-use Rattle.listing.proofs.TextPieces.{values-turn, put-start}
+use Rattle.listing.proofs.TextPieces.{values-turn}
 use Rattle.listing.proofs.put_values.Statement.{statement}
 use Rattle.listing.proofs.put_values.Tie as tie
 
 abbrev Inv-loop : tie.InvT-loop
-Inv-loop out₀ at values place₀ i₀ out place i = (i ≤ length values) × (length out ≡ length out₀) × Put place₀ (values-text (take i values)) out₀ out place
+Inv-loop out₀ at values place₀ i₀ out place i = (i ≤ length values) × (length out ≡ length out₀) × Put at (values-text (take i values)) out₀ out place
 
 abbrev μ-loop : tie.MeasureT-loop
 μ-loop out₀ at values place₀ i₀ out place i = length values - i
 
 loop-holds : tie.Need-loop-holds Inv-loop μ-loop
 unfolding values-text
-loop-holds c = (omega arith, refl, put-start (c .before .before .put-bytes .ensures))
+loop-holds c = (omega arith, refl, put-none _ _ (omega arith))
 
 loop-again : tie.Need-loop-again Inv-loop μ-loop
 loop-again c =
-    let t = c .before .before .before .before .before in
-    let vs = now (t .before .before .before .before .before .before .before .before .args .values) in (
+    let p = c .before .before in
+    let w = p .before .before in
+    let l = w .before .before in (
       omega arith,
-      c .before .before .put-value .kept .0 ∙ t .before .loop .inv .1,
-      rw (values-turn vs (t .before .loop .i) (t .loop-test .taken)) (put-then (t .before .loop .inv .2) (rw (toZ-ofZ w32 _ (sfits-of (c .before .before .before .before .w .given))) at (c .before .before .put-value .ensures))),
+      p .put-value .kept .0 ∙ l .loop .inv .1,
+      rw (values-turn (l .before .before .args .values .now) (l .loop .i) (w .before .loop-test .taken)) (put-then (l .loop .inv .2) (rw (toZ-ofZ w32 _ (sfits-of (w .w .given))) at (p .put-value .ensures))),
     )
 
 returns : tie.Need-returns Inv-loop μ-loop
-returns c = put-same (ap values-text (take-all _ _ (c .loop-test .left))) (put-then (c .before .before .before .before .put-bytes .ensures) (c .before .loop .inv .2))
+returns c = put-same (ap values-text (take-all _ _ (c .loop-test .left))) (c .before .loop .inv .2)
 
 pub put-values-spec : {M : Type 1} → statement M
 put-values-spec =
@@ -44,8 +44,6 @@ put-values-spec =
     (tie.spec
     Inv-loop
     μ-loop
-    (λ c. search needs)
-    (λ c κs. search needs)
     loop-holds
     (λ c. search needs)
     (λ c. search needs)

@@ -4,7 +4,7 @@ use denote.Ref.{now}
 use mir.Syntax.{w32}
 use mir.ValLaws.{toZ-ofZ}
 use Rattle.checks.specs.Form.{lent}
-use Rattle.program.proofs.Held.{begun}
+use Rattle.program.proofs.GoThrough.{begun}
 use Rattle.program.proofs.begin.Statement.{statement}
 use Rattle.program.proofs.begin.Tie as tie
 

@@ -4,7 +4,7 @@ use borrow.Author.Needs.{needs, sfits-of}
 use denote.Ref.{now}
 use mir.Syntax.{w32}
 use mir.ValLaws.{toZ-ofZ}
-use Rattle.program.proofs.Held.{stays, ran}
+use Rattle.program.proofs.GoThrough.{stays, ran}
 use Rattle.program.proofs.explore.Statement.{statement}
 use Rattle.program.proofs.explore.Tie as tie
 

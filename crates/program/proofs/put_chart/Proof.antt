@@ -9,7 +9,7 @@ use Rattle.semantics.specs.Reading.{read}
 use Rattle.semantics.specs.Program.{print-read}
 use Rattle.semantics.proofs.Input.{go-fine}
 use Rattle.semantics.proofs.OutputShort.{read-short}
-use Rattle.program.specs.Responded.{asking}
+use Rattle.program.specs.Asked.{asking}
 use Rattle.program.proofs.Charted.{read-refused, read-accepted, put-printed}
 use Rattle.program.proofs.put_chart.Statement.{statement}
 use Rattle.program.proofs.put_chart.Tie as tie

@@ -3,7 +3,7 @@ use mathlib.Core.Path.{ap}
 use borrow.Author.Needs.{needs}
 use denote.Ref.{now}
 use Rattle.semantics.specs.declared.Answer.{Answer}
-use Rattle.program.proofs.Held.{shown}
+use Rattle.program.proofs.GoThrough.{shown}
 use Rattle.program.proofs.put_listing.Statement.{statement}
 use Rattle.program.proofs.put_listing.Tie as tie
 

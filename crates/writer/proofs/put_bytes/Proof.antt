@@ -19,13 +19,13 @@ abbrev μ-loop : tie.MeasureT-loop
 μ-loop out₀ at s place₀ i₀ out place i = length s - i
 
 loop-holds : tie.Need-loop-holds Inv-loop μ-loop
-loop-holds c = (omega arith, refl, put-none _ _ _ (c .cut .ensures) (omega arith))
+loop-holds c = (omega arith, refl, put-none _ _ (omega arith))
 
 loop-again : tie.Need-loop-again Inv-loop μ-loop
 loop-again c =
     let p = c .before .before .put-byte in
     let t = c .before .before .before .before .before in
-    let s = now (t .before .before .before .before .before .args .s) in (
+    let s = now (t .before .before .before .before .args .s) in (
       omega arith,
       p .kept .0 ∙ t .before .loop .inv .1,
       rw (add-one, take-suc s (t .before .loop .i) 0 (t .loop-test .taken)) (put-then (t .before .loop .inv .2) (p .ensures)),
@@ -40,7 +40,6 @@ put-bytes-spec =
     (tie.spec
     Inv-loop
     μ-loop
-    (λ c κs. search needs)
     loop-holds
     (λ c. search needs)
     (λ c κs. search needs)

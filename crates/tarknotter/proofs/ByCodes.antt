@@ -6,7 +6,7 @@ use Prim.Native.Nat.{ℕ}
 use lib.IntN.{ℤ}
 use Rattle.semantics.specs.Memory.{Memory}
 use Rattle.semantics.specs.Outcomes.{Outcome, case, refusal, refused-by, settled, start-outcome}
-use Rattle.calls.specs.declared.Called as walker
+use Rattle.calls.specs.declared.Called as calls
 use Rattle.calls.specs.Calls.{Ends-called}
 use Rattle.tarknotter.specs.declared.Record.{Record}
 use Rattle.tarknotter.specs.declared.Called.{Called}
@@ -15,9 +15,9 @@ use Rattle.tarknotter.specs.Records.{settings-in, settings-named}
 use Rattle.tarknotter.specs.Calls.{start-by-codes, record-after, Ends-by-codes}
 
 -- what a call answers, with the record before where it refuses
-pub left : {o : Outcome} {before : Record} {w : walker.Called} {r : Called} {t l : List ℤ} → Ends-called o w t l → (r .reply ≡ as-reply (w .answer)) × (r .record ≡ record-after before (w .answer) (w .analysis)) →
+pub by-codes : {o : Outcome} {before : Record} {w : calls.Called} {r : Called} {t l : List ℤ} → Ends-called o w t l → (r .reply ≡ as-reply (w .answer)) × (r .record ≡ record-after before (w .answer) (w .analysis)) →
     Ends-by-codes o before r t l
-left {before = before} e h =
+by-codes {before = before} e h =
     record { reply = h .0 ∙ ap as-reply (e .answer); after = h .1 ∙ (λ j. record-after before (e .answer j) (e .analysis j)); table = e .table; waitlist = e .waitlist }
 
 module _ (ws : List ℤ) (merge stop order : ℕ) (r : ℤ) (m : Memory) where

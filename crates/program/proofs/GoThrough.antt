@@ -1,4 +1,4 @@
--- The start, the run and the listing go through, and the memory holds what was explored. Assumes nothing.
+-- The start, the run and the listing go through, and the memory is what was explored. Assumes nothing.
 use mathlib.Core.Path.{_≡_, sym, ap, _∙_}
 use mathlib.Core.Bool.{true, false}
 use mathlib.Core.List.{List}
@@ -24,7 +24,8 @@ use Rattle.checks.specs.Form.{lent}
 use Rattle.calls.specs.declared.Called.{Called}
 use Rattle.calls.specs.Calls.{Ends-called}
 use Rattle.program.specs.declared.go_line.Go.{Go}
-use Rattle.program.specs.Responded.{asking, Accepted, Holds, Printed}
+use Rattle.program.specs.Asked.{asking}
+use Rattle.program.specs.Responded.{Accepted, PutIn, Printed}
 
 -- what a call leaves, by the outcome that it has
 ends-at : {o : Outcome} {r : Called} {t l : List ℤ} → Ends-called o r t l → (m : Memory) → o .memory ≡ m → lent t l (r .analysis) ≡ m
@@ -47,18 +48,18 @@ module _ (words : List ℤ) (formed : T (well-formed words)) (go : Go) (asked : 
   first-good = started-good chart inside (go .settings) (go .capacity) (fine .capacity) (fine .modes)
 
   pub begun : (m : Memory) → length (m .table) ≡ 2304 → length (m .waitlist) ≡ 256 → {r : Called} {t l : List ℤ}
-      → Ends-called (start-outcome words (go .settings) (go .capacity) m) r t l → Holds chart first (lent t l (r .analysis))
+      → Ends-called (start-outcome words (go .settings) (go .capacity) m) r t l → PutIn chart first (lent t l (r .analysis))
   begun m a b e = record { over = m; table = a; list = b; same = ends-at e (put-in chart first m) (ap (λ (o : Outcome). o .memory) (start-goes words formed (asking go) fine m a b)) }
 
-  verdict : (m : Memory) → Holds chart first m → has-verdict (m .analysis .verdict) ≡ has-verdict (first .verdict)
+  verdict : (m : Memory) → PutIn chart first m → has-verdict (m .analysis .verdict) ≡ has-verdict (first .verdict)
   verdict m h = ap (λ (x : Memory). has-verdict (x .analysis .verdict)) (h .same)
 
   -- the start gave a verdict
-  pub stays : (m : Memory) → Holds chart first m → has-verdict (m .analysis .verdict) ≡ true → Holds chart (explored chart (asking go)) m
+  pub stays : (m : Memory) → PutIn chart first m → has-verdict (m .analysis .verdict) ≡ true → PutIn chart (explored chart (asking go)) m
   stays m h v = rw (sym (verdict m h) ∙ v) h
 
-  pub ran : (m : Memory) → Holds chart first m → has-verdict (m .analysis .verdict) ≡ false → {r : Called} {t l : List ℤ}
-      → Ends-called (run-outcome words (go .budget) m) r t l → Holds chart (explored chart (asking go)) (lent t l (r .analysis))
+  pub ran : (m : Memory) → PutIn chart first m → has-verdict (m .analysis .verdict) ≡ false → {r : Called} {t l : List ℤ}
+      → Ends-called (run-outcome words (go .budget) m) r t l → PutIn chart (explored chart (asking go)) (lent t l (r .analysis))
   ran m h p e =
       let v = sym (verdict m h) ∙ p in
       let o = run-goes words formed first first-good (h .over) (h .table) (h .list) (go .budget) (fine .budget) v (start-iterations chart inside (go .settings) (natAbs (go .capacity)) (initial chart)) in
@@ -69,7 +70,7 @@ module _ (words : List ℤ) (formed : T (well-formed words)) (go : Go) (asked : 
         same = ends-at e _ (ap (λ (x : Memory). run-outcome words (go .budget) x .memory) (h .same) ∙ ap (λ (x : Outcome). x .memory) o);
       })
 
-  pub shown : (m : Memory) → Holds chart (explored chart (asking go)) m → (space space′ : List ℕ) (r : ℕ) → length space ≡ 24576
+  pub shown : (m : Memory) → PutIn chart (explored chart (asking go)) m → (space space′ : List ℕ) (r : ℕ) → length space ≡ 24576
       → r ≡ listing-outcome words m space .answer .length → space′ ≡ listing-outcome words m space .space
       → Printed (listing-text chart (explored chart (asking go))) space space′ r
   shown m h space space′ r n p q =
