@@ -6,10 +6,11 @@ use mathlib.Core.List.{List, [], _∷_, map}
 use Prim.Native.Nat.{ℕ, suc, _<_}
 use native.Mathlib.Omega.{arith}
 use lib.Dec.{T}
-use lib.IntN.{ℤ, pos}
+use lib.IntN.{ℤ}
 use lib.ListN.{length, drop}
 use Rattle.semantics.specs.declared.Mode.{Mode}
 use Rattle.semantics.specs.declared.Mode.the-variants.{Sep, Join}
+use Rattle.semantics.specs.Layout.{top-word}
 use Rattle.semantics.specs.Chart.{eqZ}
 use Rattle.semantics.specs.Lists.{pick, some-of}
 use Rattle.semantics.specs.Algorithm.{wait, wait-all, changed, merged, of-place, leq-joined, stopped, allowed}
@@ -43,14 +44,14 @@ or-true false = refl
 word-new : (x y : ℤ) → word-leq x (word-join x y) ≡ true
 word-new x y = go (eqZ x y) refl
   where
-    go : (b : Bool) → eqZ x y ≡ b → word-leq x (pick b y (pos 32768)) ≡ true
-    go true e = rw e (or-true (eqZ y (pos 32768)))
+    go : (b : Bool) → eqZ x y ≡ b → word-leq x (pick b y top-word) ≡ true
+    go true e = rw e (or-true (eqZ y top-word))
     go false e = refl
 
 word-more : (x a b : ℤ) → word-leq x a ≡ true → word-leq x (word-join a b) ≡ true
 word-more x a b h = go (eqZ a b) refl
   where
-    go : (t : Bool) → eqZ a b ≡ t → word-leq x (pick t b (pos 32768)) ≡ true
+    go : (t : Bool) → eqZ a b ≡ t → word-leq x (pick t b top-word) ≡ true
     go true e = subst (λ (z : ℤ). word-leq x z ≡ true) (eqZ-true a b e) h
     go false e = refl
 

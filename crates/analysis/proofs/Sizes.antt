@@ -6,6 +6,7 @@ use native.Mathlib.Omega.{arith}
 use lib.Dec.{T}
 use lib.IntN.{ℤ}
 use lib.ListN.{length}
+use Rattle.semantics.specs.Layout.{index-limit}
 use Rattle.semantics.specs.Encoding.{decode, well-formed}
 use Rattle.semantics.specs.Memory.{width}
 use Rattle.semantics.proofs.Encoded.{well-formed-split}
@@ -17,7 +18,7 @@ module _ (ws : List ℤ) (ok : T (well-formed ws)) where
   pub narrow : width (decode ws) ≤ 9
   narrow = omega (arith, bounds (decode ws) (well-formed-split ws ok .1) .few-vars)
 
-  pub edges-near : edge-at ws (length (decode ws .edges)) < 4294967296
+  pub edges-near : edge-at ws (length (decode ws .edges)) < index-limit
   edges-near =
       let b = bounds (decode ws) (well-formed-split ws ok .1) in
       omega (arith, b .few-vars, b .few-locs, b .few-edges, vars-count ws, locs-count ws)

@@ -9,6 +9,7 @@ use lib.ListN.{length}
 use Rattle.semantics.specs.declared.EdgeId.{EdgeId}
 use Rattle.semantics.specs.declared.Verdict.{Verdict}
 use Rattle.semantics.specs.declared.Analysis.{Analysis}
+use Rattle.semantics.specs.Layout.{index-limit}
 use Rattle.semantics.specs.Algorithm.{Domain, Out, on, alarmed, full, halt, Exploration, finish, verdict-of}
 use Rattle.semantics.specs.Tidy.{Allowed, Tidy}
 use Rattle.state.specs.Rows.{rows-of, row-domain}
@@ -40,7 +41,7 @@ pub record Is-edge (c : List ℤ) (g : ℕ) (e : Edge) : Type 0 where
 -- leave a location
 pub record Edges-held (c : List ℤ) (g : Edge) (n : ℕ) (heads nexts : List ℕ) : Type 0 where
   pub first : Is-edge c 0 g
-  pub small : edge-at c n < 4294967296
+  pub small : edge-at c n < index-limit
   pub chained : Chained c 0 heads nexts
 
 -- how the edges ended, with rows and slots; n is the edge of an alarm

@@ -11,6 +11,7 @@ use transfer::Move;
 ghost use mathlib.Core.Path.{_≡_};
 ghost use Prim.Native.Nat.{ℕ, _+_, _-_, _*_, _<_, _≤_, min};
 ghost use lib.ListN.{length};
+ghost use Rattle.semantics.specs.Layout.{index-limit};
 ghost use Rattle.semantics.specs.Algorithm.{merged, rewait, arrive, visit, leave, first-verdict, iteration, run, start};
 ghost use Rattle.semantics.specs.Tidy.{Queue, Allowed};
 ghost use Rattle.state.specs.Rows.{rows-of};
@@ -127,7 +128,7 @@ fn visit(
     list: &mut [i32],
     waiting: usize,
 ) -> Progress
-    requires { ⌜ Kept (length (now copy)) capacity (now table) (now list) used waiting × Allowed settings × (length (now next) ≡ length (now copy)) × (edge .at < 4294967296) ⌝ }
+    requires { ⌜ Kept (length (now copy)) capacity (now table) (now list) used waiting × Allowed settings × (length (now next) ≡ length (now copy)) × (edge .at < index-limit) ⌝ }
     ensures { λ p. ⌜ Progressed (length (now (copy .entry))) capacity (now (table .exit)) (now (list .exit)) p (visit (domain-of (now (chart .entry))) settings capacity (edge .id .0) (post-at (now (chart .entry)) (edge .at) (now (copy .entry))) (rows-of (length (now (copy .entry))) used (now (table .entry))) (waits waiting (now (list .entry)))) ⌝ }
 {
     match transfer::successor(chart, edge, copy, next) {
@@ -213,7 +214,7 @@ fn verdict_of(waiting: usize) -> Verdict
 
 // The end of an iteration that took the slot.
 fn finish(a: Analysis, slot: SlotId, p: Progress, list: &mut [i32]) -> Analysis
-    requires { ⌜ Stored (now list) (p .waiting) (waits (p .waiting) (now list)) × (slot .0 < length (now list)) × (length (now list) < 65536) × Queue (length (now list)) (waits (p .waiting) (now list)) × (a .iterations < 60000) ⌝ }
+    requires { ⌜ Stored (now list) (p .waiting) (waits (p .waiting) (now list)) × (slot .0 < length (now list)) × (length (now list) < index-limit) × Queue (length (now list)) (waits (p .waiting) (now list)) × (a .iterations < 60000) ⌝ }
     ensures { λ r. ⌜ Finished a (slot .0) p (now (list .entry)) r (now (list .exit)) ⌝ }
 {
     let settings = a.settings;
@@ -384,7 +385,7 @@ pub fn run_core(
     table: &mut [i32],
     list: &mut [i32],
 ) -> Analysis
-    requires { ⌜ Held width edges a (now table) (now list) × (a .iterations ≤ 60000) × (width ≤ 9) × (edge-at (now chart) edges < 4294967296) ⌝ }
+    requires { ⌜ Held width edges a (now table) (now list) × (a .iterations ≤ 60000) × (width ≤ 9) × (edge-at (now chart) edges < index-limit) ⌝ }
     ensures { λ r. ⌜ Loaded width edges r (now (table .exit)) (now (list .exit)) (run (domain-of (now (chart .entry))) (edges-from 0 edges) (min budget (60000 - a .iterations)) (load-of width a (now (table .entry)) (now (list .entry)))) ⌝ }
 {
     let first = chart::first_edge(chart);
@@ -427,7 +428,7 @@ pub fn start_core(
     list: &mut [i32],
     row: &[i32],
 ) -> Analysis
-    requires { ⌜ (0 < length (now row)) × (0 < capacity) × (capacity < 65536) × (length (now table) ≡ capacity * length (now row)) × (length (now list) ≡ capacity) × Allowed settings ⌝ }
+    requires { ⌜ (0 < length (now row)) × (0 < capacity) × (capacity < index-limit) × (length (now table) ≡ capacity * length (now row)) × (length (now list) ≡ capacity) × Allowed settings ⌝ }
     ensures { λ r. ⌜ ((last : ℕ) → Loaded (length (now (row .entry))) last r (now (table .exit)) (now (list .exit)) (start (domain-of (now (chart .entry))) settings capacity (now (row .entry)))) ⌝ }
 {
     words::fill_zero(table);

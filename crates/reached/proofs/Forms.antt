@@ -6,6 +6,7 @@ use native.Mathlib.Nat.{mul-le-mul-right}
 use native.Mathlib.Omega.{arith}
 use lib.IntN.{ℤ, pos}
 use lib.ListN.{length, drop, replicate}
+use Rattle.semantics.specs.Layout.{index-limit}
 use Rattle.semantics.specs.Tidy.{Queue}
 use Rattle.semantics.proofs.Tidy.{more, join-queue}
 use Rattle.words.proofs.Rows.{row-in, length-put}
@@ -15,7 +16,7 @@ use Rattle.reached.specs.Reached.{Kept}
 use Rattle.reached.proofs.Table.{rest-stored, stored}
 
 -- nothing in use yet
-pub empty-kept : (w r : ℕ) (t l : List ℤ) → 0 < w → r < 65536 → length t ≡ r * w → length l ≡ r → t ≡ replicate (length t) (pos 0)
+pub empty-kept : (w r : ℕ) (t l : List ℤ) → 0 < w → r < index-limit → length t ≡ r * w → length l ≡ r → t ≡ replicate (length t) (pos 0)
     → l ≡ replicate (length l) (pos 0) → Kept w r t l 0 0
 empty-kept w r t l n s lt ll zt zl =
     let z : 0 * w ≡ 0 = omega arith in

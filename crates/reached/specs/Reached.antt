@@ -5,6 +5,7 @@ use mathlib.Core.List.{List, [], _∷_}
 use Prim.Native.Nat.{ℕ, suc, _-_, _*_, _≤_, _<_}
 use lib.IntN.{ℤ, pos}
 use lib.ListN.{length, drop, replicate}
+use Rattle.semantics.specs.Layout.{index-limit}
 use Rattle.semantics.specs.Tidy.{Queue}
 use Rattle.state.specs.Rows.{same-words, row-merge}
 use Rattle.waitlist.specs.Waits.{waits, Stored, wait-unless}
@@ -18,7 +19,7 @@ rewaits e i (x ∷ xs) wa = rewaits e (suc i) xs (wait-unless (same-words (row-m
 pub record Kept (w r : ℕ) (t l : List ℤ) (used waiting : ℕ) : Type 0 where
   pub wide : 0 < w
   pub capacity : used ≤ r
-  pub small : r < 65536
+  pub small : r < index-limit
   pub table : length t ≡ r * w
   pub list : length l ≡ r
   pub rest : drop (used * w) t ≡ replicate (length t - used * w) (pos 0)

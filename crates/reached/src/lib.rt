@@ -6,6 +6,7 @@ ghost use mathlib.Core.List.{_++_};
 ghost use Prim.Native.Nat.{_+_, _*_, _<_, _≤_};
 ghost use lib.ListN.{length, take, drop};
 ghost use Rattle.semantics.specs.Lists.{some-of};
+ghost use Rattle.semantics.specs.Layout.{index-limit};
 ghost use Rattle.semantics.specs.Tidy.{Queue};
 ghost use Rattle.state.specs.Rows.{row-leq, rows-merge, rows-of};
 ghost use Rattle.waitlist.specs.Waits.{waits, Stored};
@@ -20,7 +21,7 @@ pub fn merge_slots(
     waiting: usize,
 ) -> usize
     requires { ⌜ (0 < length (now e)) × (used * length (now e) ≤ length (now table)) ⌝ }
-    requires { ⌜ Stored (now list) waiting (waits waiting (now list)) × Queue used (waits waiting (now list)) × (used ≤ length (now list)) × (length (now list) < 65536) ⌝ }
+    requires { ⌜ Stored (now list) waiting (waits waiting (now list)) × Queue used (waits waiting (now list)) × (used ≤ length (now list)) × (length (now list) < index-limit) ⌝ }
     ensures { λ r. ⌜ (now (table .exit) ≡ rows-merge (now (e .entry)) (length (now (e .entry))) used (now (table .entry))) × Stored (now (list .exit)) r (rewaits (now (e .entry)) 0 (rows-of (length (now (e .entry))) used (now (table .entry))) (waits waiting (now (list .entry)))) ⌝ }
 {
     let w = e.len();

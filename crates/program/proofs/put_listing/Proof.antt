@@ -7,6 +7,9 @@ use Rattle.program.proofs.GoThrough.{shown}
 use Rattle.program.proofs.put_listing.Statement.{statement}
 use Rattle.program.proofs.put_listing.Tie as tie
 
+explore-requires : tie.Need-explore-requires
+explore-requires c κs = search needs
+
 returns : tie.Need-returns
 returns c =
     let k = c .before .before in
@@ -18,4 +21,4 @@ returns c =
 pub put-listing-spec : {M : Type 1} → statement M
 put-listing-spec =
     tie.close
-    (tie.spec (λ c. search needs) (λ c. search needs) (λ c κs. search needs) (λ c. search needs) (λ c. search needs) (λ c κs. search needs) (λ c. search needs) returns)
+    (tie.spec (λ c. search needs) (λ c. search needs) explore-requires (λ c. search needs) (λ c. search needs) (λ c κs. search needs) (λ c. search needs) returns)

@@ -1,17 +1,15 @@
--- `walk::read_all` meets its contract, and ends: the bytes that are left become fewer. Assumes nothing.
+-- `streams::read_all` meets its contract, and ends: the bytes that are left become fewer. Assumes nothing.
 use mathlib.Core.Path.{_≡_, refl, _∙_}
-use Prim.Native.Nat.{_+_, _-_, _≤_, _<_}
+use Prim.Native.Nat.{_-_, _≤_}
 use native.Mathlib.Omega.{arith}
 use borrow.Author.Needs.{needs, sfits-of}
 use borrow.Rule.Slice.PartMut.{putMid, same-len-mid}
-use lib.IntN.{natAbs}
 use lib.ListN.{length}
 use mir.Syntax.{w64}
 use mir.Val.{toZ, ofZ}
-use mir.ValLaws.{toZ-ofZ}
-use Rattle.walk.proofs.Answers.{Onward, onward, stopped, all-moved}
-use Rattle.walk.proofs.read_all.Statement.{statement}
-use Rattle.walk.proofs.read_all.Tie as tie
+use Rattle.streams.proofs.Answers.{Onward, onward, stopped, all-moved}
+use Rattle.streams.proofs.read_all.Statement.{statement}
+use Rattle.streams.proofs.read_all.Tie as tie
 
 abbrev Inv-loop : tie.InvT-loop
 Inv-loop buf₀ count₀ last₀ buf count last = (length buf ≡ length buf₀) × (count ≤ length buf₀)
@@ -22,37 +20,22 @@ abbrev μ-loop : tie.MeasureT-loop
 loop-holds : tie.Need-loop-holds Inv-loop μ-loop
 loop-holds c = (refl, omega arith)
 
-plain : (c : tie.After-slice-known2 Inv-loop μ-loop) → let z = c .before .before .read-some .result in toZ w64 (ofZ w64 z) ≡ z
-plain c = let r = c .before .before .read-some in toZ-ofZ w64 (r .result) (sfits-of {z = r .result} (r .ok))
-
 same : (c : tie.After-slice-known2 Inv-loop μ-loop)
     → let l = c .before .before .before .before .before .loop in length (putMid (l .count) (length (l .buf) - l .count) (l .buf) (c .before .before .read-some .last .0)) ≡ length (c .before .before .before .before .before .before .before .args .buf .now)
 same c = let l = c .before .before .before .before .before .loop in same-len-mid (l .count) (length (l .buf) - l .count) (l .buf) (c .before .before .read-some .last .0) (c .before .before .read-some .kept .0) ∙ l .inv .0
 
-turn : (c : tie.Else1 Inv-loop μ-loop) → Onward (c .before .before .before .before .before .before .loop .buf) (c .before .before .before .before .before .before .loop .count) (c .before .before .before .read-some .result)
+turn : (c : tie.Else1 Inv-loop μ-loop)
+    → Onward (c .before .before .before .before .before .before .loop .buf) (c .before .before .before .before .before .before .loop .count) (toZ w64 (ofZ w64 (c .before .before .before .read-some .result)))
 turn c =
     let l = c .before .before .before .before .before .before .loop in
     let r = c .before .before .before .read-some in
-    onward (l .buf) (l .count) (r .result) (sfits-of {z = r .result} (r .ok)) (omega (arith, l .inv .0, l .inv .1)) (rw (plain (c .before)) at (c .if1 .left)) (r .ensures)
-
-cast-count : tie.Need-cast-count Inv-loop μ-loop
-cast-count c = rw (plain (c .before)) (turn c .sign, turn c .fits)
-
-add-count : tie.Need-add-count Inv-loop μ-loop
-add-count c = rw (plain (c .before)) (record { fits = omega (arith, turn c .within) })
+    onward _ _ _ (sfits-of {z = r .result} (r .ok)) (omega (arith, l .inv .0, l .inv .1)) (c .if1 .left) (r .ensures)
 
 loop-less : tie.Need-loop-less Inv-loop μ-loop
-loop-less c =
-    let l = c .before .before .before .before .before .before .loop in
-    let size = length (c .before .before .before .before .before .before .before .before .args .buf .now) in
-    let less : size - (l .count + natAbs (toZ w64 (ofZ w64 (c .before .before .before .read-some .result)))) < size - l .count = rw (plain (c .before)) (omega (arith, turn c .some, turn c .within, l .inv .0)) in
-    less
+loop-less c = omega (arith, turn c .some, turn c .within, c .before .before .before .before .before .before .loop .inv .0)
 
 loop-again : tie.Need-loop-again Inv-loop μ-loop
-loop-again c =
-    let l = c .before .before .before .before .before .before .loop in
-    let within : l .count + natAbs (toZ w64 (ofZ w64 (c .before .before .before .read-some .result))) ≤ length (c .before .before .before .before .before .before .before .before .args .buf .now) = rw (plain (c .before)) (omega (arith, turn c .within, l .inv .0)) in
-    (same (c .before), within)
+loop-again c = (same (c .before), omega (arith, turn c .within, c .before .before .before .before .before .before .loop .inv .0))
 
 same-length : tie.Need-same-length Inv-loop μ-loop
 same-length c = c .before .loop .inv .0
@@ -76,8 +59,8 @@ read-all-spec =
     (λ c. search needs)
     (λ c. search needs)
     (λ c κs. search needs)
-    cast-count
-    add-count
+    (λ c. (turn c .sign, turn c .fits))
+    (λ c. record { fits = omega (arith, turn c .within) })
     loop-less
     loop-again
     same-length

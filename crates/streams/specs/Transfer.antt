@@ -2,7 +2,7 @@
 use mathlib.Core.Path.{_≡_}
 use Prim.Native.Nat.{ℕ, zero, suc, _≤_}
 use lib.IntN.{ℤ, pos, negsuc}
-use Rattle.walk.specs.declared.Transfer.{Transfer}
+use Rattle.streams.specs.declared.Transfer.{Transfer}
 
 -- the last call answered 0 or -1, or all of size bytes were moved
 abbrev pub Ends : ℕ → ℕ → ℤ → Type 0

@@ -10,9 +10,14 @@ use lib.ListN.{length, take, drop, length-drop}
 use lib.Seq.{length-take-le}
 use lib.Signed.{leZ, nonNeg}
 use mir.Syntax.{w64}
-use mir.Val.{Fits, SFits}
+use mir.Val.{Fits, SFits, toZ, ofZ}
+use mir.ValLaws.{toZ-ofZ}
 use Rattle.libc.specs.Io.{Moved}
-use Rattle.walk.specs.Transfer.{Ends}
+use Rattle.streams.specs.Transfer.{Ends}
+
+-- what a call answered for n bytes still holds of a local that was given the answer
+pub answered : {n m : ℕ} {z : ℤ} → SFits w64 z → n ≡ m → Moved n z → Moved m (toZ w64 (ofZ w64 z))
+answered {z = z} f e h = rw (toZ-ofZ w64 z f, sym e) h
 
 -- the call moved some bytes, and the count goes up within the bytes
 pub record Onward (xs : List ℕ) (a : ℕ) (z : ℤ) : Type 0 where
@@ -21,11 +26,15 @@ pub record Onward (xs : List ℕ) (a : ℕ) (z : ℤ) : Type 0 where
   pub some : 0 < natAbs z
   pub within : a + natAbs z ≤ length xs
 
-pub onward : (xs : List ℕ) (a : ℕ) (z : ℤ) → SFits w64 z → a ≤ length xs → leZ z (pos 0) ≡ false → Moved (length (take (length xs - a) (drop a xs))) z → Onward xs a z
-onward xs a (pos zero) f h e m = absurd (subst T e tt)
-onward xs a (pos (suc n)) f h e m =
+onward-by : (xs : List ℕ) (a : ℕ) (z : ℤ) → SFits w64 z → a ≤ length xs → leZ z (pos 0) ≡ false → Moved (length (take (length xs - a) (drop a xs))) z → Onward xs a z
+onward-by xs a (pos zero) f h e m = absurd (subst T e tt)
+onward-by xs a (pos (suc n)) f h e m =
     record { sign = tt; fits = record { fits = omega (arith, f .sfits) }; some = omega arith; within = omega (arith, h, m, length-take-le (length xs - a) (drop a xs) (omega (arith, length-drop a xs))) }
-onward xs a (negsuc n) f h e m = absurd (subst T e tt)
+onward-by xs a (negsuc n) f h e m = absurd (subst T e tt)
+
+-- of the local that the loop looks at
+pub onward : (xs : List ℕ) (a : ℕ) (z : ℤ) → SFits w64 z → a ≤ length xs → leZ (toZ w64 (ofZ w64 z)) (pos 0) ≡ false → Moved (length (take (length xs - a) (drop a xs))) z → Onward xs a (toZ w64 (ofZ w64 z))
+onward xs a z f h e m = rw (toZ-ofZ w64 z f) (onward-by xs a z f h (rw (toZ-ofZ w64 z f) at e) m)
 
 pub stopped : (size count : ℕ) (z : ℤ) → leZ z (pos 0) ≡ true → Ends size count z
 stopped size count (pos zero) e = tt
