@@ -7,7 +7,7 @@ use Prim.Native.Nat.{ℕ, suc, _<_}
 use native.Mathlib.Omega.{arith}
 use lib.Dec.{T}
 use lib.IntN.{ℤ}
-use lib.ListN.{length, drop}
+use lib.ListN.{length}
 use Rattle.semantics.specs.declared.Mode.{Mode}
 use Rattle.semantics.specs.declared.Mode.the-variants.{Sep, Join}
 use Rattle.semantics.specs.Layout.{top-word}
@@ -17,7 +17,7 @@ use Rattle.semantics.specs.Algorithm.{wait, wait-all, changed, merged, of-place
 use Rattle.semantics.specs.Tidy.{Every}
 use Rattle.semantics.proofs.Values.{left-true, right-true}
 use Rattle.words.proofs.Words.{eqZ-true}
-use Rattle.state.specs.Rows.{word-leq, word-join, words-leq, words-join, same-words, same-place, row-leq, row-join, row-merge, join-of}
+use Rattle.state.specs.Rows.{values-of, word-leq, word-join, words-leq, words-join, same-words, same-place, row-leq, row-join, row-merge, join-of}
 use Rattle.state.proofs.RowLoops.{length-words-join}
 use Rattle.waitlist.specs.Waits.{wait-unless}
 use Rattle.reached.specs.Reached.{rewaits}
@@ -123,7 +123,7 @@ join-some e (x ∷ xs) n z = go (same-place e x) refl (join-some e xs n (z .1)) 
         rw (g .place) (under-join e (row-join e x) (of-place rows-only e (map (row-merge e) xs)) n g above
         ∙ sym (some-by e (row-join e x) (map (row-merge e) xs) true (g .under)))
     go false p ih above =
-        let u : row-leq e x ≡ false = ap (λ (b : Bool). b && words-leq (drop 1 e) (drop 1 x)) p in
+        let u : row-leq e x ≡ false = ap (λ (b : Bool). b && words-leq (values-of e) (values-of x)) p in
         rw p (ih ∙ sym (some-by e x (map (row-merge e) xs) false u))
 
 pub stop-same : (m s : Mode) (e : List ℤ) (en : List (List ℤ)) → T (allowed m s) → 0 < length e → Sized (length e) en

@@ -12,10 +12,11 @@ use Rattle.semantics.specs.Memory.{width}
 use Rattle.semantics.proofs.Encoded.{well-formed-split}
 use Rattle.semantics.proofs.StatesOk.{bounds}
 use Rattle.semantics.proofs.Decoded.{vars-count, locs-count}
+use Rattle.state.specs.Rows.{most-width}
 use Rattle.transfer.specs.Transfer.{edge-at}
 
 module _ (ws : List ℤ) (ok : T (well-formed ws)) where
-  pub narrow : width (decode ws) ≤ 9
+  pub narrow : width (decode ws) ≤ most-width
   narrow = omega (arith, bounds (decode ws) (well-formed-split ws ok .1) .few-vars)
 
   pub edges-near : edge-at ws (length (decode ws .edges)) < index-limit

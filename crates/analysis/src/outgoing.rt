@@ -51,14 +51,14 @@ pub fn chain(chart: &[i32], edges: usize, heads: &mut [usize], nexts: &mut [usiz
 }
 
 // The first edge to look at, for a location.
-pub fn first_leaving(heads: &[usize], l: LocationId) -> EdgeId
+pub fn first(heads: &[usize], l: LocationId) -> EdgeId
     ensures { λ r. ⌜ r .0 ≡ max 1 (getD (now (heads .entry)) (l .0) 0) ⌝ }
 {
     semantics::later_edge(EdgeId(1), EdgeId(number_at(heads, l.0)))
 }
 
 // The edge to look at next. The chain of this one serves if it leaves the location.
-pub fn next_leaving(chart: &[i32], edge: Edge, nexts: &[usize], l: LocationId) -> EdgeId
+pub fn next(chart: &[i32], edge: Edge, nexts: &[usize], l: LocationId) -> EdgeId
     requires { ⌜ Passed (now chart) (from-at (now chart) (edge .id .0 - 1)) (edge .id .0) (getD (now nexts) (edge .id .0 - 1) 0 - 1) × (edge .at ≡ edge-at (now chart) (edge .id .0 - 1)) × (1 ≤ edge .id .0) × (edge .id .0 < index-limit) ⌝ }
     ensures { λ r. ⌜ (edge .id .0 < r .0) × Passed (now (chart .entry)) (l .0) (edge .id .0) (r .0 - 1) ⌝ }
 {

@@ -2,6 +2,7 @@
 use semantics::Analysis;
 use semantics::Answer;
 use semantics::Settings;
+use state::Layout;
 ghost use mathlib.Core.Path.{_≡_};
 ghost use Prim.Native.Nat.{ℕ, _*_, _≤_};
 ghost use lib.Dec.{T};
@@ -11,6 +12,7 @@ ghost use Rattle.semantics.specs.declared.Analysis.{Analysis};
 ghost use Rattle.semantics.specs.Algorithm.{start, allowed};
 ghost use Rattle.semantics.specs.Encoding.{decode, well-formed};
 ghost use Rattle.semantics.specs.Memory.{width, load};
+ghost use Rattle.state.specs.Rows.{width-of, most-width};
 ghost use Rattle.checks.specs.Form.{lent, InForm};
 ghost use Rattle.analysis.specs.Loaded.{domain-of, Loaded};
 ghost use Rattle.transfer.specs.Transfer.{initial-row};
@@ -82,33 +84,43 @@ fn run_refusal(chart: &[i32], budget: i32, a: Analysis, table: &[i32], list: &[i
 // The initial state's row is made in the row lent, and put into slot 0.
 fn begin_with(
     chart: &[i32],
+    layout: Layout,
     settings: Settings,
     capacity: u32,
     table: &mut [i32],
     list: &mut [i32],
     row: &mut [i32],
 ) -> Analysis
-    requires { ⌜ Begins (now chart) settings capacity (length (now row)) (now table) (now list) ⌝ }
-    ensures { λ r. ⌜ ((last : ℕ) → Loaded (length (now (row .entry))) last r (now (table .exit)) (now (list .exit)) (start (domain-of (now (chart .entry))) settings capacity (initial-row (now (chart .entry))))) ⌝ }
+    requires { ⌜ Begins (now chart) layout settings capacity (now table) (now list) × (length (now row) ≡ width-of layout) ⌝ }
+    ensures { λ r. ⌜ ((last : ℕ) → Loaded layout last r (now (table .exit)) (now (list .exit)) (start (domain-of (now (chart .entry))) settings capacity (initial-row (now (chart .entry))))) ⌝ }
 {
     transfer::initial(chart, row);
-    analysis::start_core(chart, settings, capacity, table, list, row)
+    analysis::start_core(chart, layout, settings, capacity, table, list, row)
 }
 
 // An analysis in the words of its capacity.
 fn begin(
     chart: &[i32],
+    layout: Layout,
     settings: Settings,
     capacity: u32,
-    width: usize,
     table: &mut [i32],
     list: &mut [i32],
 ) -> Analysis
-    requires { ⌜ Begins (now chart) settings capacity width (now table) (now list) × (width ≤ 9) ⌝ }
-    ensures { λ r. ⌜ ((last : ℕ) → Loaded width last r (now (table .exit)) (now (list .exit)) (start (domain-of (now (chart .entry))) settings capacity (initial-row (now (chart .entry))))) ⌝ }
+    requires { ⌜ Begins (now chart) layout settings capacity (now table) (now list) × (width-of layout ≤ most-width) ⌝ }
+    ensures { λ r. ⌜ ((last : ℕ) → Loaded layout last r (now (table .exit)) (now (list .exit)) (start (domain-of (now (chart .entry))) settings capacity (initial-row (now (chart .entry))))) ⌝ }
 {
+    let width = layout.width();
     let mut row = [0i32; semantics::MOST_WIDTH];
-    begin_with(chart, settings, capacity, table, list, &mut row[..width])
+    begin_with(
+        chart,
+        layout,
+        settings,
+        capacity,
+        table,
+        list,
+        &mut row[..width],
+    )
 }
 
 // A start that no refusal stopped.
@@ -122,14 +134,14 @@ fn start_through(
     requires { ⌜ T (well-formed (now chart)) × T (allowed (settings .merge) (settings .stop)) × (1 ≤ capacity) × (capacity ≤ 256) × (capacity * width (decode (now chart)) ≤ length (now table)) × (capacity ≤ length (now list)) ⌝ }
     ensures { λ r. ⌜ ((a : Analysis) → put-in (decode (now (chart .entry))) (started (decode (now (chart .entry))) settings (pos capacity)) (lent (now (table .entry)) (now (list .entry)) a) ≡ lent (now (table .exit)) (now (list .exit)) r) ⌝ }
 {
-    let width = chart::width(chart);
+    let layout = state::layout_of(chart);
     let slots = capacity as usize;
-    let size = slots * width;
+    let size = slots * layout.stride;
     begin(
         chart,
+        layout,
         settings,
         capacity,
-        width,
         &mut table[..size],
         &mut list[..slots],
     )
@@ -146,14 +158,14 @@ fn run_through(
     requires { ⌜ InForm (now chart) (lent (now table) (now list) a) ⌝ }
     ensures { λ r. ⌜ put-in (decode (now (chart .entry))) (resumed (decode (now (chart .entry))) (pos budget) (load (decode (now (chart .entry))) (lent (now (table .entry)) (now (list .entry)) a))) (lent (now (table .entry)) (now (list .entry)) a) ≡ lent (now (table .exit)) (now (list .exit)) r ⌝ }
 {
-    let width = chart::width(chart);
+    let layout = state::layout_of(chart);
     let edges = chart::edge_count(chart);
     let slots = a.capacity as usize;
-    let size = slots * width;
+    let size = slots * layout.stride;
     analysis::run_core(
         chart,
         edges,
-        width,
+        layout,
         a,
         budget,
         &mut table[..size],

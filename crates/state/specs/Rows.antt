@@ -1,11 +1,12 @@
 -- One abstract state as a row of words, its location and then one word a variable: order, join and merge, with no
 -- word on the rows' form; rows of a table; and the rows as a domain of the algorithm. Assumes nothing.
+use mathlib.Core.Path.{_≡_}
 use mathlib.Core.Bool.{Bool, false, _&&_, _||_}
 use mathlib.Core.List.{List, [], _∷_, _++_}
-use Prim.Native.Nat.{ℕ, zero, suc, _+_, _*_}
+use Prim.Native.Nat.{ℕ, zero, suc, _+_, _*_, _≤_, _<_}
 use lib.Dec.{ltb}
 use lib.IntN.{ℤ, pos, natAbs}
-use lib.ListN.{take, drop, set}
+use lib.ListN.{length, take, drop, set}
 use Rattle.semantics.specs.Lists.{pick, all-pairs}
 use Rattle.semantics.specs.Chart.{eqZ}
 use Rattle.semantics.specs.Layout.{top-word}
@@ -26,6 +27,10 @@ value-size = 1
 -- the words of a state
 abbrev pub width-of : Layout → ℕ
 width-of l = l .head + l .value * l .variables
+
+-- the most words of a state, at 8 variables
+abbrev pub most-width : ℕ
+most-width = 9
 
 -- the tables of an encoded chart: slot follows slot
 abbrev pub layout-of : List ℤ → Layout
@@ -56,9 +61,13 @@ value-place k = k + head-size
 abbrev pub value-at : List ℤ → ℕ → ℤ
 value-at e k = word-at e (value-place k)
 
+-- the least number that no word holds
+abbrev pub word-limit : ℕ
+word-limit = 2147483648
+
 -- the word of a location; one that no word can hold has 0
 unfoldable pub id-word : ℕ → ℤ
-id-word n = pick (ltb n 2147483648) (pos n) (pos 0)
+id-word n = pick (ltb n word-limit) (pos n) (pos 0)
 
 -- the row at another location
 abbrev pub with-location : List ℤ → ℕ → List ℤ
@@ -122,15 +131,26 @@ leq-join-of e (x ∷ xs) = row-leq e (join-of x xs)
 
 -- ---- tables
 
--- the first n rows, of w words each
-abbrev pub rows-of : ℕ → ℕ → List ℤ → List (List ℤ)
-rows-of w zero t = []
-rows-of w (suc n) t = take w t ∷ rows-of w n (drop w t)
+-- the states of the first n slots
+abbrev pub rows-of : Layout → ℕ → List ℤ → List (List ℤ)
+rows-of y zero t = []
+rows-of y (suc n) t = take (width-of y) t ∷ rows-of y n (drop (y .stride) t)
 
--- the first n rows, of w words each, merged with e; the words after them stay
-abbrev pub rows-merge : List ℤ → ℕ → ℕ → List ℤ → List ℤ
-rows-merge e w zero t = t
-rows-merge e w (suc n) t = row-merge e (take w t) ++ rows-merge e w n (drop w t)
+-- the first slot, its state merged with e; the words after the state stay
+abbrev pub slot-merge : List ℤ → Layout → List ℤ → List ℤ
+slot-merge e y t = row-merge e (take (width-of y) t) ++ drop (width-of y) (take (y .stride) t)
+
+-- the states of the first n slots merged with e; all other words stay
+abbrev pub rows-merge : List ℤ → Layout → ℕ → List ℤ → List ℤ
+rows-merge e y zero t = t
+rows-merge e y (suc n) t = slot-merge e y t ++ rows-merge e y n (drop (y .stride) t)
+
+-- the row e is a state, and t a table of n slots or more, by the layout
+pub record Laid (y : Layout) (n : ℕ) (e t : List ℤ) : Type 0 where
+  pub some : 0 < length e
+  pub row : length e ≡ width-of y
+  pub apart : width-of y ≤ y .stride
+  pub table : n * y .stride ≤ length t
 
 -- ---- the rows as a domain, over the transfer by an edge, counted from 0 here, and the test of an error location
 

@@ -179,9 +179,9 @@ pub fn put_back(order: Order, list: &mut [i32], count: usize, slot: SlotId) -> u
     requires { ⌜ Stored (now list) count (waits count (now list)) × (slot .0 < length (now list)) × (length (now list) < index-limit) × Queue (length (now list)) (waits count (now list)) ⌝ }
     ensures { λ r. ⌜ Stored (now (list .exit)) r (put-back order (slot .0) (waits count (now (list .entry)))) ⌝ }
 {
-    let left = remove(list, count, slot);
+    let others = remove(list, count, slot);
     match order {
-        Order::Old => prepend(list, left, slot),
-        Order::New => append(list, left, slot),
+        Order::Old => prepend(list, others, slot),
+        Order::New => append(list, others, slot),
     }
 }

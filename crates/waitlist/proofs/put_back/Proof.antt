@@ -5,7 +5,7 @@ use lib.ListN.{length}
 use borrow.Author.Needs.{needs}
 use Rattle.semantics.specs.Layout.{index-limit}
 use Rattle.waitlist.specs.Waits.{waits, Stored}
-use Rattle.waitlist.proofs.WaitWords.{held, kept, back-room}
+use Rattle.waitlist.proofs.WaitWords.{waits-are, kept, back-room}
 use Rattle.waitlist.proofs.put_back.Statement.{statement}
 use Rattle.waitlist.proofs.put_back.Tie as tie
 
@@ -19,12 +19,12 @@ ready r =
 returns : tie.Need-returns
 returns c =
     let r = c .before .before .before .before .before .before in
-    rw (c .before .before .before .enum-told .given .1, ← held (r .remove .ensures)) (c .before .prepend .ensures)
+    rw (c .before .before .before .enum-told .given .1, ← waits-are (r .remove .ensures)) (c .before .prepend .ensures)
 
 returns-2 : tie.Need-returns-2
 returns-2 c =
     let r = c .before .before .before .before .before .before in
-    rw (c .before .before .before .enum-told2 .given .1, ← held (r .remove .ensures)) (c .before .append .ensures)
+    rw (c .before .before .before .enum-told2 .given .1, ← waits-are (r .remove .ensures)) (c .before .append .ensures)
 
 pub put-back-spec : {M : Type 1} → statement M
 put-back-spec =

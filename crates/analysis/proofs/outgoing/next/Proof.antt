@@ -1,4 +1,4 @@
--- `analysis::outgoing::next_leaving` meets its contract. Assumes nothing.
+-- `analysis::outgoing::next` meets its contract. Assumes nothing.
 use mathlib.Core.Path.{_≡_, sym, ap, _∙_}
 use Prim.Native.Nat.{_-_}
 use native.Mathlib.Omega.{arith}
@@ -6,8 +6,8 @@ use borrow.Author.Needs.{needs}
 use borrow.Author.Tests.{not-false, eqb-true}
 use Rattle.semantics.specs.Encoding.{count}
 use Rattle.analysis.specs.Chains.{from-at}
-use Rattle.analysis.proofs.outgoing.next_leaving.Statement.{statement}
-use Rattle.analysis.proofs.outgoing.next_leaving.Tie as tie
+use Rattle.analysis.proofs.outgoing.next.Statement.{statement}
+use Rattle.analysis.proofs.outgoing.next.Tie as tie
 
 returns-2 : tie.Need-returns-2
 returns-2 c =
@@ -23,8 +23,8 @@ returns-2 c =
       λ j lo hi e. s .pre .0 j lo (omega (arith, lo, hi, c .later-edge .ensures, after .ensures, n .ensures)) (e ∙ sym same),
     )
 
-pub next-leaving-spec : {M : Type 1} → statement M
-next-leaving-spec =
+pub next-spec : {M : Type 1} → statement M
+next-spec =
     tie.close
     (tie.spec
     (λ c κs. search needs)
