@@ -1,5 +1,6 @@
 -- The check of the words is the check of the chart: loops and names, rows, the tests of one row, all tests; NameBytes
 -- is of the name that `name` hands out.
+pub mod Storing
 pub mod RowLoops
 pub mod Names
 pub mod Rows

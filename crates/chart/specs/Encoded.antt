@@ -1,21 +1,18 @@
 -- The check of an encoded chart said of its words, in the order of the code's tests. A row is handed on with all
 -- words after it. `..-fine` tests words; `..-ok` (semantics, Encoding) tests the chart that they decode to. Assumes
 -- nothing.
-use mathlib.Core.Bool.{Bool, _&&_, _||_}
+use mathlib.Core.Bool.{Bool, true, false, _&&_, _||_}
 use mathlib.Core.List.{List}
 use Prim.Native.Nat.{ℕ, _+_, _-_, _*_}
 use lib.Dec.{leb, ltb, eqb}
-use lib.ListN.{length, getD, take, drop}
+use lib.ListN.{length, take, drop}
 use lib.IntN.{ℤ, pos, natAbs}
 use lib.Signed.{nonNeg, leZ}
 use Rattle.semantics.specs.Lists.{pick, all}
 use Rattle.semantics.specs.Chart.{eqZ, within, small}
-use Rattle.semantics.specs.Encoding.{var-in, var-ok, loc-in, distinct-names, several, count}
+use Rattle.semantics.specs.Layout.{counts-size, variable-size, name-size, location-size, edge-size, variable-at, high-place, kind-place, name-place, from-place, to-place, operation-place, target-place, first-tag-place, first-value-place, second-tag-place, second-value-place, skip-code, add-code, sub-code, in-code, ge-code, number-tag, variable-tag}
+use Rattle.semantics.specs.Encoding.{word-at, count, kind-word, var-in, var-ok, loc-in, distinct-names, several}
 use Rattle.semantics.specs.Memory.{below, zeros}
-
--- the word at a place; 0 past the end
-abbrev pub word-at : List ℤ → ℕ → ℤ
-word-at ws i = getD ws i (pos 0)
 
 -- n rows of k words, each with the words after it
 abbrev pub rows : ℕ → ℕ → List ℤ → List (List ℤ)
@@ -41,11 +38,11 @@ counts-fine ws =
 
 -- where the locations' words begin
 abbrev pub locations-at : List ℤ → ℕ
-locations-at ws = 3 + 3 * count ws 0
+locations-at ws = variable-at (count ws 0)
 
 -- where the edges' words begin
 abbrev pub edges-at : List ℤ → ℕ
-edges-at ws = locations-at ws + 17 * count ws 1
+edges-at ws = locations-at ws + location-size * count ws 1
 
 -- ---- a location: its kind is 0 or 1; bytes of a name, and 0 after them
 
@@ -53,60 +50,60 @@ edges-at ws = locations-at ws + 17 * count ws 1
 unfoldable pub location-fine : List ℤ → Bool
 location-fine ws =
     let n = length (loc-in ws .name) in
-    (eqZ (word-at ws 0) (pos 0) || eqZ (word-at ws 0) (pos 1))
-    && leb 1 n && all name-word (take n (drop 1 ws)) && zeros (take (16 - n) (drop (n + 1) ws))
+    (eqZ (word-at ws kind-place) (kind-word false) || eqZ (word-at ws kind-place) (kind-word true))
+    && leb 1 n && all name-word (take n (drop name-place ws)) && zeros (take (name-size - n) (drop (n + name-place) ws))
 
 -- ---- an edge, of v variables
 
 -- a number, or a variable
 unfoldable pub operand-fine : ℕ → ℤ → ℤ → Bool
-operand-fine v tag z = pick (eqZ tag (pos 0)) (small z) (eqZ tag (pos 1) && below v z)
+operand-fine v tag z = pick (eqZ tag number-tag) (small z) (eqZ tag variable-tag && below v z)
 
 -- the number lies in the range of variable k
 unfoldable pub ranged : List ℤ → ℕ → ℤ → Bool
-ranged vars k z = within (word-at vars (3 * k)) (word-at vars (3 * k + 1)) z
+ranged vars k z = within (word-at vars (variable-size * k)) (word-at vars (variable-size * k + high-place)) z
 
 -- `add` and `sub`: two operands
 unfoldable pub two-fine : ℕ → List ℤ → Bool
-two-fine v ws = operand-fine v (word-at ws 4) (word-at ws 5) && operand-fine v (word-at ws 6) (word-at ws 7)
+two-fine v ws = operand-fine v (word-at ws first-tag-place) (word-at ws first-value-place) && operand-fine v (word-at ws second-tag-place) (word-at ws second-value-place)
 
 -- `set` and `if`: one operand, and 0 for a second
 unfoldable pub one-fine : ℕ → List ℤ → Bool
-one-fine v ws = operand-fine v (word-at ws 4) (word-at ws 5) && eqZ (word-at ws 6) (pos 0) && eqZ (word-at ws 7) (pos 0)
+one-fine v ws = operand-fine v (word-at ws first-tag-place) (word-at ws first-value-place) && eqZ (word-at ws second-tag-place) (pos 0) && eqZ (word-at ws second-value-place) (pos 0)
 
 -- `in`: two numbers p ≤ q in the range of the target, each with a tag of 0
 unfoldable pub input-fine : List ℤ → List ℤ → Bool
 input-fine vars ws =
-    eqZ (word-at ws 4) (pos 0) && eqZ (word-at ws 6) (pos 0)
-    && small (word-at ws 5) && ranged vars (count ws 3) (word-at ws 5)
-    && small (word-at ws 7) && ranged vars (count ws 3) (word-at ws 7)
-    && leZ (word-at ws 5) (word-at ws 7)
+    eqZ (word-at ws first-tag-place) number-tag && eqZ (word-at ws second-tag-place) number-tag
+    && small (word-at ws first-value-place) && ranged vars (count ws target-place) (word-at ws first-value-place)
+    && small (word-at ws second-value-place) && ranged vars (count ws target-place) (word-at ws second-value-place)
+    && leZ (word-at ws first-value-place) (word-at ws second-value-place)
 
 -- by the operation's code n
 unfoldable pub operands-fine : ℕ → List ℤ → ℕ → List ℤ → Bool
-operands-fine n vars v ws = pick (eqb n 2) (two-fine v ws) (pick (eqb n 3) (two-fine v ws) (pick (eqb n 4) (input-fine vars ws) (one-fine v ws)))
+operands-fine n vars v ws = pick (eqb n add-code) (two-fine v ws) (pick (eqb n sub-code) (two-fine v ws) (pick (eqb n in-code) (input-fine vars ws) (one-fine v ws)))
 
 -- `skip` is all 0; any other operation has a target, one of v variables
 unfoldable pub operation-fine : List ℤ → ℕ → List ℤ → Bool
 operation-fine vars v ws =
-    pick (eqb (count ws 2) 0) (zeros (take 5 (drop 3 ws))) (below v (word-at ws 3) && operands-fine (count ws 2) vars v ws)
+    pick (eqb (count ws operation-place) skip-code) (zeros (take (edge-size - target-place) (drop target-place ws))) (below v (word-at ws target-place) && operands-fine (count ws operation-place) vars v ws)
 
 -- one edge; v variables, l locations
 unfoldable pub edge-fine : List ℤ → ℕ → ℕ → List ℤ → Bool
 edge-fine vars v l ws =
-    below l (word-at ws 0) && below l (word-at ws 1) && at-most 10 (word-at ws 2) && operation-fine vars v ws
+    below l (word-at ws from-place) && below l (word-at ws to-place) && at-most ge-code (word-at ws operation-place) && operation-fine vars v ws
 
 -- ---- all rows
 
 -- each variable, location and edge, and no two locations of one name
 unfoldable pub rows-fine : List ℤ → Bool
 rows-fine ws =
-    let vars = drop 3 ws in
+    let vars = drop counts-size ws in
     let locations = drop (locations-at ws) ws in
-    all var-ok (several var-in 3 (count ws 0) vars)
-    && all location-fine (rows 17 (count ws 1) locations)
-    && distinct-names (several loc-in 17 (count ws 1) locations)
-    && all (edge-fine vars (count ws 0) (count ws 1)) (rows 8 (count ws 2) (drop (edges-at ws) ws))
+    all var-ok (several var-in variable-size (count ws 0) vars)
+    && all location-fine (rows location-size (count ws 1) locations)
+    && distinct-names (several loc-in location-size (count ws 1) locations)
+    && all (edge-fine vars (count ws 0) (count ws 1)) (rows edge-size (count ws 2) (drop (edges-at ws) ws))
 
 -- ---- names
 

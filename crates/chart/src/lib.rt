@@ -1,19 +1,119 @@
-// The encoded chart: its check, and what stands where in its words. Crates that use a chart ask here, and read no word
-// by place.
+// The encoded chart: its layout, its check, and the functions that write and read its rows. Who uses a chart asks here,
+// and knows no word by its place. docs/memory.md shows the layout.
+use semantics::Arithmetic;
 use semantics::EdgeId;
 use semantics::LocationId;
+use semantics::MOST_EDGES;
+use semantics::MOST_LOCATIONS;
+use semantics::MOST_VARIABLES;
+use semantics::Operand;
+use semantics::Operation;
+use semantics::Relation;
 ghost use mathlib.Core.Path.{_≡_};
-ghost use mathlib.Core.Bool.{not};
-ghost use mathlib.Core.List.{map};
+ghost use mathlib.Core.Bool.{true, not};
+ghost use mathlib.Core.List.{_∷_, map};
 ghost use Prim.Native.Nat.{suc, _+_, _-_, _*_, _<_, _≤_};
 ghost use lib.IntN.{pos, natAbs};
-ghost use lib.ListN.{length, getD};
+ghost use lib.ListN.{length};
 ghost use Rattle.semantics.specs.Lists.{all};
 ghost use Rattle.semantics.specs.Text.{same-bytes};
 ghost use Rattle.semantics.specs.Chart.{eqZ, small};
-ghost use Rattle.semantics.specs.Encoding.{val, init-ok, var-in, var-ok, loc-in, several, distinct-names, count, decode, well-formed};
+ghost use Rattle.semantics.specs.Layout.{counts-size, variable-size, name-size, location-size, edge-size, variable-at, high-place, init-place, to-place, operation-place, target-place, first-tag-place, first-value-place, second-tag-place, second-value-place, ge-code, index-limit};
+ghost use Rattle.semantics.specs.Encoding.{word-at, count, val, kind-word, rel-code, tag, held, var-words, loc-words, op-words, edge-words, init-ok, var-in, var-ok, loc-in, several, distinct-names, decode, well-formed};
+ghost use Rattle.semantics.specs.Operations.{the-operand, the-relation, the-operation};
 ghost use Rattle.semantics.specs.Listing.{loc-text};
 ghost use Rattle.chart.specs.Encoded.{rows, at-most, name-word, counts-fine, locations-at, edges-at, location-fine, operand-fine, ranged, two-fine, one-fine, input-fine, operands-fine, operation-fine, edge-fine, rows-fine, byte-of};
+ghost use Rattle.chart.specs.Rows.{stored, rows-size, the-variable, the-location, the-edge, sum-code, split-words};
+
+// ---- the layout, under the names of semantics/specs/Layout
+
+// Sizes in words.
+pub const COUNTS_WORDS: usize = 3;
+
+const VARIABLE_WORDS: usize = 3;
+
+// A name has 16 bytes at most, and a byte takes a word.
+const NAME_WORDS: usize = 16;
+
+pub const LOCATION_WORDS: usize = 1 + NAME_WORDS;
+
+const EDGE_WORDS: usize = 8;
+
+// The rows of the largest chart, 3,160 words, and with the counts before them.
+pub const ROWS_WORDS: usize = VARIABLE_WORDS * MOST_VARIABLES
+    + LOCATION_WORDS * MOST_LOCATIONS
+    + EDGE_WORDS * MOST_EDGES;
+
+pub const CHART_WORDS: usize = COUNTS_WORDS + ROWS_WORDS;
+
+// The counts' places.
+const VARIABLES_PLACE: usize = 0;
+
+const LOCATIONS_PLACE: usize = 1;
+
+const EDGES_PLACE: usize = 2;
+
+// The places in a variable's row,
+const LOW_PLACE: usize = 0;
+
+const HIGH_PLACE: usize = 1;
+
+const INIT_PLACE: usize = 2;
+
+// in a location's,
+const KIND_PLACE: usize = 0;
+
+const NAME_PLACE: usize = 1;
+
+// and in an edge's.
+const FROM_PLACE: usize = 0;
+
+const TO_PLACE: usize = 1;
+
+const OPERATION_PLACE: usize = 2;
+
+const TARGET_PLACE: usize = 3;
+
+const FIRST_TAG_PLACE: usize = 4;
+
+const FIRST_VALUE_PLACE: usize = 5;
+
+const SECOND_TAG_PLACE: usize = 6;
+
+const SECOND_VALUE_PLACE: usize = 7;
+
+// The kinds of a location.
+const ORDINARY_KIND: i32 = 0;
+
+const ERROR_KIND: i32 = 1;
+
+// The codes of operations; an `if` has one for each relation.
+pub const SKIP_CODE: usize = 0;
+
+pub const SET_CODE: usize = 1;
+
+pub const ADD_CODE: usize = 2;
+
+pub const SUB_CODE: usize = 3;
+
+pub const IN_CODE: usize = 4;
+
+pub const EQ_CODE: usize = 5;
+
+pub const NE_CODE: usize = 6;
+
+pub const LT_CODE: usize = 7;
+
+pub const LE_CODE: usize = 8;
+
+pub const GT_CODE: usize = 9;
+
+pub const GE_CODE: usize = 10;
+
+// The tags of an operand.
+pub const NUMBER_TAG: i32 = 0;
+
+pub const VARIABLE_TAG: i32 = 1;
 
 // ---- one word
 
@@ -31,76 +131,143 @@ fn is_at_most(n: usize, w: i32) -> bool
     (0 <= w) & (words::magnitude(w) <= n)
 }
 
-fn is_name_byte(w: i32) -> bool
-    ensures { λ r. ⌜ r ≡ name-word w ⌝ }
+// The row's words from a place on.
+fn put_row(rows: &mut [i32], at: usize, row: &[i32])
+    requires { ⌜ at + length (now row) ≤ length (now rows) ⌝ }
+    ensures { λ _. ⌜ now (rows .exit) ≡ stored at (now (row .entry)) (now (rows .entry)) ⌝ }
 {
-    words::lies_within(65, 90, w)
-        | words::lies_within(97, 122, w)
-        | words::lies_within(48, 57, w)
-        | (w == 45)
+    let end = at + row.len();
+    words::copy_words(&mut rows[at..end], row);
 }
 
 // ---- the counts, and where the rows stand
 
-pub fn var_count(chart: &[i32]) -> usize
-    ensures { λ r. ⌜ (r ≡ count (now (chart .entry)) 0) × (r < 2147483649) ⌝ }
+// The counts, and the rows after them.
+pub fn put_chart(chart: &mut [i32], vars: usize, locations: usize, edges: usize, rows: &[i32])
+    requires { ⌜ (vars ≤ 8) × (locations ≤ 64) × (edges ≤ 256) × (counts-size + length (now rows) ≤ length (now chart)) ⌝ }
+    ensures { λ _. ⌜ now (chart .exit) ≡ stored 0 (pos vars ∷ pos locations ∷ pos edges ∷ now (rows .entry)) (now (chart .entry)) ⌝ }
 {
-    words::number_at(chart, 0)
+    let counts = [vars as i32, locations as i32, edges as i32];
+    put_row(chart, 0, &counts);
+    put_row(chart, COUNTS_WORDS, rows);
+}
+
+// The words of so many rows.
+pub fn rows_size(vars: usize, locations: usize, edges: usize) -> usize
+    requires { ⌜ (vars < index-limit) × (locations < index-limit) × (edges < index-limit) ⌝ }
+    ensures { λ r. ⌜ r ≡ rows-size vars locations edges ⌝ }
+{
+    VARIABLE_WORDS * vars + LOCATION_WORDS * locations + EDGE_WORDS * edges
+}
+
+pub fn var_count(chart: &[i32]) -> usize
+    ensures { λ r. ⌜ (r ≡ count (now (chart .entry)) 0) × (r < index-limit) ⌝ }
+{
+    words::number_at(chart, VARIABLES_PLACE)
 }
 
 pub fn location_count(chart: &[i32]) -> usize
-    ensures { λ r. ⌜ (r ≡ count (now (chart .entry)) 1) × (r < 2147483649) ⌝ }
+    ensures { λ r. ⌜ (r ≡ count (now (chart .entry)) 1) × (r < index-limit) ⌝ }
 {
-    words::number_at(chart, 1)
+    words::number_at(chart, LOCATIONS_PLACE)
 }
 
 pub fn edge_count(chart: &[i32]) -> usize
-    ensures { λ r. ⌜ (r ≡ count (now (chart .entry)) 2) × (r < 2147483649) ⌝ }
+    ensures { λ r. ⌜ (r ≡ count (now (chart .entry)) 2) × (r < index-limit) ⌝ }
 {
-    words::number_at(chart, 2)
+    words::number_at(chart, EDGES_PLACE)
 }
 
 // The words of a slot of the reached table.
 pub fn width(chart: &[i32]) -> usize
-    ensures { λ r. ⌜ (r ≡ suc (count (now (chart .entry)) 0)) × (r < 2147483650) ⌝ }
+    ensures { λ r. ⌜ (r ≡ suc (count (now (chart .entry)) 0)) × (r ≤ index-limit) ⌝ }
 {
     var_count(chart) + 1
 }
 
 // Where the words of the locations begin, and those of the edges.
 fn locations_at(chart: &[i32]) -> usize
-    ensures { λ r. ⌜ (r ≡ locations-at (now (chart .entry))) × (r < 8589934592) ⌝ }
+    ensures { λ r. ⌜ (r ≡ locations-at (now (chart .entry))) × (r ≤ variable-at index-limit) ⌝ }
 {
-    semantics::COUNTS_WORDS + semantics::VARIABLE_WORDS * var_count(chart)
+    COUNTS_WORDS + VARIABLE_WORDS * var_count(chart)
 }
 
 fn edges_at(chart: &[i32]) -> usize
-    ensures { λ r. ⌜ (r ≡ edges-at (now (chart .entry))) × (r < 51539607552) ⌝ }
+    ensures { λ r. ⌜ (r ≡ edges-at (now (chart .entry))) × (r ≤ variable-at index-limit + location-size * index-limit) ⌝ }
 {
-    locations_at(chart) + semantics::LOCATION_WORDS * location_count(chart)
+    locations_at(chart) + LOCATION_WORDS * location_count(chart)
 }
 
 // How many words the chart takes.
 fn end_of(chart: &[i32]) -> usize
-    ensures { λ r. ⌜ r ≡ edges-at (now (chart .entry)) + 8 * count (now (chart .entry)) 2 ⌝ }
+    ensures { λ r. ⌜ r ≡ edges-at (now (chart .entry)) + edge-size * count (now (chart .entry)) 2 ⌝ }
 {
-    edges_at(chart) + semantics::EDGE_WORDS * edge_count(chart)
+    edges_at(chart) + EDGE_WORDS * edge_count(chart)
 }
 
 // Whether there are 0 to 8 variables, 1 to 64 locations and 0 to 256 edges.
 fn counts_ok(chart: &[i32]) -> bool
     ensures { λ r. ⌜ r ≡ counts-fine (now (chart .entry)) ⌝ }
 {
-    let v = words::word_at(chart, 0);
-    let l = words::word_at(chart, 1);
-    let e = words::word_at(chart, 2);
-    is_at_most(semantics::MOST_VARIABLES, v)
-        & is_at_most(semantics::MOST_LOCATIONS, l)
+    let v = words::word_at(chart, VARIABLES_PLACE);
+    let l = words::word_at(chart, LOCATIONS_PLACE);
+    let e = words::word_at(chart, EDGES_PLACE);
+    is_at_most(MOST_VARIABLES, v)
+        & is_at_most(MOST_LOCATIONS, l)
         & (1 <= words::magnitude(l))
-        & is_at_most(semantics::MOST_EDGES, e)
+        & is_at_most(MOST_EDGES, e)
 }
 
 // ---- variables
+
+// A variable's row: its range, and the word of its initial value.
+pub fn put_variable(rows: &mut [i32], at: usize, lo: i32, hi: i32, init: i32)
+    requires { ⌜ at + variable-size ≤ length (now rows) ⌝ }
+    ensures { λ _. ⌜ now (rows .exit) ≡ stored at (var-words (the-variable lo hi init)) (now (rows .entry)) ⌝ }
+{
+    let row = [lo, hi, init];
+    put_row(rows, at, &row);
+}
+
+// The accessors are total on the words. They ask for a bound on a number or a place only to keep a sum from wrapping.
+
+// A variable's range, and its initial value.
+pub fn variable_low(chart: &[i32], k: usize) -> i32
+    requires { ⌜ k < index-limit ⌝ }
+    ensures { λ r. ⌜ r ≡ word-at (now (chart .entry)) (variable-at k) ⌝ }
+{
+    let at = COUNTS_WORDS + VARIABLE_WORDS * k;
+    words::word_at(chart, at)
+}
+
+pub fn variable_high(chart: &[i32], k: usize) -> i32
+    requires { ⌜ k < index-limit ⌝ }
+    ensures { λ r. ⌜ r ≡ word-at (now (chart .entry)) (variable-at k + high-place) ⌝ }
+{
+    let at = COUNTS_WORDS + VARIABLE_WORDS * k;
+    words::word_at(chart, at + HIGH_PLACE)
+}
+
+pub fn variable_init(chart: &[i32], k: usize) -> i32
+    requires { ⌜ k < index-limit ⌝ }
+    ensures { λ r. ⌜ r ≡ word-at (now (chart .entry)) (variable-at k + init-place) ⌝ }
+{
+    let at = COUNTS_WORDS + VARIABLE_WORDS * k;
+    words::word_at(chart, at + INIT_PLACE)
+}
+
+// Whether a number lies in the range of a variable.
+pub fn in_var_range(vars: &[i32], k: usize, w: i32) -> bool
+    requires { ⌜ k < index-limit ⌝ }
+    ensures { λ r. ⌜ r ≡ ranged (now (vars .entry)) k w ⌝ }
+{
+    let at = VARIABLE_WORDS * k;
+    words::lies_within(
+        words::word_at(vars, at),
+        words::word_at(vars, at + HIGH_PLACE),
+        w,
+    )
+}
 
 // An initial value: top, or a number in the range.
 fn init_word_ok(lo: i32, hi: i32, init: i32) -> bool
@@ -116,23 +283,23 @@ fn init_word_ok(lo: i32, hi: i32, init: i32) -> bool
 fn var_row_ok(row: &[i32]) -> bool
     ensures { λ r. ⌜ r ≡ var-ok (var-in (now (row .entry))) ⌝ }
 {
-    let lo = words::word_at(row, 0);
-    let hi = words::word_at(row, 1);
-    let init = words::word_at(row, 2);
+    let lo = words::word_at(row, LOW_PLACE);
+    let hi = words::word_at(row, HIGH_PLACE);
+    let init = words::word_at(row, INIT_PLACE);
     is_small(lo) & is_small(hi) & (lo <= hi) & init_word_ok(lo, hi, init)
 }
 
 // The words of n variables.
 fn vars_ok(vars: &[i32], n: usize) -> bool
-    requires { ⌜ 3 * n ≤ length (now vars) ⌝ }
-    ensures { λ r. ⌜ r ≡ all var-ok (several var-in 3 n (now (vars .entry))) ⌝ }
+    requires { ⌜ variable-size * n ≤ length (now vars) ⌝ }
+    ensures { λ r. ⌜ r ≡ all var-ok (several var-in variable-size n (now (vars .entry))) ⌝ }
 {
     let mut ok = true;
     let mut i = 0;
     let mut at = 0;
     while i < n {
         ok = ok & var_row_ok(&vars[at..]);
-        at += semantics::VARIABLE_WORDS;
+        at += VARIABLE_WORDS;
         i += 1;
     }
     ok
@@ -140,19 +307,116 @@ fn vars_ok(vars: &[i32], n: usize) -> bool
 
 // ---- locations
 
-// The length of the name in a location's words.
-fn row_name_length(row: &[i32]) -> usize
-    ensures { λ r. ⌜ (r ≡ length (loc-in (now (row .entry)) .name)) × (r ≤ 16) ⌝ }
+// A location's kind.
+fn kind_word(error: bool) -> i32
+    ensures { λ r. ⌜ r ≡ kind-word error ⌝ }
+{
+    if error {
+        return ERROR_KIND;
+    }
+    ORDINARY_KIND
+}
+
+// The bytes of a name, one a word.
+fn put_bytes(row: &mut [i32], name: &[u8])
+    requires { ⌜ length (now row) ≡ length (now name) ⌝ }
+    ensures { λ _. ⌜ now (row .exit) ≡ map pos (now (name .entry)) ⌝ }
 {
     let mut i = 0;
-    while i < semantics::NAME_WORDS {
-        let w = words::word_at(row, i + 1);
+    while i < name.len() {
+        row[i] = byte_word(name[i]);
+        i += 1;
+    }
+}
+
+// A byte in a word.
+fn byte_word(b: u8) -> i32
+    ensures { λ r. ⌜ r ≡ pos b ⌝ }
+{
+    b as i32
+}
+
+// A location's row: its kind, and its name with 0 after it.
+pub fn put_location(rows: &mut [i32], at: usize, error: bool, name: &[u8])
+    requires { ⌜ (length (now name) ≤ name-size) × (at + location-size ≤ length (now rows)) ⌝ }
+    ensures { λ _. ⌜ now (rows .exit) ≡ stored at (loc-words (the-location error (now (name .entry)))) (now (rows .entry)) ⌝ }
+{
+    let mut row = [0i32; LOCATION_WORDS];
+    row[KIND_PLACE] = kind_word(error);
+    let end = name.len() + NAME_PLACE;
+    put_bytes(&mut row[NAME_PLACE..end], name);
+    put_row(rows, at, &row);
+}
+
+// Whether the location's kind is that of an error location.
+pub fn is_error_location(chart: &[i32], l: LocationId) -> bool
+    requires { ⌜ l .0 < index-limit ⌝ }
+    ensures { λ r. ⌜ r ≡ eqZ (word-at (now (chart .entry)) (locations-at (now (chart .entry)) + location-size * l .0)) (kind-word true) ⌝ }
+{
+    let k = l.0;
+    let kind = words::word_at(chart, locations_at(chart) + LOCATION_WORDS * k);
+    kind == ERROR_KIND
+}
+
+// The length of the name in a location's words.
+fn row_name_length(row: &[i32]) -> usize
+    ensures { λ r. ⌜ (r ≡ length (loc-in (now (row .entry)) .name)) × (r ≤ name-size) ⌝ }
+{
+    let mut i = 0;
+    while i < NAME_WORDS {
+        let w = words::word_at(row, i + NAME_PLACE);
         if w == 0 {
             return i;
         }
         i += 1;
     }
     i
+}
+
+// The words from a location's row on; none where there is no such location.
+fn location_row(chart: &[i32], l: LocationId) -> &[i32]
+    ensures { λ r. ⌜ loc-in (now r) .name ≡ loc-text (decode (now (chart .entry)) .locs) (l .0) ⌝ }
+{
+    let k = l.0;
+    if k < location_count(chart) {
+        let at = locations_at(chart) + LOCATION_WORDS * k;
+        if at <= chart.len() {
+            return &chart[at..];
+        }
+    }
+    &chart[0..0]
+}
+
+// The words of a location's name, a byte each; none where there is no such location.
+pub fn name(chart: &[i32], l: LocationId) -> &[i32]
+    ensures { λ r. ⌜ map natAbs (now r) ≡ loc-text (decode (now (chart .entry)) .locs) (l .0) ⌝ }
+{
+    let row = location_row(chart, l);
+    let end = row_name_length(row) + NAME_PLACE;
+    if end <= row.len() {
+        return &row[NAME_PLACE..end];
+    }
+    &chart[0..0]
+}
+
+// The byte in a word of a name; 0 where the word is no byte.
+pub fn name_byte(w: i32) -> u8
+    ensures { λ r. ⌜ r ≡ byte-of (natAbs w) ⌝ }
+{
+    let n = words::magnitude(w);
+    if n < 256 {
+        return n as u8;
+    }
+    0
+}
+
+fn is_name_byte(w: i32) -> bool
+    ensures { λ r. ⌜ r ≡ name-word w ⌝ }
+{
+    words::lies_within(65, 90, w)
+        | words::lies_within(97, 122, w)
+        | words::lies_within(48, 57, w)
+        | (w == 45)
 }
 
 fn name_bytes_ok(name: &[i32]) -> bool
@@ -170,29 +434,29 @@ fn name_bytes_ok(name: &[i32]) -> bool
 
 // A location's words: its kind, the bytes of its name, and 0 after them.
 fn location_row_ok(row: &[i32]) -> bool
-    requires { ⌜ 17 ≤ length (now row) ⌝ }
+    requires { ⌜ location-size ≤ length (now row) ⌝ }
     ensures { λ r. ⌜ r ≡ location-fine (now (row .entry)) ⌝ }
 {
-    let kind = words::word_at(row, 0);
+    let kind = words::word_at(row, KIND_PLACE);
     let n = row_name_length(row);
-    let end = n + 1;
-    ((kind == 0) | (kind == 1))
+    let end = n + NAME_PLACE;
+    ((kind == ORDINARY_KIND) | (kind == ERROR_KIND))
         & (1 <= n)
-        & name_bytes_ok(&row[1..end])
-        & words::all_zero(&row[end..semantics::LOCATION_WORDS])
+        & name_bytes_ok(&row[NAME_PLACE..end])
+        & words::all_zero(&row[end..LOCATION_WORDS])
 }
 
 // The words of n locations.
 fn locations_ok(locations: &[i32], n: usize) -> bool
-    requires { ⌜ 17 * n ≤ length (now locations) ⌝ }
-    ensures { λ r. ⌜ r ≡ all location-fine (rows 17 n (now (locations .entry))) ⌝ }
+    requires { ⌜ location-size * n ≤ length (now locations) ⌝ }
+    ensures { λ r. ⌜ r ≡ all location-fine (rows location-size n (now (locations .entry))) ⌝ }
 {
     let mut ok = true;
     let mut i = 0;
     let mut at = 0;
     while i < n {
         ok = ok & location_row_ok(&locations[at..]);
-        at += semantics::LOCATION_WORDS;
+        at += LOCATION_WORDS;
         i += 1;
     }
     ok
@@ -203,9 +467,9 @@ fn same_name(a: &[i32], b: &[i32]) -> bool
     ensures { λ r. ⌜ r ≡ same-bytes (loc-in (now (a .entry)) .name) (loc-in (now (b .entry)) .name) ⌝ }
 {
     let mut i = 0;
-    while i < semantics::NAME_WORDS {
-        let x = words::number_at(a, i + 1);
-        let y = words::number_at(b, i + 1);
+    while i < NAME_WORDS {
+        let x = words::number_at(a, i + NAME_PLACE);
+        let y = words::number_at(b, i + NAME_PLACE);
         if x != y {
             return false;
         }
@@ -218,16 +482,16 @@ fn same_name(a: &[i32], b: &[i32]) -> bool
 }
 
 // Whether none of n locations has the name of the one given.
-fn name_is_new(row: &[i32], locations: &[i32], n: usize) -> bool
-    requires { ⌜ 17 * n ≤ length (now locations) ⌝ }
-    ensures { λ r. ⌜ r ≡ all (λ m. not (same-bytes (loc-in (now (row .entry)) .name) (m .name))) (several loc-in 17 n (now (locations .entry))) ⌝ }
+pub fn name_is_new(row: &[i32], locations: &[i32], n: usize) -> bool
+    requires { ⌜ location-size * n ≤ length (now locations) ⌝ }
+    ensures { λ r. ⌜ r ≡ all (λ m. not (same-bytes (loc-in (now (row .entry)) .name) (m .name))) (several loc-in location-size n (now (locations .entry))) ⌝ }
 {
     let mut ok = true;
     let mut i = 0;
     let mut at = 0;
     while i < n {
         ok = ok & !same_name(row, &locations[at..]);
-        at += semantics::LOCATION_WORDS;
+        at += LOCATION_WORDS;
         i += 1;
     }
     ok
@@ -235,14 +499,14 @@ fn name_is_new(row: &[i32], locations: &[i32], n: usize) -> bool
 
 // Whether no two of n locations have one name.
 fn names_differ(locations: &[i32], n: usize) -> bool
-    requires { ⌜ 17 * n ≤ length (now locations) ⌝ }
-    ensures { λ r. ⌜ r ≡ distinct-names (several loc-in 17 n (now (locations .entry))) ⌝ }
+    requires { ⌜ location-size * n ≤ length (now locations) ⌝ }
+    ensures { λ r. ⌜ r ≡ distinct-names (several loc-in location-size n (now (locations .entry))) ⌝ }
 {
     let mut ok = true;
     let mut left = n;
     let mut at = 0;
     while left > 0 {
-        let next = at + semantics::LOCATION_WORDS;
+        let next = at + LOCATION_WORDS;
         left -= 1;
         ok = ok & name_is_new(&locations[at..], &locations[next..], left);
         at = next;
@@ -252,182 +516,116 @@ fn names_differ(locations: &[i32], n: usize) -> bool
 
 // ---- edges
 
-// An operand: a number, or one of v variables.
-fn operand_ok(v: usize, tag: i32, w: i32) -> bool
-    ensures { λ r. ⌜ r ≡ operand-fine v tag w ⌝ }
-{
-    if tag == 0 {
-        return is_small(w);
-    }
-    (tag == 1) & words::is_below(v, w)
+// The two words of an operand.
+struct OperandWords {
+    tag: i32,
+    value: i32,
 }
 
-// Whether a number lies in the range of a variable.
-fn in_var_range(vars: &[i32], k: usize, w: i32) -> bool
-    requires { ⌜ k < 2147483649 ⌝ }
-    ensures { λ r. ⌜ r ≡ ranged (now (vars .entry)) k w ⌝ }
+fn operand_words(a: Operand) -> OperandWords
+    ensures { λ r. ⌜ (r .tag ≡ tag (the-operand a)) × (r .value ≡ held (the-operand a)) ⌝ }
 {
-    let at = semantics::VARIABLE_WORDS * k;
-    words::lies_within(words::word_at(vars, at), words::word_at(vars, at + 1), w)
-}
-
-// The operands of `add` and `sub`.
-fn two_operands_ok(v: usize, row: &[i32]) -> bool
-    ensures { λ r. ⌜ r ≡ two-fine v (now (row .entry)) ⌝ }
-{
-    operand_ok(v, words::word_at(row, 4), words::word_at(row, 5))
-        & operand_ok(v, words::word_at(row, 6), words::word_at(row, 7))
-}
-
-// The operand of an assignment or a test; the second's words are 0.
-fn one_operand_ok(v: usize, row: &[i32]) -> bool
-    ensures { λ r. ⌜ r ≡ one-fine v (now (row .entry)) ⌝ }
-{
-    operand_ok(v, words::word_at(row, 4), words::word_at(row, 5))
-        & (words::word_at(row, 6) == 0)
-        & (words::word_at(row, 7) == 0)
-}
-
-// The two numbers of `in`; the operands' tags are 0.
-fn input_ok(vars: &[i32], row: &[i32]) -> bool
-    ensures { λ r. ⌜ r ≡ input-fine (now (vars .entry)) (now (row .entry)) ⌝ }
-{
-    let k = words::number_at(row, 3);
-    let p = words::word_at(row, 5);
-    let q = words::word_at(row, 7);
-    (words::word_at(row, 4) == 0)
-        & (words::word_at(row, 6) == 0)
-        & is_small(p)
-        & in_var_range(vars, k, p)
-        & is_small(q)
-        & in_var_range(vars, k, q)
-        & (p <= q)
-}
-
-// The operands, by the operation's code n.
-fn operands_ok(n: usize, vars: &[i32], v: usize, row: &[i32]) -> bool
-    ensures { λ r. ⌜ r ≡ operands-fine n (now (vars .entry)) v (now (row .entry)) ⌝ }
-{
-    match n {
-        2 => two_operands_ok(v, row),
-        3 => two_operands_ok(v, row),
-        4 => input_ok(vars, row),
-        _ => one_operand_ok(v, row),
+    match a {
+        Operand::Number(z) => OperandWords {
+            tag: NUMBER_TAG,
+            value: z,
+        },
+        Operand::Variable(k) => OperandWords {
+            tag: VARIABLE_TAG,
+            value: k as i32,
+        },
     }
 }
 
-// An edge's operation: its target and its operands; for `skip` all 0.
-fn operation_ok(vars: &[i32], v: usize, row: &[i32]) -> bool
-    requires { ⌜ 8 ≤ length (now row) ⌝ }
-    ensures { λ r. ⌜ r ≡ operation-fine (now (vars .entry)) v (now (row .entry)) ⌝ }
+// An operation by its code, its target and its operands; where it has none, 0.
+struct Split {
+    code: usize,
+    target: u8,
+    first: Operand,
+    second: Operand,
+}
+
+fn arithmetic_code(s: Arithmetic) -> usize
+    ensures { λ r. ⌜ (r ≡ sum-code s) × (r ≤ ge-code) ⌝ }
 {
-    let n = words::number_at(row, 2);
-    if n == 0 {
-        return words::all_zero(&row[3..semantics::EDGE_WORDS]);
+    match s {
+        Arithmetic::Add => ADD_CODE,
+        Arithmetic::Sub => SUB_CODE,
     }
-    words::is_below(v, words::word_at(row, 3)) & operands_ok(n, vars, v, row)
 }
 
-// An edge's words, where there are v variables and l locations.
-fn edge_row_ok(vars: &[i32], v: usize, l: usize, row: &[i32]) -> bool
-    requires { ⌜ 8 ≤ length (now row) ⌝ }
-    ensures { λ r. ⌜ r ≡ edge-fine (now (vars .entry)) v l (now (row .entry)) ⌝ }
+fn relation_code(r: Relation) -> usize
+    ensures { λ n. ⌜ (n ≡ rel-code (the-relation r)) × (n ≤ ge-code) ⌝ }
 {
-    words::is_below(l, words::word_at(row, 0))
-        & words::is_below(l, words::word_at(row, 1))
-        & is_at_most(10, words::word_at(row, 2))
-        & operation_ok(vars, v, row)
-}
-
-// The words of n edges.
-fn edges_ok(vars: &[i32], v: usize, l: usize, edges: &[i32], n: usize) -> bool
-    requires { ⌜ 8 * n ≤ length (now edges) ⌝ }
-    ensures { λ r. ⌜ r ≡ all (edge-fine (now (vars .entry)) v l) (rows 8 n (now (edges .entry))) ⌝ }
-{
-    let mut ok = true;
-    let mut i = 0;
-    let mut at = 0;
-    while i < n {
-        ok = ok & edge_row_ok(vars, v, l, &edges[at..]);
-        at += semantics::EDGE_WORDS;
-        i += 1;
+    match r {
+        Relation::Eq => EQ_CODE,
+        Relation::Ne => NE_CODE,
+        Relation::Lt => LT_CODE,
+        Relation::Le => LE_CODE,
+        Relation::Gt => GT_CODE,
+        Relation::Ge => GE_CODE,
     }
-    ok
 }
 
-// ---- the check
-
-// All rows, once the counts are known to be in order.
-fn rows_ok(chart: &[i32]) -> bool
-    requires { ⌜ edges-at (now chart) + 8 * count (now chart) 2 ≤ length (now chart) ⌝ }
-    ensures { λ r. ⌜ r ≡ rows-fine (now (chart .entry)) ⌝ }
+fn split_of(op: Operation) -> Split
+    ensures { λ r. ⌜ (split-words r ≡ op-words (the-operation op)) × (r .code ≤ ge-code) ⌝ }
 {
-    let v = var_count(chart);
-    let l = location_count(chart);
-    let e = edge_count(chart);
-    let at = locations_at(chart);
-    let from = edges_at(chart);
-    let vars = &chart[semantics::COUNTS_WORDS..];
-    let locations = &chart[at..];
-    vars_ok(vars, v)
-        & locations_ok(locations, l)
-        & names_differ(locations, l)
-        & edges_ok(vars, v, l, &chart[from..], e)
-}
-
-// Whether the words begin with the encoding of a chart that reading can produce: else the refusal is 20.
-pub fn well_formed(chart: &[i32]) -> bool
-    ensures { λ r. ⌜ r ≡ well-formed (now (chart .entry)) ⌝ }
-{
-    if counts_ok(chart) {
-        let end = end_of(chart);
-        if end <= chart.len() {
-            return rows_ok(chart);
-        }
+    match op {
+        Operation::Skip => Split {
+            code: SKIP_CODE,
+            target: 0,
+            first: Operand::Number(0),
+            second: Operand::Number(0),
+        },
+        Operation::Set(v, a) => Split {
+            code: SET_CODE,
+            target: v,
+            first: a,
+            second: Operand::Number(0),
+        },
+        Operation::Compute(s, v, a, b) => Split {
+            code: arithmetic_code(s),
+            target: v,
+            first: a,
+            second: b,
+        },
+        Operation::In(v, p, q) => Split {
+            code: IN_CODE,
+            target: v,
+            first: Operand::Number(p),
+            second: Operand::Number(q),
+        },
+        Operation::If(v, r, a) => Split {
+            code: relation_code(r),
+            target: v,
+            first: a,
+            second: Operand::Number(0),
+        },
     }
-    false
 }
 
-// ---- what the words say of a variable, a location and an edge, for those who use the chart
-
-// The accessors are total on the words. They ask for a bound on a number or a place only to keep a sum from wrapping.
-
-// A variable's range, and its initial value.
-pub fn variable_low(chart: &[i32], k: usize) -> i32
-    requires { ⌜ k < 2305843009213693952 ⌝ }
-    ensures { λ r. ⌜ r ≡ getD (now (chart .entry)) (3 + 3 * k) (pos 0) ⌝ }
+// An edge's row: from, to, and the operation's six words.
+pub fn put_edge(rows: &mut [i32], at: usize, from: LocationId, to: LocationId, op: Operation)
+    requires { ⌜ (from .0 < 64) × (to .0 < 64) × (at + edge-size ≤ length (now rows)) ⌝ }
+    ensures { λ _. ⌜ now (rows .exit) ≡ stored at (edge-words (the-edge (from .0) (to .0) op)) (now (rows .entry)) ⌝ }
 {
-    let at = semantics::COUNTS_WORDS + semantics::VARIABLE_WORDS * k;
-    words::word_at(chart, at)
+    let o = split_of(op);
+    let first = o.first;
+    let second = o.second;
+    let a = operand_words(first);
+    let b = operand_words(second);
+    let row = [
+        from.0 as i32,
+        to.0 as i32,
+        o.code as i32,
+        o.target as i32,
+        a.tag,
+        a.value,
+        b.tag,
+        b.value,
+    ];
+    put_row(rows, at, &row);
 }
-
-pub fn variable_high(chart: &[i32], k: usize) -> i32
-    requires { ⌜ k < 2305843009213693952 ⌝ }
-    ensures { λ r. ⌜ r ≡ getD (now (chart .entry)) (3 + 3 * k + 1) (pos 0) ⌝ }
-{
-    let at = semantics::COUNTS_WORDS + semantics::VARIABLE_WORDS * k;
-    words::word_at(chart, at + 1)
-}
-
-pub fn variable_init(chart: &[i32], k: usize) -> i32
-    requires { ⌜ k < 2305843009213693952 ⌝ }
-    ensures { λ r. ⌜ r ≡ getD (now (chart .entry)) (3 + 3 * k + 2) (pos 0) ⌝ }
-{
-    let at = semantics::COUNTS_WORDS + semantics::VARIABLE_WORDS * k;
-    words::word_at(chart, at + 2)
-}
-
-// Whether the location's kind is that of an error location.
-pub fn is_error_location(chart: &[i32], l: LocationId) -> bool
-    requires { ⌜ l .0 < 2147483649 ⌝ }
-    ensures { λ r. ⌜ r ≡ eqZ (getD (now (chart .entry)) (locations-at (now (chart .entry)) + 17 * l .0) (pos 0)) (pos 1) ⌝ }
-{
-    let k = l.0;
-    let kind = words::word_at(chart, locations_at(chart) + semantics::LOCATION_WORDS * k);
-    kind == 1
-}
-
-// ---- edges, for those who use the chart
 
 // An edge: its number, and where its words stand. The two are carried along together, so that no accessor has to count.
 pub struct Edge {
@@ -447,118 +645,215 @@ pub fn first_edge(chart: &[i32]) -> Edge
 
 // An edge by its number, from the first.
 pub fn edge_of(first: Edge, id: EdgeId) -> Edge
-    requires { ⌜ (first .at < 4294967296) × (1 ≤ id .0) × (id .0 < 4294967297) ⌝ }
-    ensures { λ r. ⌜ (r .id .0 ≡ id .0) × (r .at ≡ first .at + 8 * (id .0 - 1)) ⌝ }
+    requires { ⌜ (first .at < index-limit) × (1 ≤ id .0) × (id .0 ≤ index-limit) ⌝ }
+    ensures { λ r. ⌜ (r .id .0 ≡ id .0) × (r .at ≡ first .at + edge-size * (id .0 - 1)) ⌝ }
 {
     let before = id.0 - 1;
     Edge {
         id,
-        at: first.at + semantics::EDGE_WORDS * before,
+        at: first.at + EDGE_WORDS * before,
     }
 }
 
-// An edge's words, by their place in its row: 0 from, 1 to, 2 the operation's code, 3 the target, 4 and 5 the first
-// operand's tag and value, 6 and 7 the second's.
-
 // The locations that it leaves and goes to, its operation's code, and the variable that it sets or tests.
 pub fn edge_from(chart: &[i32], edge: Edge) -> LocationId
-    ensures { λ r. ⌜ (r .0 ≡ count (now (chart .entry)) (edge .at)) × (r .0 < 2147483649) ⌝ }
+    ensures { λ r. ⌜ (r .0 ≡ count (now (chart .entry)) (edge .at)) × (r .0 < index-limit) ⌝ }
 {
     LocationId(words::number_at(chart, edge.at))
 }
 
 pub fn edge_to(chart: &[i32], edge: Edge) -> LocationId
-    requires { ⌜ edge .at < 4294967296 ⌝ }
-    ensures { λ r. ⌜ (r .0 ≡ count (now (chart .entry)) (edge .at + 1)) × (r .0 < 2147483649) ⌝ }
+    requires { ⌜ edge .at < index-limit ⌝ }
+    ensures { λ r. ⌜ (r .0 ≡ count (now (chart .entry)) (edge .at + to-place)) × (r .0 < index-limit) ⌝ }
 {
-    LocationId(words::number_at(chart, edge.at + 1))
+    LocationId(words::number_at(chart, edge.at + TO_PLACE))
 }
 
 pub fn edge_operation(chart: &[i32], edge: Edge) -> usize
-    requires { ⌜ edge .at < 4294967296 ⌝ }
-    ensures { λ r. ⌜ (r ≡ count (now (chart .entry)) (edge .at + 2)) × (r < 2147483649) ⌝ }
+    requires { ⌜ edge .at < index-limit ⌝ }
+    ensures { λ r. ⌜ (r ≡ count (now (chart .entry)) (edge .at + operation-place)) × (r < index-limit) ⌝ }
 {
-    words::number_at(chart, edge.at + 2)
+    words::number_at(chart, edge.at + OPERATION_PLACE)
 }
 
 pub fn edge_target(chart: &[i32], edge: Edge) -> usize
-    requires { ⌜ edge .at < 4294967296 ⌝ }
-    ensures { λ r. ⌜ (r ≡ count (now (chart .entry)) (edge .at + 3)) × (r < 2147483649) ⌝ }
+    requires { ⌜ edge .at < index-limit ⌝ }
+    ensures { λ r. ⌜ (r ≡ count (now (chart .entry)) (edge .at + target-place)) × (r < index-limit) ⌝ }
 {
-    words::number_at(chart, edge.at + 3)
+    words::number_at(chart, edge.at + TARGET_PLACE)
 }
 
 // Its two operands: what each is, and the word that it holds; the first as the number of a variable.
 pub fn first_tag(chart: &[i32], edge: Edge) -> i32
-    requires { ⌜ edge .at < 4294967296 ⌝ }
-    ensures { λ r. ⌜ r ≡ getD (now (chart .entry)) (edge .at + 4) (pos 0) ⌝ }
+    requires { ⌜ edge .at < index-limit ⌝ }
+    ensures { λ r. ⌜ r ≡ word-at (now (chart .entry)) (edge .at + first-tag-place) ⌝ }
 {
-    words::word_at(chart, edge.at + 4)
+    words::word_at(chart, edge.at + FIRST_TAG_PLACE)
 }
 
 pub fn first_value(chart: &[i32], edge: Edge) -> i32
-    requires { ⌜ edge .at < 4294967296 ⌝ }
-    ensures { λ r. ⌜ r ≡ getD (now (chart .entry)) (edge .at + 5) (pos 0) ⌝ }
+    requires { ⌜ edge .at < index-limit ⌝ }
+    ensures { λ r. ⌜ r ≡ word-at (now (chart .entry)) (edge .at + first-value-place) ⌝ }
 {
-    words::word_at(chart, edge.at + 5)
+    words::word_at(chart, edge.at + FIRST_VALUE_PLACE)
 }
 
 pub fn first_variable(chart: &[i32], edge: Edge) -> usize
-    requires { ⌜ edge .at < 4294967296 ⌝ }
-    ensures { λ r. ⌜ (r ≡ count (now (chart .entry)) (edge .at + 5)) × (r < 2147483649) ⌝ }
+    requires { ⌜ edge .at < index-limit ⌝ }
+    ensures { λ r. ⌜ (r ≡ count (now (chart .entry)) (edge .at + first-value-place)) × (r < index-limit) ⌝ }
 {
-    words::number_at(chart, edge.at + 5)
+    words::number_at(chart, edge.at + FIRST_VALUE_PLACE)
 }
 
 pub fn second_tag(chart: &[i32], edge: Edge) -> i32
-    requires { ⌜ edge .at < 4294967296 ⌝ }
-    ensures { λ r. ⌜ r ≡ getD (now (chart .entry)) (edge .at + 6) (pos 0) ⌝ }
+    requires { ⌜ edge .at < index-limit ⌝ }
+    ensures { λ r. ⌜ r ≡ word-at (now (chart .entry)) (edge .at + second-tag-place) ⌝ }
 {
-    words::word_at(chart, edge.at + 6)
+    words::word_at(chart, edge.at + SECOND_TAG_PLACE)
 }
 
 pub fn second_value(chart: &[i32], edge: Edge) -> i32
-    requires { ⌜ edge .at < 4294967296 ⌝ }
-    ensures { λ r. ⌜ r ≡ getD (now (chart .entry)) (edge .at + 7) (pos 0) ⌝ }
+    requires { ⌜ edge .at < index-limit ⌝ }
+    ensures { λ r. ⌜ r ≡ word-at (now (chart .entry)) (edge .at + second-value-place) ⌝ }
 {
-    words::word_at(chart, edge.at + 7)
+    words::word_at(chart, edge.at + SECOND_VALUE_PLACE)
 }
 
-// ---- names
-
-// The words from a location's row on; none where there is no such location.
-fn location_row(chart: &[i32], l: LocationId) -> &[i32]
-    ensures { λ r. ⌜ loc-in (now r) .name ≡ loc-text (decode (now (chart .entry)) .locs) (l .0) ⌝ }
+// An operand: a number, or one of v variables.
+fn operand_ok(v: usize, tag: i32, w: i32) -> bool
+    ensures { λ r. ⌜ r ≡ operand-fine v tag w ⌝ }
 {
-    let k = l.0;
-    if k < location_count(chart) {
-        let at = locations_at(chart) + semantics::LOCATION_WORDS * k;
-        if at <= chart.len() {
-            return &chart[at..];
+    if tag == NUMBER_TAG {
+        return is_small(w);
+    }
+    (tag == VARIABLE_TAG) & words::is_below(v, w)
+}
+
+// The operands of `add` and `sub`.
+fn two_operands_ok(v: usize, row: &[i32]) -> bool
+    ensures { λ r. ⌜ r ≡ two-fine v (now (row .entry)) ⌝ }
+{
+    operand_ok(
+        v,
+        words::word_at(row, FIRST_TAG_PLACE),
+        words::word_at(row, FIRST_VALUE_PLACE),
+    )
+        & operand_ok(
+            v,
+            words::word_at(row, SECOND_TAG_PLACE),
+            words::word_at(row, SECOND_VALUE_PLACE),
+        )
+}
+
+// The operand of an assignment or a test; the second's words are 0.
+fn one_operand_ok(v: usize, row: &[i32]) -> bool
+    ensures { λ r. ⌜ r ≡ one-fine v (now (row .entry)) ⌝ }
+{
+    operand_ok(
+        v,
+        words::word_at(row, FIRST_TAG_PLACE),
+        words::word_at(row, FIRST_VALUE_PLACE),
+    )
+        & (words::word_at(row, SECOND_TAG_PLACE) == 0)
+        & (words::word_at(row, SECOND_VALUE_PLACE) == 0)
+}
+
+// The two numbers of `in`; the operands' tags are 0.
+fn input_ok(vars: &[i32], row: &[i32]) -> bool
+    ensures { λ r. ⌜ r ≡ input-fine (now (vars .entry)) (now (row .entry)) ⌝ }
+{
+    let k = words::number_at(row, TARGET_PLACE);
+    let p = words::word_at(row, FIRST_VALUE_PLACE);
+    let q = words::word_at(row, SECOND_VALUE_PLACE);
+    (words::word_at(row, FIRST_TAG_PLACE) == NUMBER_TAG)
+        & (words::word_at(row, SECOND_TAG_PLACE) == NUMBER_TAG)
+        & is_small(p)
+        & in_var_range(vars, k, p)
+        & is_small(q)
+        & in_var_range(vars, k, q)
+        & (p <= q)
+}
+
+// The operands, by the operation's code n.
+fn operands_ok(n: usize, vars: &[i32], v: usize, row: &[i32]) -> bool
+    ensures { λ r. ⌜ r ≡ operands-fine n (now (vars .entry)) v (now (row .entry)) ⌝ }
+{
+    match n {
+        ADD_CODE => two_operands_ok(v, row),
+        SUB_CODE => two_operands_ok(v, row),
+        IN_CODE => input_ok(vars, row),
+        _ => one_operand_ok(v, row),
+    }
+}
+
+// An edge's operation: its target and its operands; for `skip` all 0.
+fn operation_ok(vars: &[i32], v: usize, row: &[i32]) -> bool
+    requires { ⌜ edge-size ≤ length (now row) ⌝ }
+    ensures { λ r. ⌜ r ≡ operation-fine (now (vars .entry)) v (now (row .entry)) ⌝ }
+{
+    let n = words::number_at(row, OPERATION_PLACE);
+    if n == SKIP_CODE {
+        return words::all_zero(&row[TARGET_PLACE..EDGE_WORDS]);
+    }
+    words::is_below(v, words::word_at(row, TARGET_PLACE)) & operands_ok(n, vars, v, row)
+}
+
+// An edge's words, where there are v variables and l locations.
+fn edge_row_ok(vars: &[i32], v: usize, l: usize, row: &[i32]) -> bool
+    requires { ⌜ edge-size ≤ length (now row) ⌝ }
+    ensures { λ r. ⌜ r ≡ edge-fine (now (vars .entry)) v l (now (row .entry)) ⌝ }
+{
+    words::is_below(l, words::word_at(row, FROM_PLACE))
+        & words::is_below(l, words::word_at(row, TO_PLACE))
+        & is_at_most(GE_CODE, words::word_at(row, OPERATION_PLACE))
+        & operation_ok(vars, v, row)
+}
+
+// The words of n edges.
+fn edges_ok(vars: &[i32], v: usize, l: usize, edges: &[i32], n: usize) -> bool
+    requires { ⌜ edge-size * n ≤ length (now edges) ⌝ }
+    ensures { λ r. ⌜ r ≡ all (edge-fine (now (vars .entry)) v l) (rows edge-size n (now (edges .entry))) ⌝ }
+{
+    let mut ok = true;
+    let mut i = 0;
+    let mut at = 0;
+    while i < n {
+        ok = ok & edge_row_ok(vars, v, l, &edges[at..]);
+        at += EDGE_WORDS;
+        i += 1;
+    }
+    ok
+}
+
+// ---- the check
+
+// All rows, once the counts are known to be in order.
+fn rows_ok(chart: &[i32]) -> bool
+    requires { ⌜ edges-at (now chart) + edge-size * count (now chart) 2 ≤ length (now chart) ⌝ }
+    ensures { λ r. ⌜ r ≡ rows-fine (now (chart .entry)) ⌝ }
+{
+    let v = var_count(chart);
+    let l = location_count(chart);
+    let e = edge_count(chart);
+    let at = locations_at(chart);
+    let from = edges_at(chart);
+    let vars = &chart[COUNTS_WORDS..];
+    let locations = &chart[at..];
+    vars_ok(vars, v)
+        & locations_ok(locations, l)
+        & names_differ(locations, l)
+        & edges_ok(vars, v, l, &chart[from..], e)
+}
+
+// Whether the words begin with the encoding of a chart that reading can produce: else the refusal is 20.
+pub fn well_formed(chart: &[i32]) -> bool
+    ensures { λ r. ⌜ r ≡ well-formed (now (chart .entry)) ⌝ }
+{
+    if counts_ok(chart) {
+        let end = end_of(chart);
+        if end <= chart.len() {
+            return rows_ok(chart);
         }
     }
-    &chart[0..0]
-}
-
-// The words of a location's name, a byte each; none where there is no such location.
-pub fn name(chart: &[i32], l: LocationId) -> &[i32]
-    ensures { λ r. ⌜ map natAbs (now r) ≡ loc-text (decode (now (chart .entry)) .locs) (l .0) ⌝ }
-{
-    let row = location_row(chart, l);
-    let end = row_name_length(row) + 1;
-    if end <= row.len() {
-        return &row[1..end];
-    }
-    &chart[0..0]
-}
-
-// The byte in a word of a name; 0 where the word is no byte.
-pub fn name_byte(w: i32) -> u8
-    ensures { λ r. ⌜ r ≡ byte-of (natAbs w) ⌝ }
-{
-    let n = words::magnitude(w);
-    if n < 256 {
-        return n as u8;
-    }
-    0
+    false
 }

@@ -23,7 +23,7 @@ ghost use Rattle.program.specs.Responded.{no-analysis, Accepted, Lends, 
 mod go_line;
 
 // The words lent suffice for every chart and every capacity: 3,163, 2,304 and 256.
-const CHART_WORDS: usize = semantics::COUNTS_WORDS + semantics::ROWS_WORDS;
+const CHART_WORDS: usize = chart::CHART_WORDS;
 
 const TABLE_WORDS: usize = semantics::MOST_SLOTS * semantics::MOST_WIDTH;
 

@@ -12,10 +12,10 @@ use borrow.Author.Tests.{lt-ltb, le-ltb}
 use Rattle.semantics.specs.Lists.{is-empty}
 use Rattle.semantics.specs.Chart.{Chart}
 use Rattle.semantics.specs.Encoding.{encode}
-use Rattle.reader.specs.Rows.{stored}
-use Rattle.reader.specs.Held.{chart-rows, used-words, Rows}
+use Rattle.semantics.specs.Layout.{counts-size}
+use Rattle.chart.specs.Rows.{stored}
+use Rattle.reader.specs.Held.{used-words, Rows}
 use Rattle.reader.specs.declared.tally.Tally.{Tally}
-use Rattle.reader.proofs.Storing.{stored-then}
 
 pub none-empty-list : {A : Type 0} (l : List A) → 0 ≡ length l → is-empty l ≡ true
 none-empty-list [] e = refl
@@ -25,20 +25,18 @@ pub some-list : {A : Type 0} (l : List A) → 0 < length l → is-empty l ≡ fa
 some-list [] e = absurd (omega arith)
 some-list (x ∷ xs) e = refl
 
-module _ {t : Tally} {table : List ℤ} {c : Chart} (h : Rows t table c) (room : used-words t ≤ length table) where
-  encode-length : length (encode c) ≡ used-words t + 3
+module _ {t : Tally} {rows : List ℤ} {c : Chart} (h : Rows t rows c) (room : used-words t ≤ length rows) where
+  encode-length : length (encode c) ≡ used-words t + counts-size
   unfolding encode
-  encode-length = omega (arith, ap length (h .rows), length-take-le (used-words t) table room)
+  encode-length = omega (arith, ap length (h .rows), length-take-le (used-words t) rows room)
 
   module _ (ws : List ℤ) where
-    pub too-few : length ws < used-words t + 3 → ltb (length ws) (length (encode c)) ≡ true
+    pub too-few : length ws < used-words t + counts-size → ltb (length ws) (length (encode c)) ≡ true
     too-few l = lt-ltb (length ws) (length (encode c)) (omega (arith, encode-length, l))
 
-    module _ (f : used-words t + 3 ≤ length ws) where
-      pub enough : ltb (length ws) (length (encode c)) ≡ false
-      enough = le-ltb (length ws) (length (encode c)) (omega (arith, encode-length, f))
+    pub enough : used-words t + counts-size ≤ length ws → ltb (length ws) (length (encode c)) ≡ false
+    enough f = le-ltb (length ws) (length (encode c)) (omega (arith, encode-length, f))
 
-      pub held-words : stored 3 (take (used-words t) table) (stored 0 (pos (t .vars) ∷ pos (t .locs) ∷ pos (t .edges) ∷ []) ws) ≡ encode c ++ drop (length (encode c)) ws
-      unfolding stored encode
-      held-words =
-          rw (h .rows) (stored-then 0 (pos (t .vars) ∷ pos (t .locs) ∷ pos (t .edges) ∷ []) ws (omega arith) (chart-rows c) ∙ rw (h .vars, h .locs, h .edges))
+    pub held-words : stored 0 (pos (t .vars) ∷ pos (t .locs) ∷ pos (t .edges) ∷ take (used-words t) rows) ws ≡ encode c ++ drop (length (encode c)) ws
+    unfolding stored encode
+    held-words = rw (h .rows, h .vars, h .locs, h .edges)

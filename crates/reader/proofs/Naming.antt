@@ -1,128 +1,93 @@
--- A name among rows is a name among the names that the rows hold. Assumes nothing.
-use mathlib.Core.Path.{_≡_, refl, sym, ap, _∙_, subst}
-use mathlib.Core.Bool.{Bool, true, false, _&&_, _||_, not}
-use mathlib.Core.List.{List, [], _∷_, _++_, append-assoc, map}
-use Prim.Native.Nat.{ℕ, zero, suc, _+_, _*_, _≤_, _<_}
+-- A new name is looked for among the rows that hold the names before it. Assumes nothing.
+use mathlib.Core.Path.{_≡_, refl, sym, ap, _∙_}
+use mathlib.Core.Bool.{Bool, true, false, _&&_, not}
+use mathlib.Core.List.{List, [], _∷_, _++_, append-assoc, append-nil}
+use Prim.Native.Nat.{ℕ, _+_, _-_, _*_}
 use native.Mathlib.Omega.{arith}
-use native.Mathlib.Nat.{sub-zero, suc-sub-suc}
-use lib.Dec.{T, eqb, leb}
-use lib.ListN.{length, drop, length-append, take-append-drop}
+use lib.Dec.{T}
+use lib.ListN.{length, take, drop, length-append}
 use lib.IntN.{ℤ, pos}
 use lib.Seq.{drop-drop, drop-at}
-use borrow.Author.Tests.{ne-eqb, leb-true}
 use Rattle.semantics.specs.Lists.{all, each}
-use Rattle.semantics.specs.Text.{same-bytes, between, name-byte, name-ok}
-use Rattle.semantics.specs.Chart.{Loc}
-use Rattle.semantics.specs.Encoding.{padded, kind-word, loc-words}
-use Rattle.reader.specs.Rows.{name-row, names-it, seen}
-use Rattle.reader.specs.Held.{in-order, Names}
+use Rattle.semantics.specs.Text.{same-bytes, name-ok}
+use Rattle.semantics.specs.Layout.{location-size}
+use Rattle.semantics.specs.Chart.{Loc, Chart}
+use Rattle.semantics.specs.Encoding.{var-words, loc-words, edge-words, loc-in, several}
+use Rattle.semantics.proofs.Encoded.{each-length, several-back, every-of, loc-wide, loc-back}
+use Rattle.words.proofs.Words.{eqZ-sym}
+use Rattle.words.proofs.Rows.{tail}
+use Rattle.chart.specs.Rows.{stored, rows-size, the-location}
+use Rattle.chart.proofs.Names.{other-name}
+use Rattle.reader.specs.Held.{used-words, Rows, as-locations, Names}
+use Rattle.reader.specs.declared.tally.Tally.{Tally}
+use Rattle.reader.proofs.Growing.{each-none, vars-length}
 
-pub and-true : {a b : Bool} → a && b ≡ true → (a ≡ true) × (b ≡ true)
-and-true {a = true} {b} e = (refl, e)
-and-true {a = false} {b} e = absurd (subst T (sym e) tt)
+same-sym : (m n : List ℕ) → same-bytes m n ≡ same-bytes n m
+same-sym [] [] = refl
+same-sym [] (b ∷ n) = refl
+same-sym (a ∷ m) [] = refl
+same-sym (a ∷ m) (b ∷ n) = rw (eqZ-sym (pos a) (pos b), same-sym m n)
 
--- ---- names of form
+-- the names before the new one are compared with it, or it with them
+others : (n : List ℕ) (ls : List Loc) → all (λ m. not (same-bytes n (m .name))) ls ≡ all (λ m. not (same-bytes (m .name) n)) ls
+others n [] = refl
+others n (m ∷ ls) = rw (same-sym n (m .name), others n ls)
 
-name-bytes : (n : List ℕ) → name-ok n ≡ true → all name-byte n ≡ true
-name-bytes n e = and-true {a = between 1 16 (length n)} e .1
+-- `pre` stands before the rows of ls, and that of l after them
+module _ (pre : List ℤ) (ls : List Loc) (l : Loc) (rest : List ℤ) (named : T (all (λ m. name-ok (m .name)) ls)) (o : T (name-ok (l .name))) where
+  abbrev before : List ℤ
+  before = pre ++ (each loc-words ls ++ (loc-words l ++ rest))
 
-pub name-short : (n : List ℕ) → name-ok n ≡ true → length n ≤ 16
-name-short n e = leb-true (length n) 16 (and-true {a = leb 1 (length n)} (and-true {a = between 1 16 (length n)} e .0) .1)
+  new-among : (first at n : ℕ) → length pre ≡ first → n ≡ length ls → at ≡ first + location-size * n
+      → all (other-name (drop at before)) (several loc-in location-size n (drop first before)) ≡ all (λ m. not (same-bytes (m .name) (l .name))) ls
+  new-among first at n p q r =
+      let every = every-of (λ m. name-ok (m .name)) ls named in
+      let d : drop first before ≡ each loc-words ls ++ (loc-words l ++ rest) = drop-at pre _ first p in
+      let k : length (each loc-words ls) ≡ location-size * n = each-length loc-words location-size (λ m. T (name-ok (m .name))) loc-wide ls every ∙ omega arith in
+      let e : drop at before ≡ loc-words l ++ rest = rw (r, ← drop-drop (location-size * n) first before, d) (drop-at (each loc-words ls) (loc-words l ++ rest) (location-size * n) k) in
+      rw (d, e, q, several-back loc-words loc-in location-size (λ m. T (name-ok (m .name))) loc-wide loc-back ls (loc-words l ++ rest) every)
+      (ap (λ (k : Loc). all (λ m. not (same-bytes (k .name) (m .name))) ls) (loc-back l rest o) ∙ others (l .name) ls)
 
-not-zero : (b : ℕ) → name-byte b ≡ true → 0 < b
-unfolding name-byte
-not-zero zero e = absurd (subst T (sym e) tt)
-not-zero (suc b) e = omega arith
+-- ---- among locations
 
--- ---- a name's row
+module _ {t : Tally} {ws : List ℤ} {c : Chart} (h : Rows t ws c) (l : Loc) (none : t .edges ≡ 0) (o : T (name-ok (l .name))) where
+  pub new-location : (at first : ℕ) (ws′ : List ℤ) → ws′ ≡ stored at (loc-words l) ws → at ≡ used-words t → first ≡ rows-size (t .vars) 0 0
+      → all (other-name (take (length ws′ - at) (drop at ws′))) (several loc-in location-size (t .locs) (take (length ws′ - first) (drop first ws′))) ≡ all (λ m. not (same-bytes (m .name) (l .name))) (c .locs)
+  unfolding stored
+  new-location at first ws′ w a f =
+      let vs = each var-words (c .vars) in
+      let rest = drop (length (loc-words l)) (drop at ws) in
+      let e : ws′ ≡ vs ++ (each loc-words (c .locs) ++ (loc-words l ++ rest))
+      = w ∙ rw (ap (λ (n : ℕ). take n ws) a ∙ h .rows, each-none edge-words (c .edges) (omega (arith, h .edges)), append-nil) (append-assoc vs (each loc-words (c .locs)) (loc-words l ++ rest)) in
+      rw (tail ws′ at, tail ws′ first, e) (new-among vs (c .locs) l rest (h .named) o first at (t .locs) (omega (arith, vars-length (c .vars), h .vars)) (h .locs) (omega arith))
 
-pub name-row-length : (k : ℕ) (n : List ℕ) → length (name-row k n) ≡ k
-unfolding name-row
-name-row-length zero n = refl
-name-row-length (suc k) n = ap suc (name-row-length k (drop 1 n))
+-- ---- among names of variables
 
-pub name-row-padded : (k : ℕ) (n : List ℕ) → length n ≤ k → name-row k n ≡ padded k (map pos n)
-unfolding name-row
-name-row-padded zero [] h = refl
-name-row-padded zero (b ∷ bs) h = absurd (omega arith)
-name-row-padded (suc k) [] h = let i = name-row-padded k [] (omega arith) in rw (i, sub-zero, sub-zero)
-name-row-padded (suc k) (b ∷ bs) h = let i = name-row-padded k bs (omega arith) in rw (i, suc-sub-suc)
-
-names-same : (k : ℕ) (m n : List ℕ) (rest : List ℤ) → length m ≤ k → length n ≤ k → all name-byte m ≡ true → all name-byte n ≡ true → names-it k (name-row k m ++ rest) n ≡ same-bytes m n
-unfolding names-it name-row
-names-same zero [] [] rest p q x y = refl
-names-same zero [] (b ∷ bs) rest p q x y = absurd (omega arith)
-names-same zero (a ∷ xs) n rest p q x y = absurd (omega arith)
-names-same (suc k) [] [] rest p q x y = names-same k [] [] rest (omega arith) (omega arith) x y
-names-same (suc k) [] (b ∷ bs) rest p q x y = rw (ne-eqb 0 b (λ e. omega (arith, not-zero b (and-true {a = name-byte b} y .0))))
-names-same (suc k) (a ∷ xs) [] rest p q x y = rw (ne-eqb a 0 (λ e. omega (arith, not-zero a (and-true {a = name-byte a} x .0))))
-names-same (suc k) (a ∷ xs) (b ∷ bs) rest p q x y =
-    ap (λ (t : Bool). eqb a b && t) (names-same k xs bs rest (omega arith) (omega arith) (and-true {a = name-byte a} x .1) (and-true {a = name-byte b} y .1))
-
-pub names-is : (m n : List ℕ) (rest : List ℤ) → name-ok m ≡ true → name-ok n ≡ true → names-it 16 (name-row 16 m ++ rest) n ≡ same-bytes m n
-names-is m n rest x y = names-same 16 m n rest (name-short m x) (name-short n y) (name-bytes m x) (name-bytes n y)
-
--- ---- rows that each end in a name
-
-either : (s a : Bool) → s || not a ≡ not (not s && a)
-either true a = refl
-either false a = refl
-
-module _ {A : Type 0} (head : A → List ℤ) (name : A → List ℕ) (p : ℕ) (long : (a : A) → length (head a) ≡ p) where
-  abbrev rows : List A → List ℤ
-  rows xs = each (λ a. head a ++ name-row 16 (name a)) xs
-
-  first : (x : A) (more : List ℤ) → drop p ((head x ++ name-row 16 (name x)) ++ more) ≡ name-row 16 (name x) ++ more
-  first x more = rw append-assoc (drop-at (head x) (name-row 16 (name x) ++ more) p (long x))
-
-  next : (x : A) (more : List ℤ) → drop (p + 16) (name-row 16 (name x) ++ more) ≡ drop p more
-  next x more =
-      let e : p + 16 ≡ 16 + p = omega arith in
-      rw e (sym (drop-drop p 16 (name-row 16 (name x) ++ more)) ∙ ap (drop p) (drop-at (name-row 16 (name x)) more 16 (name-row-length 16 (name x))))
-
-  pub seen-each : (xs : List A) (rest : List ℤ) (n : List ℕ) → all (λ a. name-ok (name a)) xs ≡ true → name-ok n ≡ true → seen (p + 16) (length xs) (drop p (rows xs ++ rest)) n ≡ not (all (λ a. not (same-bytes (name a) n)) xs)
-  unfolding seen
-  seen-each [] rest n o k = refl
-  seen-each (x ∷ xs) rest n o k =
-      let d : drop p (rows (x ∷ xs) ++ rest) ≡ name-row 16 (name x) ++ (rows xs ++ rest) = rw append-assoc (first x (rows xs ++ rest)) in
-      let f = and-true {a = name-ok (name x)} o in
-      rw (d, names-is (name x) n (rows xs ++ rest) (f .0) k, next x (rows xs ++ rest), seen-each xs rest n (f .1) k)
-      (either (same-bytes (name x) n) (all (λ a. not (same-bytes (name a) n)) xs))
-
--- ---- the two tables
-
-all-snoc : {A : Type 0} (p : A → Bool) (xs : List A) (x : A) → all p (xs ++ (x ∷ [])) ≡ p x && all p xs
-all-snoc p [] x = refl
-all-snoc p (y ∷ ys) x = rw (all-snoc p ys x) (swap (p y) (p x) (all p ys)) where
+all-locations : (p : Loc → Bool) (ns : List (List ℕ)) → all p (as-locations ns) ≡ all (λ n. p (the-location false n)) ns
+all-locations p [] = refl
+all-locations p (n ∷ ns) = snoc (as-locations ns) ∙ ap (λ (b : Bool). p (the-location false n) && b) (all-locations p ns) where
   swap : (a b c : Bool) → a && (b && c) ≡ b && (a && c)
   swap true true c = refl
   swap true false c = refl
   swap false true c = refl
   swap false false c = refl
 
-all-ordered : (p : List ℕ → Bool) (ns : List (List ℕ)) → all p (in-order ns) ≡ all p ns
-all-ordered p [] = refl
-all-ordered p (n ∷ ns) = all-snoc p (in-order ns) n ∙ ap (λ (t : Bool). p n && t) (all-ordered p ns)
+  snoc : (ls : List Loc) → all p (ls ++ (the-location false n ∷ [])) ≡ p (the-location false n) && all p ls
+  snoc [] = refl
+  snoc (m ∷ ls) = rw (snoc ls) (swap (p m) (p (the-location false n)) (all p ls))
 
-length-ordered : (ns : List (List ℕ)) → length (in-order ns) ≡ length ns
-length-ordered [] = refl
-length-ordered (n ∷ ns) = length-append (in-order ns) (n ∷ []) ∙ omega (arith, length-ordered ns)
+length-locations : (ns : List (List ℕ)) → length (as-locations ns) ≡ length ns
+length-locations [] = refl
+length-locations (n ∷ ns) = length-append (as-locations ns) (the-location false n ∷ []) ∙ omega (arith, length-locations ns)
 
-pub names-seen : {k : ℕ} {table : List ℤ} {ns : List (List ℕ)} (n : List ℕ) → Names k table ns → name-ok n ≡ true → seen 16 k table n ≡ not (all (λ m. not (same-bytes m n)) ns)
-names-seen {k} {table} {ns} n h o =
-    let e : table ≡ each (name-row 16) (in-order ns) ++ drop (16 * k) table = sym (take-append-drop (16 * k) table) ∙ ap (λ (l : List ℤ). l ++ drop (16 * k) table) (h .rows) in
-    let c : k ≡ length (in-order ns) = h .count ∙ sym (length-ordered ns) in
-    ap (λ (l : List ℤ). seen 16 k l n) e ∙ ap (λ (j : ℕ). seen 16 j (each (name-row 16) (in-order ns) ++ drop (16 * k) table) n) c
-    ∙ seen-each (λ m. []) (λ (m : List ℕ). m) 0 (λ m. refl) (in-order ns) (drop (16 * k) table) n (all-ordered name-ok ns ∙ h .named) o
-    ∙ ap not (all-ordered (λ m. not (same-bytes m n)) ns)
-
-as-rows : (ls : List Loc) → all (λ l. name-ok (l .name)) ls ≡ true → each loc-words ls ≡ each (λ l. (kind-word (l .error) ∷ []) ++ name-row 16 (l .name)) ls
-as-rows [] o = refl
-as-rows (l ∷ ls) o =
-    let f = and-true {a = name-ok (l .name)} o in
-    rw (as-rows ls (f .1), name-row-padded 16 (l .name) (name-short (l .name) (f .0)))
-
-pub locs-seen : (ls : List Loc) (rest : List ℤ) (n : List ℕ) → all (λ l. name-ok (l .name)) ls ≡ true → name-ok n ≡ true → seen 17 (length ls) (drop 1 (each loc-words ls ++ rest)) n ≡ not (all (λ l. not (same-bytes (l .name) n)) ls)
-locs-seen ls rest n o k =
-    ap (λ (l : List ℤ). seen 17 (length ls) (drop 1 (l ++ rest)) n) (as-rows ls o)
-    ∙ seen-each (λ (l : Loc). kind-word (l .error) ∷ []) (λ l. l .name) 1 (λ l. refl) ls rest n o k
+module _ {n : ℕ} {ws : List ℤ} {ns : List (List ℕ)} (h : Names n ws ns) (name : List ℕ) (o : T (name-ok name)) where
+  pub new-variable : (ws′ : List ℤ) → ws′ ≡ stored (location-size * n) (loc-words (the-location false name)) ws
+      → all (other-name (take (length ws′ - location-size * n) (drop (location-size * n) ws′))) (several loc-in location-size n (take (length ws′ - 0) ws′)) ≡ all (λ m. not (same-bytes m name)) ns
+  unfolding stored
+  new-variable ws′ w =
+      let row = loc-words (the-location false name) in
+      let rest = drop (length row) (drop (location-size * n) ws) in
+      let e : ws′ ≡ each loc-words (as-locations ns) ++ (row ++ rest) = w ∙ rw (h .rows) in
+      rw (tail ws′ (location-size * n), tail ws′ 0, e)
+      (new-among [] (as-locations ns) (the-location false name) rest (rw (all-locations (λ (m : Loc). name-ok (m .name)) ns) (h .named)) o 0 (location-size * n) n refl (h .count ∙ sym (length-locations ns)) (omega arith)
+      ∙ all-locations (λ (m : Loc). not (same-bytes (m .name) name)) ns)

@@ -59,16 +59,16 @@ judged-end text at n s h = rw (lines-done text at h)
 
 -- ---- where reading stands
 
-module _ {text : List ℕ} {at line : ℕ} {t : Tally} {table names : List ℤ} (a : Along text at line t table names) where
+module _ {text : List ℕ} {at line : ℕ} {t : Tally} {rows names : List ℤ} (a : Along text at line t rows names) where
   -- the text is at its end
-  pub all-judged : length text ≤ at → Through text t table
+  pub all-judged : length text ≤ at → Through text t rows
   all-judged h = record { chart = a .read .chart; few = a .few; held = a .held; is = a .is ∙ judged-end text at (line + 1) (a .read) h }
 
   -- one line more
-  pub line-judged : {start end next : ℕ} → Lies text at start end next → (r : Step) (table′ names′ : List ℤ) → Stepped r (judge (a .read) (fields (take (end - start) (drop start text)))) table′ names′
-      → Stands-by (goes-on r) text next (line + 1) r table′ names′
-  line-judged l (step.Refused k) table′ names′ h = a .is ∙ judged-stop text at _ (line + 1) (a .read) (l .here) (l .ends) (rw (l .begins) at h)
-  line-judged l (step.Go u) table′ names′ h = record {
+  pub line-judged : {start end next : ℕ} → Lies text at start end next → (r : Step) (rows′ names′ : List ℤ) → Stepped r (judge (a .read) (fields (take (end - start) (drop start text)))) rows′ names′
+      → Stands-by (goes-on r) text next (line + 1) r rows′ names′
+  line-judged l (step.Refused k) rows′ names′ h = a .is ∙ judged-stop text at _ (line + 1) (a .read) (l .here) (l .ends) (rw (l .begins) at h)
+  line-judged l (step.Go u) rows′ names′ h = record {
     read = h .read;
     few = h .few;
     held = h .held;
@@ -77,27 +77,27 @@ module _ {text : List ℕ} {at line : ℕ} {t : Tally} {table names : List ℤ} 
     is = rw (l .on) (a .is ∙ judged-on text at _ (line + 1) (a .read) (l .here) (l .ends) (rw (l .begins) at (h .is)));
   }
 
-pub at-first : (text : List ℕ) (table names : List ℤ) → Stands text 0 nothing-judged table names
-at-first text table names = record {
+pub at-first : (text : List ℕ) (rows names : List ℤ) → Stands text 0 nothing-judged rows names
+at-first text rows names = record {
   read = nothing-read;
   few = record { vars = omega arith; locs = omega arith; edges = omega arith };
-  held = record { vars = refl; locs = refl; edges = refl; rows = refl; named = refl };
-  names-held = record { count = refl; rows = refl; named = refl };
+  held = record { vars = refl; locs = refl; edges = refl; rows = refl; named = tt };
+  names-held = record { count = refl; rows = refl; named = tt };
   counted = omega arith;
   is = refl;
 }
 
-module _ (text : List ℕ) (at : ℕ) (table names : List ℤ) where
-  few-now : (line : ℕ) (s : Step) → Goes text at line s table names → Few-of s
+module _ (text : List ℕ) (at : ℕ) (rows names : List ℤ) where
+  few-now : (line : ℕ) (s : Step) → Goes text at line s rows names → Few-of s
   few-now line (step.Refused k) h = absurd h
   few-now line (step.Go t) h = h .few
 
-  counted-now : (line : ℕ) (s : Step) → Goes text at line s table names → line ≤ at
+  counted-now : (line : ℕ) (s : Step) → Goes text at line s rows names → line ≤ at
   counted-now line (step.Refused k) h = absurd h
   counted-now line (step.Go t) h = h .counted
 
   -- what `advance` asks
-  pub ready : (p : Descent) (l : Line) → l ≡ line-at text at → p .going ≡ true → Stands text at p table names → Ready text p l
+  pub ready : (p : Descent) (l : Line) → l ≡ line-at text at → p .going ≡ true → Stands text at p rows names → Ready text p l
   ready p l e g h = record { at = at; is = e; few = few-now (p .line) (p .step) (rw g at h); counted = counted-now (p .line) (p .step) (rw g at h) }
 
 -- how many turns are left at most, in a text of n bytes

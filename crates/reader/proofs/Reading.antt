@@ -2,172 +2,76 @@
 -- Assumes nothing.
 use mathlib.Core.Path.{_≡_, refl, sym, ap, _∙_}
 use mathlib.Core.Bool.{Bool, true, false, _&&_}
-use mathlib.Core.List.{List, [], _∷_, _++_}
+use mathlib.Core.List.{List}
 use Prim.Native.Nat.{ℕ, _<_, _≤_}
 use native.Mathlib.Omega.{arith}
-use lib.Dec.{eqb, leb}
-use lib.ListN.{length, getD}
-use lib.IntN.{ℤ, pos}
+use lib.Dec.{eqb, leb, ltb→lt}
+use lib.ListN.{length}
+use lib.IntN.{ℤ}
 use lib.Signed.{leZ}
 use borrow.Author.Tests.{lt-ltb, le-ltb}
 use Rattle.semantics.specs.Lists.{is-empty}
 use Rattle.semantics.specs.Text.{name-ok}
-use Rattle.semantics.specs.Chart.{Value, Var, Operand, Rel, Op, assign, add, sub, input, assume, Edge, Chart, in-range}
-use Rattle.semantics.specs.Encoding.{tag, held, op-words, edge-words}
-use Rattle.semantics.specs.Reading.{Res, fail, ok, check, if-ok, nth, none-empty, number-field, location-field, target-field, operand-field, init-field, kind-field, rel-field, op-word-field, OpWord, do-set, do-add, do-sub, do-in, do-if, do-skip, field-count, op-fields-read, So-far, with-edge, var-line, loc-line, edge-line, filled}
-use Rattle.reader.specs.Lines.{in-table, operand-read, one-read, second-read, two-read, input-read, input-high-read, assume-read, op-read, edge-read, var-low, var-judged, var-named, loc-judged, loc-named, edge-judged, edge-worded}
+use Rattle.semantics.specs.Chart.{Var, input, Edge, Op, Chart, in-range}
+use Rattle.semantics.specs.Reading.{Res, fail, ok, check, if-ok, nth, none-empty, number-field, location-field, target-field, init-field, kind-field, op-word-field, OpWord, field-count, op-fields-read, So-far, with-edge, var-line, loc-line, edge-line, filled}
+use Rattle.semantics.specs.declared.Arithmetic.the-variants as arithmetic
+use Rattle.semantics.proofs.Accepted.{location-is, target-is}
+use Rattle.semantics.proofs.Accepted.{then-ok as passed}
+use Rattle.chart.specs.Encoded.{ranged}
+use Rattle.text.specs.Fields.{the-word}
+use Rattle.text.specs.declared.Action.the-variants as action
+use Rattle.text.specs.declared.OpWord.{OpWord as OpWordHeld}
+use Rattle.text.specs.declared.OpWord.the-variants as word-of
+use Rattle.reader.specs.Lines.{input-read, op-read, edge-read, var-low, var-judged, var-named, loc-judged, loc-named, edge-worded}
 use Rattle.reader.specs.Held.{Rows}
 use Rattle.reader.specs.declared.tally.Tally.{Tally}
 use Rattle.reader.proofs.Growing.{range-held}
 use Rattle.reader.proofs.Holding.{none-empty-list, some-list}
-use Rattle.reader.proofs.Judging.{check-no, check-yes, then-fail, then-ok, check-then, then-map, check-passed, fail-ok, target-below}
-
--- ---- operands
-
-one-via : (code : ℤ) (v : ℕ) (r : Res Operand) → one-read code v r ≡ if-ok (operand-read r) (λ ws. ok (code ∷ pos v ∷ (ws ++ (pos 0 ∷ pos 0 ∷ []))))
-unfolding if-ok
-one-via code v (fail n) = refl
-one-via code v (ok a) = refl
-
-second-via : (code : ℤ) (v : ℕ) (t x : ℤ) (r : Res Operand) → second-read code v t x r ≡ if-ok (operand-read r) (λ ws. ok (code ∷ pos v ∷ t ∷ x ∷ ws))
-unfolding if-ok
-second-via code v t x (fail n) = refl
-second-via code v t x (ok a) = refl
-
-two-via : (code : ℤ) (v : ℕ) (r q : Res Operand) → two-read code v r q ≡ if-ok (operand-read r) (λ ws. second-read code v (getD ws 0 (pos 0)) (getD ws 1 (pos 0)) q)
-unfolding if-ok
-two-via code v (fail n) q = refl
-two-via code v (ok a) q = refl
-
-module _ (code : ℤ) (v : ℕ) (r : Res Operand) where
-  pub one-fail : {k : ℕ} → operand-read r ≡ fail k → one-read code v r ≡ fail k
-  one-fail e = one-via code v r ∙ then-fail _ e
-
-  pub one-ok : {t x : ℤ} → operand-read r ≡ ok (t ∷ x ∷ []) → one-read code v r ≡ ok (code ∷ pos v ∷ t ∷ x ∷ pos 0 ∷ pos 0 ∷ [])
-  one-ok e = one-via code v r ∙ then-ok _ e
-
-  pub second-fail : (t x : ℤ) {k : ℕ} → operand-read r ≡ fail k → second-read code v t x r ≡ fail k
-  second-fail t x e = second-via code v t x r ∙ then-fail _ e
-
-  pub second-ok : (t x : ℤ) {u y : ℤ} → operand-read r ≡ ok (u ∷ y ∷ []) → second-read code v t x r ≡ ok (code ∷ pos v ∷ t ∷ x ∷ u ∷ y ∷ [])
-  second-ok t x e = second-via code v t x r ∙ then-ok _ e
-
-  pub two-fail : (q : Res Operand) {k : ℕ} → operand-read r ≡ fail k → two-read code v r q ≡ fail k
-  two-fail q e = two-via code v r q ∙ then-fail _ e
-
-  pub two-ok : (q : Res Operand) {t x : ℤ} → operand-read r ≡ ok (t ∷ x ∷ []) → two-read code v r q ≡ second-read code v t x q
-  two-ok q e = two-via code v r q ∙ then-ok _ e
+use Rattle.reader.proofs.Judging.{check-no, check-yes, then-fail, then-ok, onward}
 
 -- ---- operations
 
-one-held : (code : ℤ) (f : ℕ → Operand → Op) → ((v : ℕ) (a : Operand) → op-words (f v a) ≡ code ∷ pos v ∷ tag a ∷ held a ∷ pos 0 ∷ pos 0 ∷ []) → (t : Res ℕ) (r : Res Operand)
-    → if-ok t (λ v. one-read code v r) ≡ if-ok (if-ok t (λ v. if-ok r (λ a. ok (f v a)))) (λ o. ok (op-words o))
-unfolding if-ok
-one-held code f e (fail n) r = refl
-one-held code f e (ok v) (fail n) = refl
-one-held code f e (ok v) (ok a) = ap ok (sym (e v a))
-
-two-held : (code : ℤ) (f : ℕ → Operand → Operand → Op) → ((v : ℕ) (a b : Operand) → op-words (f v a b) ≡ code ∷ pos v ∷ tag a ∷ held a ∷ tag b ∷ held b ∷ []) → (t : Res ℕ) (r q : Res Operand)
-    → if-ok t (λ v. two-read code v r q) ≡ if-ok (if-ok t (λ v. if-ok r (λ a. if-ok q (λ b. ok (f v a b))))) (λ o. ok (op-words o))
-unfolding if-ok
-two-held code f e (fail n) r q = refl
-two-held code f e (ok v) (fail n) q = refl
-two-held code f e (ok v) (ok a) (fail n) = refl
-two-held code f e (ok v) (ok a) (ok b) = ap ok (sym (e v a b))
-
-assume-held : (t : Res ℕ) (r : Res Rel) (q : Res Operand)
-    → if-ok t (λ v. assume-read v r q) ≡ if-ok (if-ok t (λ v. if-ok r (λ x. if-ok q (λ a. ok (assume v x a))))) (λ o. ok (op-words o))
-unfolding if-ok
-assume-held (fail n) r q = refl
-assume-held (ok v) (fail n) q = refl
-assume-held (ok v) (ok x) (fail n) = refl
-assume-held (ok v) (ok x) (ok a) = refl
-
-module _ (table : List ℤ) (vars : List Var) (ranges : (k : ℕ) (z : ℤ) → k < length vars → in-table table k z ≡ in-range vars k z) where
-  input-high-held : (v : ℕ) → v < length vars → (p : ℤ) (r : Res ℤ)
-      → input-high-read table v p r ≡ if-ok (if-ok r (λ q. check (in-range vars v q && leZ p q) 7 (ok (input v p q)))) (λ o. ok (op-words o))
-  unfolding if-ok
-  input-high-held v l p (fail n) = refl
-  input-high-held v l p (ok q) = rw (ranges v q l) (sym (check-then (in-range vars v q && leZ p q) 7 (ok (input v p q)) (λ o. ok (op-words o))))
-
+-- by the ranges in the rows, and by those of the variables
+module _ (rows : List ℤ) (vars : List Var) (ranges : (k : ℕ) (z : ℤ) → k < length vars → ranged rows k z ≡ in-range vars k z) where
   input-held : (t : Res ℕ) → ((v : ℕ) → t ≡ ok v → v < length vars) → (r q : Res ℤ)
-      → if-ok t (λ v. input-read table v r q)
-      ≡ if-ok (if-ok t (λ v. if-ok r (λ p. check (in-range vars v p) 7 (if-ok q (λ z. check (in-range vars v z && leZ p z) 7 (ok (input v p z))))))) (λ o. ok (op-words o))
+      → if-ok t (λ v. input-read rows v r q)
+      ≡ if-ok t (λ v. if-ok r (λ p. check (in-range vars v p) 7 (if-ok q (λ z. check (in-range vars v z && leZ p z) 7 (ok (input v p z))))))
   unfolding if-ok
   input-held (fail n) b r q = refl
   input-held (ok v) b (fail n) q = refl
-  input-held (ok v) b (ok p) q =
-      rw (ranges v p (b v refl), input-high-held v (b v refl) p q)
-      (sym (check-then (in-range vars v p) 7 (if-ok q (λ z. check (in-range vars v z && leZ p z) 7 (ok (input v p z)))) (λ o. ok (op-words o))))
+  input-held (ok v) b (ok p) (fail n) = rw (ranges v p (b v refl))
+  input-held (ok v) b (ok p) (ok z) = rw (ranges v p (b v refl), ranges v z (b v refl))
 
--- the operation's words
-pub op-held : (table : List ℤ) (c : Chart) → ((k : ℕ) (z : ℤ) → k < length (c .vars) → in-table table k z ≡ in-range (c .vars) k z) → (w : OpWord) (fs : List (List ℕ))
-    → op-read table (length (c .vars)) w fs ≡ if-ok (op-fields-read c w fs) (λ o. ok (op-words o))
+op-held : (rows : List ℤ) (c : Chart) → ((k : ℕ) (z : ℤ) → k < length (c .vars) → ranged rows k z ≡ in-range (c .vars) k z) → (w : OpWordHeld) (fs : List (List ℕ))
+    → op-read rows (length (c .vars)) w fs ≡ op-fields-read c (the-word w) fs
 unfolding op-fields-read
-op-held table c ranges do-skip fs = sym (then-ok (λ o. ok (op-words o)) refl)
-op-held table c ranges do-set fs = one-held (pos 1) assign (λ v a. refl) (target-field (length (c .vars)) (nth fs 4)) (operand-field (length (c .vars)) (nth fs 5))
-op-held table c ranges do-add fs =
-    two-held (pos 2) add (λ v a b. refl) (target-field (length (c .vars)) (nth fs 4)) (operand-field (length (c .vars)) (nth fs 5)) (operand-field (length (c .vars)) (nth fs 6))
-op-held table c ranges do-sub fs =
-    two-held (pos 3) sub (λ v a b. refl) (target-field (length (c .vars)) (nth fs 4)) (operand-field (length (c .vars)) (nth fs 5)) (operand-field (length (c .vars)) (nth fs 6))
-op-held table c ranges do-in fs =
-    input-held table (c .vars) ranges (target-field (length (c .vars)) (nth fs 4)) (λ v e. target-below (length (c .vars)) (nth fs 4) e) (number-field (nth fs 5)) (number-field (nth fs 6))
-op-held table c ranges do-if fs =
-    assume-held (target-field (length (c .vars)) (nth fs 4)) (rel-field (nth fs 5)) (operand-field (length (c .vars)) (nth fs 6))
+op-held rows c ranges word-of.Skip fs = refl
+op-held rows c ranges (word-of.With action.Set) fs = refl
+op-held rows c ranges (word-of.With (action.Compute arithmetic.Add)) fs = refl
+op-held rows c ranges (word-of.With (action.Compute arithmetic.Sub)) fs = refl
+op-held rows c ranges (word-of.With action.In) fs =
+    let n = length (c .vars) in
+    input-held rows (c .vars) ranges (target-field n (nth fs 4)) (λ v e. ltb→lt v n (target-is n (nth fs 4) v e)) (number-field (nth fs 5)) (number-field (nth fs 6))
+op-held rows c ranges (word-of.With action.If) fs = refl
 
 -- ---- edges
 
-edge-via : (a b : Res ℕ) (o : Res Op)
-    → if-ok a (λ from. if-ok b (λ to. if-ok (if-ok o (λ x. ok (op-words x))) (λ ws. ok (pos from ∷ pos to ∷ ws))))
-    ≡ if-ok (if-ok a (λ from. if-ok b (λ to. if-ok o (λ x. ok (record { from = from; to = to; op = x }))))) (λ g. ok (edge-words g))
-unfolding if-ok
-edge-via (fail n) b o = refl
-edge-via (ok f) (fail n) o = refl
-edge-via (ok f) (ok t) (fail n) = refl
-edge-via (ok f) (ok t) (ok x) = refl
+-- a line with as many fields as it is to have
+pub edge-counted : {t : Tally} {ws : List ℤ} (s : So-far) → Rows t ws (s .chart) → (w : OpWordHeld) (fs : List (List ℕ)) → eqb (length fs) (field-count (the-word w)) ≡ true
+    → edge-worded s (the-word w) fs ≡ if-ok (edge-read (t .locs) (op-read ws (t .vars) w fs) fs) (λ g. ok (with-edge s g))
+edge-counted {t} {ws} s h w fs e = check-yes _ _ e ∙ rw (h .vars, h .locs, op-held ws (s .chart) (λ k z l. range-held h k z (omega (arith, h .vars))) w fs)
 
-pub edge-held : (table : List ℤ) (c : Chart) → ((k : ℕ) (z : ℤ) → k < length (c .vars) → in-table table k z ≡ in-range (c .vars) k z) → (w : OpWord) (fs : List (List ℕ))
-    → edge-read (length (c .locs)) (op-read table (length (c .vars)) w fs) fs ≡ if-ok (edge-judged c w fs) (λ g. ok (edge-words g))
-unfolding edge-judged
-edge-held table c ranges w fs =
-    rw (op-held table c ranges w fs) (edge-via (location-field (length (c .locs)) (nth fs 1)) (location-field (length (c .locs)) (nth fs 2)) (op-fields-read c w fs))
-
--- an edge's words are those of an edge that was read
-pub record Read (r : Res Edge) (row : List ℤ) : Type 0 where
-  pub edge : Edge
-  pub is : r ≡ ok edge
-  pub words : row ≡ edge-words edge
-
-pub edge-ok : (r : Res Edge) (row : List ℤ) → if-ok r (λ g. ok (edge-words g)) ≡ ok row → Read r row
-unfolding if-ok
-edge-ok (fail n) row e = fail-ok e
-edge-ok (ok g) row e = record { edge = g; is = refl; words = cc }
-
-pub edge-fail : (r : Res Edge) {k : ℕ} → if-ok r (λ g. ok (edge-words g)) ≡ fail k → r ≡ fail k
-unfolding if-ok
-edge-fail (fail n) e = cc
-edge-fail (ok g) {k} e = fail-ok (sym e)
+-- an edge's locations are among those of the chart
+pub edge-near : (m : ℕ) (r : Res Op) (fs : List (List ℕ)) {g : Edge} → edge-read m r fs ≡ ok g → (g .from < m) × (g .to < m)
+edge-near m r fs {g} e =
+    let f = passed _ _ e in
+    let t = passed _ _ (f .2) in
+    let o = passed _ _ (t .2) in
+    let p : f .0 ≡ g .from = cc (o .2) in
+    let q : t .0 ≡ g .to = cc (o .2) in
+    (omega (arith, ltb→lt (f .0) m (location-is m (nth fs 1) (f .0) (f .1))), omega (arith, ltb→lt (t .0) m (location-is m (nth fs 2) (t .0) (t .1))))
 
 -- ---- lines
-
-edge-tail : (s : So-far) (a b : Res ℕ) (o : Res Op)
-    → if-ok (if-ok a (λ from. if-ok b (λ to. if-ok o (λ x. ok (record { from = from; to = to; op = x }))))) (λ g. ok (with-edge s g))
-    ≡ if-ok a (λ from. if-ok b (λ to. if-ok o (λ x. ok (with-edge s (record { from = from; to = to; op = x })))))
-unfolding if-ok
-edge-tail s (fail n) b o = refl
-edge-tail s (ok f) (fail n) o = refl
-edge-tail s (ok f) (ok t) (fail n) = refl
-edge-tail s (ok f) (ok t) (ok x) = refl
-
-var-tail : {A : Type 0} (a b : Res ℤ) (i : ℤ → ℤ → Res Value) (g : Var → Res A)
-    → if-ok (if-ok a (λ lo. if-ok b (λ hi. check (leZ lo hi) 7 (if-ok (i lo hi) (λ x. ok (record { lo = lo; hi = hi; init = x })))))) g
-    ≡ if-ok a (λ lo. if-ok b (λ hi. check (leZ lo hi) 7 (if-ok (i lo hi) (λ x. g (record { lo = lo; hi = hi; init = x })))))
-unfolding if-ok
-var-tail (fail n) b i g = refl
-var-tail (ok lo) (fail n) i g = refl
-var-tail (ok lo) (ok hi) i g =
-    check-then (leZ lo hi) 7 (if-ok (i lo hi) (λ x. ok (record { lo = lo; hi = hi; init = x }))) g
-    ∙ ap (check (leZ lo hi) 7) (then-map (i lo hi) (λ x. record { lo = lo; hi = hi; init = x }) g)
 
 module _ (s : So-far) (fs : List (List ℕ)) where
   pub edge-full : 256 ≤ length (s .chart .edges) → edge-line s fs ≡ fail 8
@@ -185,20 +89,14 @@ module _ (s : So-far) (fs : List (List ℕ)) where
       edge-no-word e = check-yes _ _ (lt-ltb _ _ few) ∙ check-yes _ _ enough ∙ then-fail _ e
 
       pub edge-word : {w : OpWord} → op-word-field (nth fs 3) ≡ ok w → edge-line s fs ≡ edge-worded s w fs
-      unfolding edge-line edge-judged
+      unfolding edge-line
       edge-word {w} e =
           check-yes _ _ (lt-ltb _ _ few) ∙ check-yes _ _ enough ∙ then-ok _ e
-          ∙ ap (check (eqb (length fs) (field-count w)) 5) (sym (edge-tail s (location-field (length (s .chart .locs)) (nth fs 1)) (location-field (length (s .chart .locs)) (nth fs 2)) (op-fields-read (s .chart) w fs)))
+          ∙ ap (check (eqb (length fs) (field-count w)) 5) (sym (simp onward))
 
-pub var-name-ok : (fs : List (List ℕ)) {v : Var} → var-judged fs ≡ ok v → name-ok (nth fs 1) ≡ true
-var-name-ok fs e = check-passed (name-ok (nth fs 1)) _ _ (check-passed (filled 5 fs) _ _ e .1) .0
+-- ---- by the counts and the words that hold the chart
 
-pub loc-name-ok : (fs : List (List ℕ)) {k : Bool} → loc-judged fs ≡ ok k → name-ok (nth fs 1) ≡ true
-loc-name-ok fs e = check-passed (name-ok (nth fs 1)) _ _ (check-passed (filled 3 fs) _ _ e .1) .0
-
--- ---- by the counts and the table that hold the chart
-
-module _ (s : So-far) (fs : List (List ℕ)) {t : Tally} {table : List ℤ} (h : Rows t table (s .chart)) where
+module _ (s : So-far) (fs : List (List ℕ)) {t : Tally} {ws : List ℤ} (h : Rows t ws (s .chart)) where
   -- a location
   pub loc-late : (t .edges ≡ 0 → ⊥) → loc-line s fs ≡ fail 4
   unfolding loc-line
@@ -216,8 +114,7 @@ module _ (s : So-far) (fs : List (List ℕ)) {t : Tally} {table : List ℤ} (h :
     unfolding loc-line
     loc-read n =
         check-yes _ _ no-edges ∙ check-yes _ _ (lt-ltb (length (s .chart .locs)) 64 (omega (arith, h .locs, n)))
-        ∙ sym (check-then (filled 3 fs) 5 (check (name-ok (nth fs 1)) 6 (kind-field (nth fs 2))) (λ k. loc-named s (nth fs 1) k)
-        ∙ ap (check (filled 3 fs) 5) (check-then (name-ok (nth fs 1)) 6 (kind-field (nth fs 2)) (λ k. loc-named s (nth fs 1) k)))
+        ∙ sym (simp onward)
 
   -- a variable
   pub var-after-loc : (t .locs ≡ 0 → ⊥) → var-line s fs ≡ fail 4
@@ -244,15 +141,4 @@ module _ (s : So-far) (fs : List (List ℕ)) {t : Tally} {table : List ℤ} (h :
       unfolding var-line
       var-read n =
           check-yes _ _ early ∙ check-yes _ _ (lt-ltb (length (s .chart .vars)) 8 (omega (arith, h .vars, n)))
-          ∙ sym (check-then (filled 5 fs) 5 (check (name-ok (nth fs 1)) 6 low) g
-          ∙ ap (check (filled 5 fs) 5) (check-then (name-ok (nth fs 1)) 6 low g ∙ ap (check (name-ok (nth fs 1)) 6) (var-tail (number-field (nth fs 2)) (number-field (nth fs 3)) (λ lo hi. init-field lo hi (nth fs 4)) g))) where
-            low : Res Var
-            low = var-low fs
-
-            g : Var → Res So-far
-            g v = var-named s (nth fs 1) v
-
--- an edge
-pub edges-held : {t : Tally} {table : List ℤ} {c : Chart} → Rows t table c → (w : OpWord) (fs : List (List ℕ))
-    → edge-read (t .locs) (op-read table (t .vars) w fs) fs ≡ if-ok (edge-judged c w fs) (λ g. ok (edge-words g))
-edges-held {t} {table} {c} h w fs = rw (h .vars, h .locs) (edge-held table c (λ k z l. range-held h k z (omega (arith, h .vars))) w fs)
+          ∙ sym (simp onward)

@@ -1,19 +1,20 @@
--- What was read so far as the code holds it: counts, the table of rows, and the names of the variables. Assumes
--- nothing.
+-- What was read so far as the code holds it: counts, the chart's rows, and the names of the variables. Assumes nothing.
 use mathlib.Core.Path.{_≡_}
 use mathlib.Core.Bool.{Bool, true, false}
 use mathlib.Core.List.{List, [], _∷_, _++_, map}
 use Prim.Native.Nat.{ℕ, _+_, _*_, _≤_, _<_}
+use lib.Dec.{T}
 use lib.ListN.{length, take, drop}
 use lib.IntN.{ℤ}
 use Rattle.semantics.specs.Lists.{all, each, is-empty}
 use Rattle.semantics.specs.Text.{name-ok, lines, fields}
-use Rattle.semantics.specs.Chart.{Chart}
+use Rattle.semantics.specs.Chart.{Loc, Chart}
+use Rattle.semantics.specs.Layout.{location-size}
 use Rattle.semantics.specs.Encoding.{var-words, loc-words, edge-words}
 use Rattle.semantics.specs.Reading.{Res, fail, ok, So-far, Reading, nothing-read, refused, ended, judged}
 use Rattle.text.specs.Places.{line-at, place-after}
 use Rattle.text.specs.declared.lines.Line.{Line}
-use Rattle.reader.specs.Rows.{name-row}
+use Rattle.chart.specs.Rows.{rows-size, the-location}
 use Rattle.reader.specs.declared.Descent.{Descent}
 use Rattle.reader.specs.declared.tally.Tally.{Tally}
 use Rattle.reader.specs.declared.tally.Step.{Step}
@@ -25,7 +26,7 @@ chart-rows c = each var-words (c .vars) ++ (each loc-words (c .locs) ++ each edg
 
 -- the words of so many rows
 abbrev pub used-words : Tally → ℕ
-used-words t = 3 * t .vars + 17 * t .locs + 8 * t .edges
+used-words t = rows-size (t .vars) (t .locs) (t .edges)
 
 -- no more than a chart has
 pub record Few (t : Tally) : Type 0 where
@@ -33,37 +34,37 @@ pub record Few (t : Tally) : Type 0 where
   pub locs : t .locs ≤ 64
   pub edges : t .edges ≤ 256
 
--- the counts and the table hold the chart
-pub record Rows (t : Tally) (table : List ℤ) (c : Chart) : Type 0 where
+-- the counts and the words hold the chart
+pub record Rows (t : Tally) (ws : List ℤ) (c : Chart) : Type 0 where
   pub vars : t .vars ≡ length (c .vars)
   pub locs : t .locs ≡ length (c .locs)
   pub edges : t .edges ≡ length (c .edges)
-  pub rows : take (used-words t) table ≡ chart-rows c
-  pub named : all (λ l. name-ok (l .name)) (c .locs) ≡ true
+  pub rows : take (used-words t) ws ≡ chart-rows c
+  pub named : T (all (λ l. name-ok (l .name)) (c .locs))
 
--- names in the order of their lines
-abbrev pub in-order : List (List ℕ) → List (List ℕ)
-in-order [] = []
-in-order (n ∷ ns) = in-order ns ++ (n ∷ [])
+-- the names, which the definitions keep the last first, as ordinary locations in the order of their lines
+abbrev pub as-locations : List (List ℕ) → List Loc
+as-locations [] = []
+as-locations (n ∷ ns) = as-locations ns ++ (the-location false n ∷ [])
 
--- n rows hold the names of the variables, which the definitions keep the last first
-pub record Names (n : ℕ) (table : List ℤ) (names : List (List ℕ)) : Type 0 where
+-- the words hold n names of variables
+pub record Names (n : ℕ) (ws : List ℤ) (names : List (List ℕ)) : Type 0 where
   pub count : n ≡ length names
-  pub rows : take (16 * n) table ≡ each (name-row 16) (in-order names)
-  pub named : all name-ok names ≡ true
+  pub rows : take (location-size * n) ws ≡ each loc-words (as-locations names)
+  pub named : T (all name-ok names)
 
--- a line goes on: to the counts t, the table and the names
-pub record Gone (r : Res So-far) (t : Tally) (table names : List ℤ) : Type 0 where
+-- a line goes on: to the counts t, the rows and the names
+pub record Gone (r : Res So-far) (t : Tally) (rows names : List ℤ) : Type 0 where
   pub read : So-far
   pub is : r ≡ ok read
   pub few : Few t
-  pub held : Rows t table (read .chart)
+  pub held : Rows t rows (read .chart)
   pub names-held : Names (t .vars) names (read .names)
 
 -- what the code answers to a line that comes to r, and what it leaves
 abbrev pub Stepped : Step → Res So-far → List ℤ → List ℤ → Type 0
-Stepped (step.Refused k) r table names = r ≡ fail k
-Stepped (step.Go t) r table names = Gone r t table names
+Stepped (step.Refused k) r rows names = r ≡ fail k
+Stepped (step.Go t) r rows names = Gone r t rows names
 
 -- ---- "The reader goes down the chart file line by line" (document 01, The chart file)
 
@@ -81,39 +82,39 @@ abbrev pub nothing-judged : Descent
 nothing-judged = record { going = true; line = 0; step = step.Go (record { vars = 0; locs = 0; edges = 0 }) }
 
 -- so many lines are judged, and the reader is at the place `at`: what was read so far, and what is left
-pub record Along (text : List ℕ) (at line : ℕ) (t : Tally) (table names : List ℤ) : Type 0 where
+pub record Along (text : List ℕ) (at line : ℕ) (t : Tally) (rows names : List ℤ) : Type 0 where
   pub read : So-far
   pub few : Few t
-  pub held : Rows t table (read .chart)
+  pub held : Rows t rows (read .chart)
   pub names-held : Names (t .vars) names (read .names)
   pub counted : line ≤ at
   pub is : lines-judged text ≡ judged (line + 1) read (map fields (lines (drop at text)))
 
 -- all the lines are judged
-pub record Through (text : List ℕ) (t : Tally) (table : List ℤ) : Type 0 where
+pub record Through (text : List ℕ) (t : Tally) (rows : List ℤ) : Type 0 where
   pub chart : Chart
   pub few : Few t
-  pub held : Rows t table chart
+  pub held : Rows t rows chart
   pub is : lines-judged text ≡ ended (is-empty (chart .locs)) chart
 
 -- reading goes on after a line, which was not refused
 abbrev pub Goes : List ℕ → ℕ → ℕ → Step → List ℤ → List ℤ → Type 0
-Goes text at line (step.Refused k) table names = ⊥
-Goes text at line (step.Go t) table names = Along text at line t table names
+Goes text at line (step.Refused k) rows names = ⊥
+Goes text at line (step.Go t) rows names = Along text at line t rows names
 
 -- reading is over: the last line was refused, or there is no other
 abbrev pub Came : List ℕ → ℕ → Step → List ℤ → Type 0
-Came text line (step.Refused k) table = lines-judged text ≡ refused k line
-Came text line (step.Go t) table = Through text t table
+Came text line (step.Refused k) rows = lines-judged text ≡ refused k line
+Came text line (step.Go t) rows = Through text t rows
 
 -- where reading stands, by whether it goes on
 abbrev pub Stands-by : Bool → List ℕ → ℕ → ℕ → Step → List ℤ → List ℤ → Type 0
-Stands-by true text at line s table names = Goes text at line s table names
-Stands-by false text at line s table names = Came text line s table
+Stands-by true text at line s rows names = Goes text at line s rows names
+Stands-by false text at line s rows names = Came text line s rows
 
 -- where reading stands, with the reader at the place `at`
 abbrev pub Stands : List ℕ → ℕ → Descent → List ℤ → List ℤ → Type 0
-Stands text at p table names = Stands-by (p .going) text at (p .line) (p .step) table names
+Stands text at p rows names = Stands-by (p .going) text at (p .line) (p .step) rows names
 
 -- the counts of a line that went on are no more than a chart has
 abbrev pub Few-of : Step → Type 0
@@ -129,4 +130,4 @@ pub record Ready (text : List ℕ) (p : Descent) (l : Line) : Type 0 where
 
 -- by the line l reading goes from p to r, and comes to no other line where there is none
 abbrev pub Advanced : List ℕ → Line → Descent → List ℤ → List ℤ → Descent → List ℤ → List ℤ → Type 0
-Advanced text l p table names r table′ names′ = (at : ℕ) → l ≡ line-at text at → p .going ≡ true → Stands text at p table names → Stands text (place-after l at) r table′ names′ × (r .going ≡ true → at < length text)
+Advanced text l p rows names r rows′ names′ = (at : ℕ) → l ≡ line-at text at → p .going ≡ true → Stands text at p rows names → Stands text (place-after l at) r rows′ names′ × (r .going ≡ true → at < length text)

@@ -1,6 +1,6 @@
 // Reading a chart file: from its bytes to the words of the encoded chart, or the refusal's number and line. In this
-// crate `table` is the table of the chart's rows, that is the encoded chart but for its three counts; and `names` that
-// of the variables' names, which are looked for and not encoded.
+// crate `rows` are the chart's, that is the encoded chart but for its three counts; and `names` are rows with the
+// variables' names, which are looked for and not encoded.
 ghost use mathlib.Core.Path.{_≡_};
 ghost use lib.ListN.{length};
 ghost use lib.Dec.{ltb};
@@ -16,12 +16,11 @@ mod edge;
 mod location;
 mod operation;
 mod scan;
-mod store;
 mod tally;
 mod variable;
 
-use semantics::COUNTS_WORDS;
-use semantics::ROWS_WORDS;
+use chart::COUNTS_WORDS;
+use chart::ROWS_WORDS;
 use tally::NAMES_WORDS;
 use tally::Step;
 use tally::Tally;
@@ -31,47 +30,45 @@ use tally::used_words;
 const MOST_BYTES: usize = 32768;
 
 // The rows to the words lent, after their counts; or 14, where these are too few.
-fn hold(t: Tally, table: &[i32], words: &mut [i32]) -> semantics::Answer
-    requires { ⌜ Few t × (length (now table) ≡ 3160) ⌝ }
-    ensures { λ r. ⌜ ((c : Chart) → Rows t (now (table .entry)) c → r ≡ chart-outcome c (now (words .entry)) .answer) ⌝ }
-    ensures { λ _. ⌜ ((c : Chart) → Rows t (now (table .entry)) c → now (words .exit) ≡ chart-outcome c (now (words .entry)) .words) ⌝ }
+fn hold(t: Tally, rows: &[i32], words: &mut [i32]) -> semantics::Answer
+    requires { ⌜ Few t × (length (now rows) ≡ 3160) ⌝ }
+    ensures { λ r. ⌜ ((c : Chart) → Rows t (now (rows .entry)) c → r ≡ chart-outcome c (now (words .entry)) .answer) ⌝ }
+    ensures { λ _. ⌜ ((c : Chart) → Rows t (now (rows .entry)) c → now (words .exit) ≡ chart-outcome c (now (words .entry)) .words) ⌝ }
 {
     let size = used_words(t);
     if words.len() < size + COUNTS_WORDS {
         return semantics::refused(14, 0);
     }
-    let counts = [t.vars as i32, t.locs as i32, t.edges as i32];
-    store::push_row(words, 0, &counts);
-    store::push_row(words, COUNTS_WORDS, &table[..size]);
+    chart::put_chart(words, t.vars, t.locs, t.edges, &rows[..size]);
     semantics::gone_through(0)
 }
 
 // After the last line: 8, where there is no location.
-fn finish(t: Tally, table: &[i32], words: &mut [i32]) -> semantics::Answer
-    requires { ⌜ Few t × (length (now table) ≡ 3160) ⌝ }
-    ensures { λ r. ⌜ ((c : Chart) → Rows t (now (table .entry)) c → r ≡ held-by (ended (is-empty (c .locs)) c) (now (words .entry)) .answer) ⌝ }
-    ensures { λ _. ⌜ ((c : Chart) → Rows t (now (table .entry)) c → now (words .exit) ≡ held-by (ended (is-empty (c .locs)) c) (now (words .entry)) .words) ⌝ }
+fn finish(t: Tally, rows: &[i32], words: &mut [i32]) -> semantics::Answer
+    requires { ⌜ Few t × (length (now rows) ≡ 3160) ⌝ }
+    ensures { λ r. ⌜ ((c : Chart) → Rows t (now (rows .entry)) c → r ≡ held-by (ended (is-empty (c .locs)) c) (now (words .entry)) .answer) ⌝ }
+    ensures { λ _. ⌜ ((c : Chart) → Rows t (now (rows .entry)) c → now (words .exit) ≡ held-by (ended (is-empty (c .locs)) c) (now (words .entry)) .words) ⌝ }
 {
     if t.locs == 0 {
         return semantics::refused(8, 0);
     }
-    hold(t, table, words)
+    hold(t, rows, words)
 }
 
 // One line, by its kind.
-fn step(t: Tally, table: &mut [i32], names: &mut [i32], line: &[u8]) -> Step
-    requires { ⌜ Few t × (length (now table) ≡ 3160) × (length (now names) ≡ 128) ⌝ }
-    ensures { λ r. ⌜ ((s : So-far) → Rows t (now (table .entry)) (s .chart) → Names (t .vars) (now (names .entry)) (s .names) → Stepped r (judge s (fields (now (line .entry)))) (now (table .exit)) (now (names .exit))) ⌝ }
+fn step(t: Tally, rows: &mut [i32], names: &mut [i32], line: &[u8]) -> Step
+    requires { ⌜ Few t × (length (now rows) ≡ 3160) × (length (now names) ≡ 136) ⌝ }
+    ensures { λ r. ⌜ ((s : So-far) → Rows t (now (rows .entry)) (s .chart) → Names (t .vars) (now (names .entry)) (s .names) → Stepped r (judge s (fields (now (line .entry)))) (now (rows .exit)) (now (names .exit))) ⌝ }
 {
     let kind = text::field(line, 0);
     if text::same_bytes(kind, b"V") {
-        return variable::read_line(t, table, names, line);
+        return variable::read_line(t, rows, names, line);
     }
     if text::same_bytes(kind, b"L") {
-        return location::read_line(t, table, line);
+        return location::read_line(t, rows, line);
     }
     if text::same_bytes(kind, b"E") {
-        return edge::read_line(t, table, line);
+        return edge::read_line(t, rows, line);
     }
     Step::Refused(4)
 }
@@ -96,13 +93,13 @@ fn goes(s: Step) -> bool
 // One line more; or the text is at its end.
 fn advance(
     p: Descent,
-    table: &mut [i32],
+    rows: &mut [i32],
     names: &mut [i32],
     text: &[u8],
     l: text::lines::Line,
 ) -> Descent
-    requires { ⌜ Ready (now text) p l × (length (now table) ≡ 3160) × (length (now names) ≡ 128) ⌝ }
-    ensures { λ r. ⌜ Advanced (now (text .entry)) l p (now (table .entry)) (now (names .entry)) r (now (table .exit)) (now (names .exit)) ⌝ }
+    requires { ⌜ Ready (now text) p l × (length (now rows) ≡ 3160) × (length (now names) ≡ 136) ⌝ }
+    ensures { λ r. ⌜ Advanced (now (text .entry)) l p (now (rows .entry)) (now (names .entry)) r (now (rows .exit)) (now (names .exit)) ⌝ }
 {
     let s = p.step;
     let Step::Go(t) = s else {
@@ -115,7 +112,7 @@ fn advance(
             step: s,
         };
     };
-    let after = step(t, table, names, &text[start..end]);
+    let after = step(t, rows, names, &text[start..end]);
     Descent {
         going: goes(after),
         line: p.line + 1,
@@ -139,16 +136,16 @@ fn begun() -> Descent
 }
 
 // The reader goes down the text line by line, and each line is judged. Proved by hand: the reader lies in a local.
-fn go_down(text: &[u8], table: &mut [i32], names: &mut [i32]) -> Descent
-    requires { ⌜ (length (now table) ≡ 3160) × (length (now names) ≡ 128) ⌝ }
-    ensures { λ r. ⌜ Came (now (text .entry)) (r .line) (r .step) (now (table .exit)) ⌝ }
+fn go_down(text: &[u8], rows: &mut [i32], names: &mut [i32]) -> Descent
+    requires { ⌜ (length (now rows) ≡ 3160) × (length (now names) ≡ 136) ⌝ }
+    ensures { λ r. ⌜ Came (now (text .entry)) (r .line) (r .step) (now (rows .exit)) ⌝ }
 {
     let mut r = text::lines::open(text);
     let mut p = begun();
     while p.going {
         let l = text::lines::current(r);
         r.at = text::lines::place_after(l, r.at);
-        p = advance(p, table, names, text, l);
+        p = advance(p, rows, names, text, l);
     }
     p
 }
@@ -158,13 +155,13 @@ fn read_lines(text: &[u8], words: &mut [i32]) -> semantics::Answer
     ensures { λ r. ⌜ r ≡ held-by (lines-judged (now (text .entry))) (now (words .entry)) .answer ⌝ }
     ensures { λ _. ⌜ now (words .exit) ≡ held-by (lines-judged (now (text .entry))) (now (words .entry)) .words ⌝ }
 {
-    let mut table = [0i32; ROWS_WORDS];
+    let mut rows = [0i32; ROWS_WORDS];
     let mut names = [0i32; NAMES_WORDS];
-    let p = go_down(text, &mut table, &mut names);
+    let p = go_down(text, &mut rows, &mut names);
     let s = p.step;
     match s {
         Step::Refused(k) => semantics::refused(k, p.line),
-        Step::Go(t) => finish(t, &table, words),
+        Step::Go(t) => finish(t, &rows, words),
     }
 }
 

@@ -1,9 +1,7 @@
 // `L name kind`: the line is judged, and its row stored.
-use semantics::LOCATION_WORDS;
 use semantics::MOST_LOCATIONS;
-use semantics::VARIABLE_WORDS;
 ghost use mathlib.Core.Path.{_≡_};
-ghost use mathlib.Core.Bool.{true};
+ghost use lib.Dec.{T};
 ghost use mathlib.Core.List.{List};
 ghost use Prim.Native.Nat.{_<_};
 ghost use lib.IntN.{ℤ};
@@ -13,7 +11,6 @@ ghost use Rattle.semantics.specs.Reading.{So-far, loc-line};
 ghost use Rattle.text.specs.Fields.{kind-res};
 ghost use Rattle.reader.specs.Lines.{loc-judged, loc-named};
 ghost use Rattle.reader.specs.Held.{Few, Rows, Names, Stepped};
-use super::store;
 use super::tally::Step;
 use super::tally::Tally;
 use super::tally::used_words;
@@ -32,21 +29,16 @@ fn judged(line: &[u8]) -> text::KindRead
 }
 
 // A location, if its name is new.
-fn named(t: Tally, table: &mut [i32], error: bool, name: &[u8]) -> Step
-    requires { ⌜ Few t × (t .locs < 64) × (t .edges ≡ 0) × (length (now table) ≡ 3160) ⌝ }
-    ensures { λ r. ⌜ ((s : So-far) (names : List ℤ) → Rows t (now (table .entry)) (s .chart) → Names (t .vars) names (s .names) → name-ok (now (name .entry)) ≡ true → Stepped r (loc-named s (now (name .entry)) error) (now (table .exit)) names) ⌝ }
+fn named(t: Tally, rows: &mut [i32], error: bool, name: &[u8]) -> Step
+    requires { ⌜ T (name-ok (now name)) × Few t × (t .locs < 64) × (t .edges ≡ 0) × (length (now rows) ≡ 3160) ⌝ }
+    ensures { λ r. ⌜ ((s : So-far) (names : List ℤ) → Rows t (now (rows .entry)) (s .chart) → Names (t .vars) names (s .names) → Stepped r (loc-named s (now (name .entry)) error) (now (rows .exit)) names) ⌝ }
 {
-    if store::name_seen(
-        table,
-        VARIABLE_WORDS * t.vars + 1,
-        LOCATION_WORDS,
-        t.locs,
-        name,
-    ) {
+    let first = chart::rows_size(t.vars, 0, 0);
+    let at = used_words(t);
+    chart::put_location(rows, at, error, name);
+    if !chart::name_is_new(&rows[at..], &rows[first..], t.locs) {
         return Step::Refused(9);
     }
-    let at = used_words(t);
-    store::push_location(table, at, error, name);
     Step::Go(Tally {
         vars: t.vars,
         locs: t.locs + 1,
@@ -55,9 +47,9 @@ fn named(t: Tally, table: &mut [i32], error: bool, name: &[u8]) -> Step
 }
 
 // An L line, which stands before every E.
-pub fn read_line(t: Tally, table: &mut [i32], line: &[u8]) -> Step
-    requires { ⌜ Few t × (length (now table) ≡ 3160) ⌝ }
-    ensures { λ r. ⌜ ((s : So-far) (names : List ℤ) → Rows t (now (table .entry)) (s .chart) → Names (t .vars) names (s .names) → Stepped r (loc-line s (fields (now (line .entry)))) (now (table .exit)) names) ⌝ }
+pub fn read_line(t: Tally, rows: &mut [i32], line: &[u8]) -> Step
+    requires { ⌜ Few t × (length (now rows) ≡ 3160) ⌝ }
+    ensures { λ r. ⌜ ((s : So-far) (names : List ℤ) → Rows t (now (rows .entry)) (s .chart) → Names (t .vars) names (s .names) → Stepped r (loc-line s (fields (now (line .entry)))) (now (rows .exit)) names) ⌝ }
 {
     if t.edges != 0 {
         return Step::Refused(4);
@@ -67,6 +59,6 @@ pub fn read_line(t: Tally, table: &mut [i32], line: &[u8]) -> Step
     }
     match judged(line) {
         text::KindRead::Refused(k) => Step::Refused(k),
-        text::KindRead::Is(error) => named(t, table, error, text::field(line, 1)),
+        text::KindRead::Is(error) => named(t, rows, error, text::field(line, 1)),
     }
 }

@@ -1,14 +1,9 @@
 // What the judges of the three kinds of line share: the counts so far, and what a line comes to.
-use semantics::EDGE_WORDS;
-use semantics::LOCATION_WORDS;
-use semantics::MOST_VARIABLES;
-use semantics::NAME_WORDS;
-use semantics::VARIABLE_WORDS;
 ghost use mathlib.Core.Path.{_≡_};
 ghost use Rattle.reader.specs.Held.{Few, used-words};
 
-// The words of the variables' names, where they are the most: 128.
-pub const NAMES_WORDS: usize = NAME_WORDS * MOST_VARIABLES;
+// The rows of the variables' names, where they are the most: 136 words.
+pub const NAMES_WORDS: usize = chart::LOCATION_WORDS * semantics::MOST_VARIABLES;
 
 // How many variables, locations and edges are read.
 pub struct Tally {
@@ -28,5 +23,5 @@ pub fn used_words(t: Tally) -> usize
     requires { ⌜ Few t ⌝ }
     ensures { λ r. ⌜ r ≡ used-words t ⌝ }
 {
-    VARIABLE_WORDS * t.vars + LOCATION_WORDS * t.locs + EDGE_WORDS * t.edges
+    chart::rows_size(t.vars, t.locs, t.edges)
 }

@@ -1,9 +1,7 @@
 // `V name lo hi init`: the line is judged, and its row stored.
 use semantics::MOST_VARIABLES;
-use semantics::NAME_WORDS;
-use semantics::VARIABLE_WORDS;
 ghost use mathlib.Core.Path.{_≡_};
-ghost use mathlib.Core.Bool.{true};
+ghost use lib.Dec.{T};
 ghost use Prim.Native.Nat.{_<_};
 ghost use lib.ListN.{length};
 ghost use Rattle.semantics.specs.Text.{fields, name-ok};
@@ -11,9 +9,9 @@ ghost use Rattle.semantics.specs.Reading.{So-far, var-line};
 ghost use Rattle.reader.specs.Answers.{var-of, var-res};
 ghost use Rattle.reader.specs.Lines.{var-init, var-high, var-low, var-judged, var-named};
 ghost use Rattle.reader.specs.Held.{Few, Rows, Names, Stepped};
-use super::store;
 use super::tally::Step;
 use super::tally::Tally;
+use super::tally::used_words;
 
 // The three words of a variable's row.
 struct VarRow {
@@ -80,17 +78,17 @@ fn judged(line: &[u8]) -> VarLine
     low(line)
 }
 
-// A variable, if its name is new: its row, and its name's.
-fn named(t: Tally, table: &mut [i32], names: &mut [i32], v: VarRow, name: &[u8]) -> Step
-    requires { ⌜ (t .vars < 8) × (t .locs ≡ 0) × (t .edges ≡ 0) × (length (now table) ≡ 3160) × (length (now names) ≡ 128) ⌝ }
-    ensures { λ r. ⌜ ((s : So-far) → Rows t (now (table .entry)) (s .chart) → Names (t .vars) (now (names .entry)) (s .names) → name-ok (now (name .entry)) ≡ true → Stepped r (var-named s (now (name .entry)) (var-of v)) (now (table .exit)) (now (names .exit))) ⌝ }
+// A variable, if its name is new. The name is kept as a location's is, so that one function looks for both.
+fn named(t: Tally, rows: &mut [i32], names: &mut [i32], v: VarRow, name: &[u8]) -> Step
+    requires { ⌜ T (name-ok (now name)) × (t .vars < 8) × (t .locs ≡ 0) × (t .edges ≡ 0) × (length (now rows) ≡ 3160) × (length (now names) ≡ 136) ⌝ }
+    ensures { λ r. ⌜ ((s : So-far) → Rows t (now (rows .entry)) (s .chart) → Names (t .vars) (now (names .entry)) (s .names) → Stepped r (var-named s (now (name .entry)) (var-of v)) (now (rows .exit)) (now (names .exit))) ⌝ }
 {
-    if store::name_seen(names, 0, NAME_WORDS, t.vars, name) {
+    let at = chart::LOCATION_WORDS * t.vars;
+    chart::put_location(names, at, false, name);
+    if !chart::name_is_new(&names[at..], &names[0..], t.vars) {
         return Step::Refused(9);
     }
-    let row = [v.lo, v.hi, v.init];
-    store::push_row(table, VARIABLE_WORDS * t.vars, &row);
-    store::push_name(names, NAME_WORDS * t.vars, name);
+    chart::put_variable(rows, used_words(t), v.lo, v.hi, v.init);
     Step::Go(Tally {
         vars: t.vars + 1,
         locs: 0,
@@ -99,9 +97,9 @@ fn named(t: Tally, table: &mut [i32], names: &mut [i32], v: VarRow, name: &[u8])
 }
 
 // A V line, which stands before every L and E.
-pub fn read_line(t: Tally, table: &mut [i32], names: &mut [i32], line: &[u8]) -> Step
-    requires { ⌜ Few t × (length (now table) ≡ 3160) × (length (now names) ≡ 128) ⌝ }
-    ensures { λ r. ⌜ ((s : So-far) → Rows t (now (table .entry)) (s .chart) → Names (t .vars) (now (names .entry)) (s .names) → Stepped r (var-line s (fields (now (line .entry)))) (now (table .exit)) (now (names .exit))) ⌝ }
+pub fn read_line(t: Tally, rows: &mut [i32], names: &mut [i32], line: &[u8]) -> Step
+    requires { ⌜ Few t × (length (now rows) ≡ 3160) × (length (now names) ≡ 136) ⌝ }
+    ensures { λ r. ⌜ ((s : So-far) → Rows t (now (rows .entry)) (s .chart) → Names (t .vars) (now (names .entry)) (s .names) → Stepped r (var-line s (fields (now (line .entry)))) (now (rows .exit)) (now (names .exit))) ⌝ }
 {
     if t.locs != 0 {
         return Step::Refused(4);
@@ -114,6 +112,6 @@ pub fn read_line(t: Tally, table: &mut [i32], names: &mut [i32], line: &[u8]) ->
     }
     match judged(line) {
         VarLine::Refused(k) => Step::Refused(k),
-        VarLine::Is(v) => named(t, table, names, v, text::field(line, 1)),
+        VarLine::Is(v) => named(t, rows, names, v, text::field(line, 1)),
     }
 }

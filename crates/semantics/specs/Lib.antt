@@ -1,7 +1,7 @@
 -- To be believed, in this order, each close to document 01: lists, the numbers under their names, text, the chart file, the algorithm and its domain
 -- of constants, runs and what covers them, the encoded chart, memory, listing, calls, whole walks, the program. Then
 -- claims of these definitions that the others do not rest on: ProgramSafe, Exact, Verdicts, Runs, MarkedCases. Last what
--- only proofs use, and contracts of inner functions: Laws, Tidy, Rendering. Nothing in these three has to be believed.
+-- only proofs use, and contracts of inner functions: Laws, Tidy, Rendering, Operations. Nothing in these four has to be believed.
 pub mod Lists
 pub mod Layout
 pub mod Text
@@ -24,3 +24,4 @@ pub mod MarkedCases
 pub mod Laws
 pub mod Tidy
 pub mod Rendering
+pub mod Operations

@@ -9,9 +9,11 @@ use lib.Dec.{eqb}
 use lib.ListN.{length, drop}
 use lib.IntN.{ℤ, pos, negsuc}
 use Rattle.semantics.specs.Lists.{pick}
-use Rattle.semantics.specs.Chart.{Value, Operand, num, var, Rel, eq, ne, lt, le, gt, ge}
+use Rattle.semantics.specs.Chart.{Value, Operand, Rel}
 use Rattle.semantics.specs.Encoding.{val}
 use Rattle.semantics.specs.Reading.{Res, fail, ok, OpWord, do-set, do-add, do-sub, do-in, do-if, do-skip}
+use Rattle.semantics.specs.Operations.{the-operand, the-relation}
+use Rattle.semantics.specs.declared.Arithmetic.the-variants as arithmetic
 use Rattle.text.specs.declared.Natural.{Natural}
 use Rattle.text.specs.declared.Natural.the-variants as natural
 use Rattle.text.specs.declared.NumberRead.{NumberRead}
@@ -28,6 +30,10 @@ use Rattle.text.specs.declared.KindRead.{KindRead}
 use Rattle.text.specs.declared.KindRead.the-variants as kind
 use Rattle.text.specs.declared.RelationRead.{RelationRead}
 use Rattle.text.specs.declared.RelationRead.the-variants as relation
+use Rattle.text.specs.declared.Action.{Action}
+use Rattle.text.specs.declared.Action.the-variants as action
+use Rattle.text.specs.declared.OpWord.{OpWord as OpWordHeld}
+use Rattle.text.specs.declared.OpWord.the-variants as word-of
 use Rattle.text.specs.declared.OpWordRead.{OpWordRead}
 use Rattle.text.specs.declared.OpWordRead.the-variants as op-word
 
@@ -96,8 +102,7 @@ init-res (word.Is z) = ok (val z)
 -- "An operand is a number or `$k`"
 unfoldable pub operand-res : OperandRead → Res Operand
 operand-res (operand.Refused k) = fail k
-operand-res (operand.Number z) = ok (num z)
-operand-res (operand.Var k) = ok (var k)
+operand-res (operand.Is a) = ok (the-operand a)
 
 -- whether a location is an error location
 unfoldable pub kind-res : KindRead → Res Bool
@@ -107,19 +112,21 @@ kind-res (kind.Is b) = ok b
 -- a relation word
 unfoldable pub rel-res : RelationRead → Res Rel
 rel-res (relation.Refused k) = fail k
-rel-res relation.Eq = ok eq
-rel-res relation.Ne = ok ne
-rel-res relation.Lt = ok lt
-rel-res relation.Le = ok le
-rel-res relation.Gt = ok gt
-rel-res relation.Ge = ok ge
+rel-res (relation.Is r) = ok (the-relation r)
+
+-- which of the definitions' words it is
+abbrev pub the-action : Action → OpWord
+the-action action.Set = do-set
+the-action (action.Compute arithmetic.Add) = do-add
+the-action (action.Compute arithmetic.Sub) = do-sub
+the-action action.In = do-in
+the-action action.If = do-if
+
+abbrev pub the-word : OpWordHeld → OpWord
+the-word word-of.Skip = do-skip
+the-word (word-of.With a) = the-action a
 
 -- an operation word
 unfoldable pub op-word-res : OpWordRead → Res OpWord
 op-word-res (op-word.Refused k) = fail k
-op-word-res op-word.Set = ok do-set
-op-word-res op-word.Add = ok do-add
-op-word-res op-word.Sub = ok do-sub
-op-word-res op-word.In = ok do-in
-op-word-res op-word.If = ok do-if
-op-word-res op-word.Skip = ok do-skip
+op-word-res (op-word.Is w) = ok (the-word w)

@@ -1,5 +1,8 @@
 // Reading pieces of a text: its lines, the fields of a line, and what one field says or by which number it is refused.
+use semantics::Arithmetic;
 use semantics::LocationId;
+use semantics::Operand;
+use semantics::Relation;
 ghost use mathlib.Core.Path.{_≡_};
 ghost use Prim.Native.Nat.{_≤_, min};
 ghost use lib.Dec.{eqb};
@@ -116,7 +119,7 @@ pub fn filled(line: &[u8], count: usize) -> bool
 }
 
 // A letter, a digit or a hyphen.
-fn name_byte(b: u8) -> bool
+fn is_name_byte(b: u8) -> bool
     ensures { λ r. ⌜ r ≡ name-byte b ⌝ }
 {
     ((b'A' <= b) & (b <= b'Z'))
@@ -137,7 +140,7 @@ pub fn name_ok(f: &[u8]) -> bool
     }
     let mut i = 0;
     while i < f.len() {
-        if !name_byte(f[i]) {
+        if !is_name_byte(f[i]) {
             return false;
         }
         i += 1;
@@ -259,7 +262,7 @@ pub fn number(f: &[u8]) -> NumberRead
 // A variable, by its number.
 pub enum VariableRead {
     Refused(u32),
-    Is(usize),
+    Is(u8),
 }
 
 // A location, by its id.
@@ -277,8 +280,7 @@ pub enum WordRead {
 // A number or `$k`.
 pub enum OperandRead {
     Refused(u32),
-    Number(i32),
-    Var(usize),
+    Is(Operand),
 }
 
 // Whether the kind is `e`.
@@ -290,23 +292,26 @@ pub enum KindRead {
 // `eq` to `ge`.
 pub enum RelationRead {
     Refused(u32),
-    Eq,
-    Ne,
-    Lt,
-    Le,
-    Gt,
-    Ge,
+    Is(Relation),
 }
 
-// The operation's word.
-pub enum OpWordRead {
-    Refused(u32),
+// The operations that have a target.
+pub enum Action {
     Set,
-    Add,
-    Sub,
+    Compute(Arithmetic),
     In,
     If,
+}
+
+// An operation by its word.
+pub enum OpWord {
     Skip,
+    With(Action),
+}
+
+pub enum OpWordRead {
+    Refused(u32),
+    Is(OpWord),
 }
 
 // 6 where malformed, 7 outside of -32,768..32,767.
@@ -330,8 +335,10 @@ pub fn number_field(f: &[u8]) -> WordRead
     small_word(number(f))
 }
 
-// A number from 0 up to, not including, `count`: 6 where malformed, 10 where it is another.
+// A number from 0 up to, not including, `count`: 6 where malformed, 10 where it is another. Here and below, `count ≤ 256`
+// keeps what is read to a byte, and under the cut: a number that was cut is refused as the number itself is.
 fn below(count: usize, n: NumberRead) -> VariableRead
+    requires { ⌜ count ≤ 256 ⌝ }
     ensures { λ r. ⌜ variable-res r ≡ below-or count (number-said n) ⌝ }
 {
     match n {
@@ -342,22 +349,21 @@ fn below(count: usize, n: NumberRead) -> VariableRead
             }
             let k = words::magnitude(z);
             if k < count {
-                return VariableRead::Is(k);
+                return VariableRead::Is(k as u8);
             }
             VariableRead::Refused(10)
         }
     }
 }
 
-// One of `count` locations. Here and below, `count ≤ 256` only keeps it under the cut: a number that was cut is refused
-// as the number itself is.
+// One of `count` locations.
 pub fn location_field(count: usize, f: &[u8]) -> LocationRead
     requires { ⌜ count ≤ 256 ⌝ }
     ensures { λ r. ⌜ location-res r ≡ location-field count (now (f .entry)) ⌝ }
 {
     match below(count, number(f)) {
         VariableRead::Refused(n) => LocationRead::Refused(n),
-        VariableRead::Is(k) => LocationRead::Is(LocationId(k)),
+        VariableRead::Is(k) => LocationRead::Is(LocationId(k as usize)),
     }
 }
 
@@ -390,7 +396,7 @@ fn as_variable(k: VariableRead) -> OperandRead
 {
     match k {
         VariableRead::Refused(n) => OperandRead::Refused(n),
-        VariableRead::Is(v) => OperandRead::Var(v),
+        VariableRead::Is(v) => OperandRead::Is(Operand::Variable(v)),
     }
 }
 
@@ -399,7 +405,7 @@ fn as_number(w: WordRead) -> OperandRead
 {
     match w {
         WordRead::Refused(n) => OperandRead::Refused(n),
-        WordRead::Is(z) => OperandRead::Number(z),
+        WordRead::Is(z) => OperandRead::Is(Operand::Number(z)),
     }
 }
 
@@ -456,22 +462,22 @@ pub fn rel_field(f: &[u8]) -> RelationRead
     ensures { λ r. ⌜ rel-res r ≡ rel-field (now (f .entry)) ⌝ }
 {
     if same_bytes(f, b"eq") {
-        return RelationRead::Eq;
+        return RelationRead::Is(Relation::Eq);
     }
     if same_bytes(f, b"ne") {
-        return RelationRead::Ne;
+        return RelationRead::Is(Relation::Ne);
     }
     if same_bytes(f, b"lt") {
-        return RelationRead::Lt;
+        return RelationRead::Is(Relation::Lt);
     }
     if same_bytes(f, b"le") {
-        return RelationRead::Le;
+        return RelationRead::Is(Relation::Le);
     }
     if same_bytes(f, b"gt") {
-        return RelationRead::Gt;
+        return RelationRead::Is(Relation::Gt);
     }
     if same_bytes(f, b"ge") {
-        return RelationRead::Ge;
+        return RelationRead::Is(Relation::Ge);
     }
     RelationRead::Refused(6)
 }
@@ -481,22 +487,22 @@ pub fn op_word_field(f: &[u8]) -> OpWordRead
     ensures { λ r. ⌜ op-word-res r ≡ op-word-field (now (f .entry)) ⌝ }
 {
     if same_bytes(f, b"set") {
-        return OpWordRead::Set;
+        return OpWordRead::Is(OpWord::With(Action::Set));
     }
     if same_bytes(f, b"add") {
-        return OpWordRead::Add;
+        return OpWordRead::Is(OpWord::With(Action::Compute(Arithmetic::Add)));
     }
     if same_bytes(f, b"sub") {
-        return OpWordRead::Sub;
+        return OpWordRead::Is(OpWord::With(Action::Compute(Arithmetic::Sub)));
     }
     if same_bytes(f, b"in") {
-        return OpWordRead::In;
+        return OpWordRead::Is(OpWord::With(Action::In));
     }
     if same_bytes(f, b"if") {
-        return OpWordRead::If;
+        return OpWordRead::Is(OpWord::With(Action::If));
     }
     if same_bytes(f, b"skip") {
-        return OpWordRead::Skip;
+        return OpWordRead::Is(OpWord::Skip);
     }
     OpWordRead::Refused(6)
 }

@@ -44,7 +44,7 @@ returns-3 c = λ at e g h.
     let a = start k .args in
     let d = c .before .before .before .before .step in
     let l = some-line _ _ (sym e ∙ k .l .given .1) in
-    let b : Along (now (a .text)) at (a .p .line) (tally k) (now (a .table)) (now (a .names)) = rw (g, went-on k) at h in
+    let b : Along (now (a .text)) at (a .p .line) (tally k) (now (a .rows)) (now (a .names)) = rw (g, went-on k) at h in
     let j = line-judged b l (d .result) (d .last .1 .0) (d .last .1 .1 .0) (d .ensures (b .read) (b .held) (b .names-held)) in
     (rw (c .before .goes .ensures, k .l .given .1) j, λ _. l .here)
 

@@ -1,5 +1,5 @@
 -- `reader::go_down` meets its contract: a walk of its MIR, by hand, with a loop. The reader lies in a local; each
--- turn asks it for the line at its place, moves the place on, and has the line judged, with the table and the names
+-- turn asks it for the line at its place, moves the place on, and has the line judged, with the rows and the names
 -- lent again for the call (`Again.antt`). The loop goes by `types.Run`'s `loops`: a state has the place, the progress
 -- and the two lists, with what holds of them, and its whole context is a list over the state. All that the proof
 -- knows of the functions called is that each meets its contract. Assumes nothing.
@@ -147,7 +147,7 @@ module _ {M : Type 1} (𝓤 : URA M) (H : Heap 𝓤) (A : Atoms 𝓤) (W : Given
   abbrev State : Type 0
   State = St (now s) (length ys) (length zs)
 
-  -- the table and the names, under a name and at a list
+  -- the rows and the names, under a name and at a list
   abbrev x₁ : GName → List ℤ → RefT (List ℤ)
   x₁ δ l = record { ptr = (b₁, o₁); name = δ; now = l }
 
@@ -240,7 +240,7 @@ module _ {M : Type 1} (𝓤 : URA M) (H : Heap 𝓤) (A : Atoms 𝓤) (W : Given
   moves : (m m′ : ℕ) → m′ < 2 ^ 64 → ent 𝓤 (sem 𝓤 H A (OwnR m)) (sem 𝓤 H A (OwnR m′))
   moves m m′ ok = qed W (‵ (OwnR m) ∷ []) ∵ owned ! usize (Is usize) (uint-makes 𝓤 H A W w64) m′ _ (refl, ok) $ move ! (1 ∷ 0 ∷ []) $ by ! (own-put 𝓤 H A W (T.the-type α) (T′.the-laws α) 1 (s, (m, tt)) m′ (mach (rd m)))
 
-  -- the call of `advance`: the table and the names lent again, for the lifetimes ν₁ and ν₂ and under the names δ₁ and
+  -- the call of `advance`: the rows and the names lent again, for the lifetimes ν₁ and ν₂ and under the names δ₁ and
   -- δ₂
   abbrev Args : Type 0
   Args = Descent × (RefT (List ℤ) × (RefT (List ℤ) × (RefT (List ℕ) × (Line × Unit {0}))))
@@ -263,7 +263,7 @@ module _ {M : Type 1} (𝓤 : URA M) (H : Heap 𝓤) (A : Atoms 𝓤) (W : Given
   abbrev Passed : Descent → List ℤ → List ℤ → Line → Val → ℕ → ℕ → GName → GName → Item 𝓤
   Passed p ts ns l u ν₁ ν₂ δ₁ δ₂ = ‵ (owns (Y.the-row ∷ MutSlice (named 0) (ν₁ ∷ []) i32 ∷ MutSlice (named 1) (ν₂ ∷ []) i32 ∷ ShrSlice (named 2) κ₀ u8 ∷ S.the-row ∷ []) (aA p ts ns l δ₁ δ₂) (vA p u))
 
-  asked : (p : Descent) (ts ns : List ℤ) (l : Line) (u : Val) (ν₁ ν₂ : ℕ) (δ₁ δ₂ : GName) → Ready (now s) p l × (length ts ≡ 3160) × (length ns ≡ 128)
+  asked : (p : Descent) (ts ns : List ℤ) (l : Line) (u : Val) (ν₁ ν₂ : ℕ) (δ₁ δ₂ : GName) → Ready (now s) p l × (length ts ≡ 3160) × (length ns ≡ 136)
       → ent 𝓤 (onEntry 𝓤 H A advance.signature (ν₁ ∷ [], (ν₂ ∷ [], (κ₀, tt))) (fullShare, (fullShare, (q₀, tt))) (aA p ts ns l δ₁ δ₂) (vA p u)) (Advance 𝓤 H A at-mem run .pre (to-advance p ts ns l u ν₁ ν₂ δ₁ δ₂))
   asked p ts ns l u ν₁ ν₂ δ₁ δ₂ h = qed W (Toks ν₁ ν₂ ∷ Passed p ts ns l u ν₁ ν₂ δ₁ δ₂ ∷ []) ∵ says ! h $ frame ! $ done !
 
@@ -280,7 +280,7 @@ module _ {M : Type 1} (𝓤 : URA M) (H : Heap 𝓤) (A : Atoms 𝓤) (W : Given
 
   module _ (𝓣 : Tables 𝓤 H) (known-open : Triple 𝓤 (𝓣 .C #text·lines·open) (Open 𝓤 H A at-mem run)) (known-current : Triple 𝓤 (𝓣 .C #text·lines·current) (Current 𝓤 H A at-mem run)) (known-after : Triple 𝓤 (𝓣 .C #text·lines·place-after) (After 𝓤 H A at-mem run))
       (known-begun : Triple 𝓤 (𝓣 .C #reader·begun) (Begun 𝓤 H A at-mem run)) (known-advance : Triple 𝓤 (𝓣 .C #reader·advance) (Advance 𝓤 H A at-mem run))
-      (p₀ : Is (ShrSlice (named 0) κ₀ u8) s (v₀ ∷ [])) (room₁ : Room i32 (length ys)) (room₂ : Room i32 (length zs)) (size₁ : length ys ≡ 3160) (size₂ : length zs ≡ 128) where
+      (p₀ : Is (ShrSlice (named 0) κ₀ u8) s (v₀ ∷ [])) (room₁ : Room i32 (length ys)) (room₂ : Room i32 (length zs)) (size₁ : length ys ≡ 3160) (size₂ : length zs ≡ 136) where
     abbrev C : Calls 𝓤 H
     C = 𝓣 .C
 
@@ -359,7 +359,7 @@ module _ {M : Type 1} (𝓤 : URA M) (H : Heap 𝓤) (A : Atoms 𝓤) (W : Given
           calls-at ! fm (Current 𝓤 H A at-mem run) known-current (to-current (x .m)) (and-then ! (load ! (from ! (stop !)) (look ! 17 refl)) (no-more !)) (λ u.
           use1 W (later (some (λ (l : Line). (Tok ⊛ ‵ (S.the-row .own l (u ∷ []))) ⊛ raw (ensured 𝓤 H A current.ended (current.clauses 𝓤 H A at-mem run) (κ₀, tt) (rd (x .m), tt) tt l)))) (id⊢ 𝓤 _) $ await ! tt $ pick ! (λ l.
           split ! $ move ! (1 ∷ []) $ use1 W (raw (fact 𝓤 (l ≡ line-at (now s) (x .m)))) (current-said (x .m) l) $ heard ! (l ≡ line-at (now s) (x .m)) (λ el. split ! $ move ! (1 ∷ []) $
-          -- [the line; the token; what the reader owns; what s owns; the table's; κ₁; the names'; κ₂; _13; …]
+          -- [the line; the token; what the reader owns; what s owns; the rows'; κ₁; the names'; κ₂; _13; …]
           peeks ! S.the-row (Is S.the-row) (shows 𝓤 H A S.the-row) l (u ∷ []) (λ l-is.
           land ! (from ! (stop !)) (init ! 22 refl (EL.lawful S.the-type S′.the-laws 𝓤 H A W tt .typed l _ l-is .0)) $
           assigns ! (of-opd ! (load ! (from ! (fld ! refl (stop !))) (look-in ! 26 (sub ! 1 refl (whole !))))) (from ! (stop !)) (init ! 16 refl (tt, record { fits = x .m-fits })) $
@@ -371,7 +371,7 @@ module _ {M : Type 1} (𝓤 : URA M) (H : Heap 𝓤) (A : Atoms 𝓤) (W : Given
           land ! (from ! (fld ! refl (stop !))) (store-in ! 26 (sub ! 1 refl (whole !)) (uint-lawful 𝓤 H A W w64 .typed m′ _ m-is .0)) $
           rewrite ! 26 (λ (z : Val). ‵ (fat fullShare (T′.mir erased) l₄ 0 (vstruct (vcons v₀ (vcons z vnil))))) (ap only (m-is .0)) refl $ drop ! $
           move ! (1 ∷ []) $ use1 W (‵ (OwnR m′)) (moves (x .m) m′ (m-is .1)) $
-          -- [what the reader owns; the token; what s owns; the table's; κ₁; the names'; κ₂; _13; …]: the table and
+          -- [what the reader owns; the token; what s owns; the rows'; κ₁; the names'; κ₂; _13; …]: the rows and
           -- the names are lent again
           assigns ! (addr ! (from ! (fld ! refl (hop ! (look-in ! 29 (sub ! 0 refl (whole !))) (stop !))))) (from ! (stop !)) (init ! 13 refl (tt, tt)) $
           assigns ! (agg ! (and-then ! (load ! (from ! (stop !)) (look ! 13 refl)) (and-then ! (load ! (from ! (fld ! refl (stop !))) (look-in ! 29 (sub ! 1 refl (whole !)))) (no-more !)))) (from ! (stop !)) (init ! 11 refl (tt, (tt, (record { fits = room₁ .0 }, tt)))) $
@@ -381,26 +381,26 @@ module _ {M : Type 1} (𝓤 : URA M) (H : Heap 𝓤) (A : Atoms 𝓤) (W : Given
           use2 W (later (some (λ (δ : GName). ‵ (MutSlice (named 0) (ν₁ ∷ []) i32 .own (x₁ δ (x .ts)) (v₁ ∷ [])) ⊛ ‵ (LentAgain i32 κ₁ (ν₁ ∷ []) q₁ γ₁ b₁ o₁ δ (x .ts))))) (lends i32 κ₁ (ν₁ ∷ []) q₁ γ₁ b₁ o₁ 𝓤 H A W (named 1) (named 0) (x .ts) (length ys) (x .t-same)) $ await ! tt $ pick ! (λ δ₁. split ! $
           lft-new ! tt (λ ν₂. move ! (7 ∷ 8 ∷ []) $
           use2 W (later (some (λ (δ : GName). ‵ (MutSlice (named 1) (ν₂ ∷ []) i32 .own (x₂ δ (x .ns)) (v₂ ∷ [])) ⊛ ‵ (LentAgain i32 κ₂ (ν₂ ∷ []) q₂ γ₂ b₂ o₂ δ (x .ns))))) (lends i32 κ₂ (ν₂ ∷ []) q₂ γ₂ b₂ o₂ 𝓤 H A W (named 2) (named 1) (x .ns) (length zs) (x .n-same)) $ await ! tt $ pick ! (λ δ₂. split ! $
-          -- [the names lent; what is kept of them; ν₂; the table lent; what is kept of it; ν₁; what the reader owns;
+          -- [the names lent; what is kept of them; ν₂; the rows lent; what is kept of them; ν₁; what the reader owns;
           -- the token; what s owns; _13; …]
           move ! (8 ∷ []) $ use1 W (‵ OwnS ⊛ ‵ OwnS) (shr-slice-copy 𝓤 H A W (named 0) κ₀ u8 .twice s (v₀ ∷ [])) $ split ! $
           nothing ! $ owned ! S.the-row (Is S.the-row) (EL.makes S.the-type S′.the-plain 𝓤 H A) l _ l-is $ fjoin ! $ move ! (1 ∷ 0 ∷ []) $ fjoin ! $ move ! (2 ∷ 0 ∷ []) $ fjoin ! $ move ! (4 ∷ 0 ∷ []) $ fjoin ! $
           owned ! Y.the-row (Is Y.the-row) (LL.makes Y.the-type Y′.the-plain 𝓤 H A) (x .p) _ (x .p-is) $ fjoin ! $
           move ! (3 ∷ 7 ∷ []) $ join ! $ move ! (5 ∷ 0 ∷ []) $ join ! $
           use2 W (raw (Advance 𝓤 H A at-mem run .pre (to-advance (x .p) (x .ts) (x .ns) l u ν₁ ν₂ δ₁ δ₂))) (asked (x .p) (x .ts) (x .ns) l u ν₁ ν₂ δ₁ δ₂ (ready (now s) (x .m) (x .ts) (x .ns) (x .p) l el g (x .stands), x .t-same ∙ size₁, x .n-same ∙ size₂)) $
-          -- [what `advance` asks; what s owns; what is kept of the names; of the table; what the reader owns; _13; …]
+          -- [what `advance` asks; what s owns; what is kept of the names; of the rows; what the reader owns; _13; …]
           calls-at-last ! fm (Advance 𝓤 H A at-mem run) known-advance (to-advance (x .p) (x .ts) (x .ns) l u ν₁ ν₂ δ₁ δ₂)
           (and-then ! (load ! (from ! (stop !)) (look ! 21 refl)) (and-then ! (load ! (from ! (stop !)) (look ! 9 refl)) (and-then ! (load ! (from ! (stop !)) (look ! 5 refl)) (and-then ! (load ! (from ! (stop !)) (look ! 29 refl)) (and-then ! (load ! (from ! (stop !)) (look ! 19 refl)) (no-more !)))))) (λ u″.
           use1 W (later (some (λ (r : Descent). (Toks ν₁ ν₂ ⊛ ‵ (Y.the-row .own r (u″ ∷ []))) ⊛ raw (ensured 𝓤 H A advance.ended (advance.clauses 𝓤 H A at-mem run) (ν₁ ∷ [], (ν₂ ∷ [], (κ₀, tt))) (aA (x .p) (x .ts) (x .ns) l δ₁ δ₂) tt r)))) (id⊢ 𝓤 _) $ await ! tt $ pick ! (λ r.
           split ! $ move ! (1 ∷ []) $ use1 W (some (λ (ws : Lasts). ‵ (lasts advance.ended (ν₁ ∷ [], (ν₂ ∷ [], (κ₀, tt))) (aA (x .p) (x .ts) (x .ns) l δ₁ δ₂) ws) ⊛ raw (fact 𝓤 (Advanced (now s) l (x .p) (x .ts) (x .ns) r (ws .1 .0) (ws .1 .1 .0))))) (id⊢ 𝓤 _) $ pick ! (λ ws.
           split ! $ move ! (1 ∷ []) $ heard ! (Advanced (now s) l (x .p) (x .ts) (x .ns) r (ws .1 .0) (ws .1 .1 .0)) (λ e. fsplit ! $ drop ! $ fsplit ! $ fsplit ! $ move ! (1 ∷ []) $ feqL ! (λ et. move ! (1 ∷ []) $ fsplit ! $ fsplit ! $ move ! (1 ∷ []) $ feqL ! (λ en. move ! (1 ∷ []) $ drop ! $
-          -- [the last names; the last table; the tokens and the result; what s owns; what is kept of the names; of
-          -- the table; what the reader owns; _13; …]
+          -- [the last names; the last rows; the tokens and the result; what s owns; what is kept of the names; of
+          -- the rows; what the reader owns; _13; …]
           move ! (2 ∷ []) $ split ! $ move ! (1 ∷ []) $ peeks ! Y.the-row (Is Y.the-row) (shows 𝓤 H A Y.the-row) r (u″ ∷ []) (λ r-is. drop ! $
           -- the two lifetimes are ended, and both slices come back
           split ! $ lft-end ! tt $ move ! (0 ∷ 6 ∷ 3 ∷ []) $ use3 W (later (‵ (OwnT (ws .1 .0)) ⊛ ‵ (flft κ₁ q₁))) (back i32 κ₁ (ν₁ ∷ []) q₁ γ₁ b₁ o₁ 𝓤 H A W (named 1) (named 0) (x .ts) (length ys) (x .t-same) δ₁ (ws .1 .0) room₁ et) $ await ! tt $ split ! $
           move ! (2 ∷ []) $ split ! $ lft-end ! tt $ move ! (0 ∷ 6 ∷ 4 ∷ []) $ use3 W (later (‵ (OwnN (ws .1 .1 .0)) ⊛ ‵ (flft κ₂ q₂))) (back i32 κ₂ (ν₂ ∷ []) q₂ γ₂ b₂ o₂ 𝓤 H A W (named 2) (named 1) (x .ns) (length zs) (x .n-same) δ₂ (ws .1 .1 .0) room₂ en) $ await ! tt $ split ! $
-          -- [the names'; κ₂; the token; the table's; κ₁; what s owns; what the reader owns; _13; …]
+          -- [the names'; κ₂; the token; the rows'; κ₁; what s owns; what the reader owns; _13; …]
           land-last ! (from ! (stop !)) (store ! 23 refl (LL.lawful Y.the-type Y′.the-laws 𝓤 H A W .typed r _ r-is .0)) $
           rewrite ! 23 (λ (z : Val). ‵ (fat fullShare Y′.mir l₅ 0 z)) (ap only (LL.tells Y.the-type Y′.the-laws r _ r-is)) refl $ move ! (6 ∷ 2 ∷ 5 ∷ 3 ∷ 4 ∷ 0 ∷ 1 ∷ []) $
           forget ! 7 refl $ forget ! 9 refl $ forget ! 11 refl $ forget ! 13 refl $ forget ! 15 refl $ forget ! 17 refl $ forget ! 19 refl $ forget ! 21 refl $
@@ -446,9 +446,9 @@ module _ {M : Type 1} (𝓤 : URA M) (H : Heap 𝓤) (A : Atoms 𝓤) (W : Given
         pass1 ! (init ! 24 refl (shr-slice-lawful 𝓤 H A W (named 0) κ₀ u8 .typed s (v₀ ∷ []) p₀ .0)) $ pass1 ! (init ! 22 refl (tt, (tt, (record { fits = room₁ .0 }, tt)))) $ pass1 ! (init ! 20 refl (tt, (tt, (record { fits = room₂ .0 }, tt)))) $ pass0 ! $
         -- [_13; …; room for _0; …; the tokens; what the parameters own]
         move ! (29 ∷ []) $ fsplit ! $ use1 W (‵ OwnS ⊛ ‵ OwnS) (shr-slice-copy 𝓤 H A W (named 0) κ₀ u8 .twice s (v₀ ∷ [])) $ split ! $ move ! (2 ∷ []) $ fsplit ! $ move ! (1 ∷ []) $ fsplit ! $ move ! (1 ∷ []) $ drop ! $
-        -- [the names'; the table's; what s owns, twice; _13; …; the tokens]
+        -- [the names'; the rows'; what s owns, twice; _13; …; the tokens]
         move ! (32 ∷ []) $ split ! $ move ! (1 ∷ []) $ split ! $ move ! (1 ∷ []) $ split ! $ move ! (3 ∷ 1 ∷ []) $ join ! $
-        -- [the token; κ₂; κ₁; the names'; the table's; what s owns, twice; _13; …]
+        -- [the token; κ₂; κ₁; the names'; the rows'; what s owns, twice; _13; …]
         nothing ! $ move ! (6 ∷ 0 ∷ []) $ fjoin ! $ move ! (1 ∷ 0 ∷ []) $ use2 W (raw (Open 𝓤 H A at-mem run .pre to-open)) goes-open $
         calls-at ! fm (Open 𝓤 H A at-mem run) known-open to-open (and-then ! (load ! (from ! (stop !)) (look ! 30 refl)) (no-more !)) (λ u.
         use1 W (later (some (λ (r : Reader). (Tok ⊛ ‵ (B .own r (u ∷ []))) ⊛ raw (ensured 𝓤 H A open′.ended (open′.clauses 𝓤 H A at-mem run) (κ₀, tt) (s, tt) tt r)))) (id⊢ 𝓤 _) $ await ! tt $ pick ! (λ r.
@@ -464,7 +464,7 @@ module _ {M : Type 1} (𝓤 : URA M) (H : Heap 𝓤) (A : Atoms 𝓤) (W : Given
         split ! $ move ! (1 ∷ []) $ use1 W (raw (fact 𝓤 (p ≡ nothing-judged))) (begun-said p) $ heard ! (p ≡ nothing-judged) (λ ep. split ! $ drop ! $
         peeks ! Y.the-row (Is Y.the-row) (shows 𝓤 H A Y.the-row) p (u′ ∷ []) (λ p-is.
         land ! (from ! (stop !)) (init ! 24 refl (LL.lawful Y.the-type Y′.the-laws 𝓤 H A W .typed p _ p-is .0)) $ rewrite ! 24 (λ (z : Val). ‵ (fat fullShare Y′.mir l₅ 0 z)) (ap only (LL.tells Y.the-type Y′.the-laws p _ p-is)) refl $ drop ! $
-        -- [what the reader owns; the token; κ₂; κ₁; the names'; the table's; what s owns; _13; …]
+        -- [what the reader owns; the token; κ₂; κ₁; the names'; the rows'; what s owns; _13; …]
         move ! (0 ∷ 1 ∷ 6 ∷ 5 ∷ 3 ∷ 4 ∷ 2 ∷ []) $ from-loop l₀ l₁ l₂ l₃ l₄ l₅ l₆ l₇ l₈ l₉ l₁₀ l₁₁ l₁₂ l₁₃ (start p p-is ep)))))))))))))))))))))))
 
 module _ {M : Type 1} (𝓤 : URA M) (H : Heap 𝓤) (A : Atoms 𝓤) (W : Given 𝓤 H A) (mem : Memory → SProp 𝓤) (run : Routine → Fun 𝓤) (𝓣 : Tables 𝓤 H) (known-open : Triple 𝓤 (𝓣 .C #text·lines·open) (Open 𝓤 H A mem run)) (known-current : Triple 𝓤 (𝓣 .C #text·lines·current) (Current 𝓤 H A mem run))
@@ -472,7 +472,7 @@ module _ {M : Type 1} (𝓤 : URA M) (H : Heap 𝓤) (A : Atoms 𝓤) (W : Given
   go-down-walks : Walks 𝓤 H A go-down.ended stayed (WpFn 𝓤 H (𝓣 .C) (𝓣 .Λ) code.function) (go-down.clauses 𝓤 H A mem run)
   go-down-walks = walked 𝓤 H A go-down.ended stayed (go-down.clauses 𝓤 H A mem run) (WpFn 𝓤 H (𝓣 .C) (𝓣 .Λ) code.function) (λ κs. (slice-vals, (slice-vals, (slice-vals, tt))))
       (λ κs. (shr-slice-tells (named 0) (κs .0) u8, (mut-slice-tells (named 1) (κs .1 .0) i32, (mut-slice-tells (named 2) (κs .1 .1 .0) i32, tt))))
-      (λ κs qs bounds a g are. needs 𝓤 ((length (a .1 .0 .now) ≡ 3160) × (length (a .1 .1 .0 .now) ≡ 128)) _ (λ sizes.
+      (λ κs qs bounds a g are. needs 𝓤 ((length (a .1 .0 .now) ≡ 3160) × (length (a .1 .1 .0 .now) ≡ 136)) _ (λ sizes.
       walk 𝓤 H A W mem run (κs .0) (κs .1 .0) (κs .1 .1 .0) (qs .0) (qs .1 .0) (qs .1 .1 .0) (a .0) (a .1 .0 .ptr .0) (a .1 .0 .ptr .1) (a .1 .0 .name) (a .1 .0 .now) (a .1 .1 .0 .ptr .0) (a .1 .1 .0 .ptr .1) (a .1 .1 .0 .name) (a .1 .1 .0 .now)
       𝓣 known-open known-current known-after known-begun known-advance (are .0) (are .1 .0 .0 .1) (are .1 .1 .0 .0 .1) (sizes .0) (sizes .1)))
 

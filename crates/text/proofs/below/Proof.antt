@@ -52,6 +52,7 @@ below-spec =
     (λ c. search needs)
     returns
     (λ c κs. search needs)
+    (λ c. search needs)
     returns-2
     returns-3
     returns-4)

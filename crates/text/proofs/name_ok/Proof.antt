@@ -31,12 +31,12 @@ returns-3 : tie.Need-returns-3 Inv-loop μ-loop
 returns-3 c =
     let k = c .before .before .before in
     sym (name-all (now (k .before .before .before .before .before .args .f)) (k .before .before .before .if1 .left) (k .before .before .if2 .left) ∙ k .before .loop .inv .1
-    ∙ all-stop _ _ _ (k .loop-test .taken) (sym (c .before .name-byte .ensures) ∙ not-true _ (c .if3 .taken)))
+    ∙ all-stop _ _ _ (k .loop-test .taken) (sym (c .before .is-name-byte .ensures) ∙ not-true _ (c .if3 .taken)))
 
 loop-again : tie.Need-loop-again Inv-loop μ-loop
 loop-again c =
     let k = c .before .before .before in
-    (omega arith, k .before .loop .inv .1 ∙ all-step _ _ _ (k .loop-test .taken) (sym (c .before .name-byte .ensures) ∙ not-false _ (c .if3 .left)))
+    (omega arith, k .before .loop .inv .1 ∙ all-step _ _ _ (k .loop-test .taken) (sym (c .before .is-name-byte .ensures) ∙ not-false _ (c .if3 .left)))
 
 returns-4 : tie.Need-returns-4 Inv-loop μ-loop
 returns-4 c =

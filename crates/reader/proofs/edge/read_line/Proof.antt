@@ -5,7 +5,6 @@ use borrow.Author.Tests.{not-true, not-false}
 use borrow.Author.Needs.{needs}
 use Rattle.semantics.specs.Reading.{op-word-field}
 use Rattle.text.specs.Fields.{op-word-res}
-use Rattle.reader.proofs.Wording.{word-said}
 use Rattle.reader.proofs.Reading.{edge-full, edge-short, edge-no-word, edge-word}
 use Rattle.reader.proofs.Judging.{said}
 use Rattle.reader.proofs.edge.read_line.Statement.{statement}
@@ -20,17 +19,18 @@ returns-2 c = λ s names h g. edge-short s _ (omega (arith, h .edges)) (sym (c .
 returns-3 : tie.Need-returns-3
 unfolding op-word-res
 returns-3 c = λ s names h g.
-    let k = c .before .before .before .before .before in
-    let n = sym (k .before .enough .ensures) ∙ not-false _ (k .if2 .left) in
-    edge-no-word s _ (omega (arith, h .edges)) n (said op-word-field (c .before .before .before .before .field .ensures) (c .before .before .before .op-word-field .ensures) (ap op-word-res (c .before .w .given .1)))
+    let w = c .before .before .before in
+    let k = w .before .before in
+    edge-no-word s _ (omega (arith, h .edges)) (sym (k .before .enough .ensures) ∙ not-false _ (k .if2 .left))
+    (said op-word-field (w .before .field .ensures) (w .op-word-field .ensures) (ap op-word-res (c .before .k .given .1)))
 
 returns-4 : tie.Need-returns-4
+unfolding op-word-res
 returns-4 c = λ s names h g.
-    let k = c .before .before .before .before .before .before in
-    let n = sym (k .before .enough .ensures) ∙ not-false _ (k .if2 .left) in
-    let w = c .before .before .before .before .op-word-field in
-    let e = said op-word-field (c .before .before .before .before .before .field .ensures) (w .ensures) (word-said (w .result) (c .before .before .before .match .keys2)) in
-    rw (edge-word s _ (omega (arith, h .edges)) n e) (c .before .worded .ensures s names h g)
+    let w = c .before .before .before .before .before .before in
+    let k = w .before .before in
+    let e = said op-word-field (w .before .field .ensures) (w .op-word-field .ensures) (ap op-word-res (c .before .before .before .before .w .given .1)) in
+    rw (edge-word s _ (omega (arith, h .edges)) (sym (k .before .enough .ensures) ∙ not-false _ (k .if2 .left)) e) (c .before .worded .ensures s names h g)
 
 pub read-line-spec : {M : Type 1} → statement M
 read-line-spec =
@@ -39,9 +39,8 @@ read-line-spec =
     returns
     (λ c κs. search needs)
     returns-2
-    (λ c κs. search needs)
-    (λ c κs. search needs)
-    (λ c. search needs)
+    (λ c κs. search needs) (λ c κs. search needs)
+    (λ c. search needs) (λ c. search needs)
     (λ c κs. search needs)
     returns-3
     (λ c. search needs)

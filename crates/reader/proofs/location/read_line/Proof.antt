@@ -1,13 +1,37 @@
 -- `reader::location::read_line` meets its contract. Assumes nothing.
-use mathlib.Core.Path.{sym, ap, _∙_}
+use mathlib.Core.Path.{_≡_, sym, ap, _∙_}
+use mathlib.Core.List.{List}
+use Prim.Native.Nat.{ℕ}
+use lib.Dec.{T}
 use denote.Ref.{now}
 use borrow.Author.Needs.{needs}
 use Rattle.semantics.specs.Text.{name-ok, fields}
+use Rattle.semantics.specs.Reading.{ok}
+use Rattle.semantics.proofs.Accepted.{check-ok}
 use Rattle.text.specs.Fields.{kind-res}
-use Rattle.reader.proofs.Reading.{loc-late, loc-full, loc-read, loc-name-ok}
+use Rattle.reader.specs.Lines.{loc-judged}
+use Rattle.reader.proofs.Reading.{loc-late, loc-full, loc-read}
 use Rattle.reader.proofs.Judging.{then-fail, then-ok}
 use Rattle.reader.proofs.location.read_line.Statement.{statement}
 use Rattle.reader.proofs.location.read_line.Tie as tie
+
+-- once the fields are judged, and the name is at hand
+module _ (c : tie.After-field) where
+  abbrev judged-at : tie.After-judged
+  judged-at = c .before .before .before .before .before
+
+  abbrev fs : List (List ℕ)
+  fs = fields (now (judged-at .before .before .before .before .before .before .args .line))
+
+  kind-read : loc-judged fs ≡ ok (c .before .before .before .error .given .0 .0)
+  unfolding kind-res
+  kind-read = sym (judged-at .judged .ensures) ∙ ap kind-res (c .before .before .before .error .given .1)
+
+  named : T (name-ok (now (c .field .result)))
+  named = rw (c .field .ensures) (check-ok _ _ _ (check-ok _ _ _ kind-read .1) .0)
+
+named-requires : tie.Need-named-requires
+named-requires c κs = (named c, search needs, search needs, search needs, search needs)
 
 returns : tie.Need-returns
 returns c = λ s names h g. loc-late s _ h (c .if1 .taken)
@@ -18,18 +42,14 @@ returns-2 c = λ s names h g. loc-full s _ h (c .before .before .if1 .left) (c .
 returns-3 : tie.Need-returns-3
 unfolding kind-res
 returns-3 c = λ s names h g.
-    let k = c .before .before .before .before in
-    loc-read s _ h (k .before .before .if1 .left) (k .if2 .left) ∙ then-fail _ (sym (c .before .before .before .judged .ensures) ∙ ap kind-res (c .before .k .given .1))
+    let k = c .before .before .before in
+    loc-read s _ h (k .before .before .before .if1 .left) (k .before .if2 .left) ∙ then-fail _ (sym (k .judged .ensures) ∙ ap kind-res (c .before .k .given .1))
 
 returns-4 : tie.Need-returns-4
-unfolding kind-res
 returns-4 c = λ s names h g.
-    let k = c .before .before .before .before .before .before .before .before in
-    let fs = fields (now (k .before .before .before .before .before .args .line)) in
-    let e = sym (c .before .before .before .before .before .before .before .judged .ensures) ∙ ap kind-res (c .before .before .before .before .before .error .given .1) in
-    let f = c .before .before .field .ensures in
-    let o = ap name-ok f ∙ loc-name-ok fs e in
-    rw (loc-read s fs h (k .before .before .if1 .left) (k .if2 .left) ∙ then-ok _ e) (rw f at (c .before .named .ensures s names h g o))
+    let f = c .before .before in
+    let k = judged-at f in
+    rw (loc-read s (fs f) h (k .before .before .before .if1 .left) (k .before .if2 .left) ∙ then-ok _ (kind-read f)) (rw (f .field .ensures) at (c .before .named .ensures s names h g))
 
 pub read-line-spec : {M : Type 1} → statement M
 read-line-spec =
@@ -38,10 +58,9 @@ read-line-spec =
     returns
     returns-2
     (λ c κs. search needs)
-    (λ c. search needs)
-    (λ c. search needs)
+    (λ c. search needs) (λ c. search needs)
     (λ c κs. search needs)
-    (λ c κs. search needs)
+    named-requires
     returns-3
     (λ c. search needs)
     returns-4)

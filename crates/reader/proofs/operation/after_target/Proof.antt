@@ -1,7 +1,6 @@
 -- `reader::operation::after_target` meets its contract. Assumes nothing.
 use mathlib.Core.Path.{_∙_}
 use borrow.Author.Needs.{needs}
-use Rattle.reader.proofs.Wording.{skip-said}
 use Rattle.reader.proofs.operation.after_target.Statement.{statement}
 use Rattle.reader.proofs.operation.after_target.Tie as tie
 
@@ -10,20 +9,14 @@ after-target-spec =
     tie.close
     (tie.spec
     (λ c. search needs)
-    (λ c κs. search needs)
-    (λ c κs. search needs)
+    (λ c κs. search needs) (λ c κs. search needs)
     (λ c. search needs)
     (λ c κs. search needs)
     (λ c. search needs)
     (λ c κs. search needs)
     (λ c. search needs)
     (λ c κs. search needs)
-    (λ c. search needs)
-    (λ c κs. search needs)
-    (λ c κs. search needs)
-    (λ c. rw (c .before .before .enum-told .given .1) (c .one-operand .ensures ∙ rw (c .before .field .ensures)))
-    (λ c. rw (c .before .enum-told2 .given .1) (c .two-operands .ensures))
-    (λ c. rw (c .before .enum-told3 .given .1) (c .two-operands2 .ensures))
-    (λ c. rw (c .before .enum-told4 .given .1) (c .input .ensures))
-    (λ c. rw (c .before .enum-told5 .given .1) (c .assume .ensures))
-    (λ c. rw (skip-said (c .before .before .before .args .w) (c .before .match .keys6)) (c .unchanged .ensures)))
+    (λ c. rw (c .before .before .enum-told .given .1) (c .set .ensures ∙ rw (c .before .field .ensures)))
+    (λ c. rw (c .before .before .w .given .1) (c .compute .ensures))
+    (λ c. rw (c .before .enum-told2 .given .1) (c .input .ensures))
+    (λ c. rw (c .before .enum-told3 .given .1) (c .assume .ensures)))

@@ -4,7 +4,11 @@ use Rattle.reader.proofs.operation.high_ok.Statement.{statement}
 use Rattle.reader.proofs.operation.high_ok.Tie as tie
 
 returns : tie.Need-returns
-returns c = rw (c .in-range .ensures) (search needs)
+returns c = rw (c .in-var-range .ensures) (search needs)
 
 pub high-ok-spec : {M : Type 1} → statement M
-high-ok-spec = tie.close (tie.spec (λ c κs. search needs) returns)
+high-ok-spec =
+    tie.close
+    (tie.spec
+    (λ c κs. search needs)
+    returns)

@@ -12,7 +12,7 @@ unfolding word-res
 returns c = let k = c .before .before .before .before .before in
     let e = said number-field (k .before .before .before .field .ensures) (k .before .before .number-field .ensures) (ap word-res (k .p .given .1)) in
     rw (sym (c .before .field2 .ensures))
-    (c .input-high .ensures ∙ (search needs) ∙ sym (then-ok _ e ∙ check-yes _ _ ((search needs) ∙ sym (c .before .before .before .in-range .ensures) ∙ c .before .before .if1 .taken)))
+    (c .input-high .ensures ∙ (search needs) ∙ sym (then-ok _ e ∙ check-yes _ _ ((search needs) ∙ sym (c .before .before .before .in-var-range .ensures) ∙ c .before .before .if1 .taken)))
 
 returns-2 : tie.Need-returns-2
 unfolding word-res
@@ -22,19 +22,15 @@ returns-3 : tie.Need-returns-3
 unfolding word-res
 returns-3 c = let k = c .before .before .before in
     let e = said number-field (k .before .before .before .field .ensures) (k .before .before .number-field .ensures) (ap word-res (k .p .given .1)) in
-    sym (then-ok _ e ∙ check-no _ _ ((search needs) ∙ sym (c .before .in-range .ensures) ∙ c .if1 .left))
+    sym (then-ok _ e ∙ check-no _ _ ((search needs) ∙ sym (c .before .in-var-range .ensures) ∙ c .if1 .left))
 
 pub input-spec : {M : Type 1} → statement M
 input-spec =
     tie.close
     (tie.spec
-    (λ c κs. search needs)
-    (λ c κs. search needs)
-    (λ c. search needs)
-    (λ c. search needs)
-    (λ c κs. search needs)
-    (λ c κs. search needs)
-    (λ c κs. search needs)
+    (λ c κs. search needs) (λ c κs. search needs)
+    (λ c. search needs) (λ c. search needs)
+    (λ c κs. search needs) (λ c κs. search needs) (λ c κs. search needs)
     returns
     returns-2
     returns-3)

@@ -8,9 +8,9 @@ use Rattle.reader.proofs.operation.input_high.Tie as tie
 
 returns : tie.Need-returns
 unfolding word-res
-returns c = let k = c .before .before .before .before in
+returns c = let k = c .before .before .before in
     let e = sym (k .before .before .number-field .ensures) ∙ ap word-res (k .q .given .1) in
-    rw (sym (c .variable-word .ensures)) ((search needs) ∙ sym (then-ok _ e ∙ check-yes _ _ ((search needs) ∙ sym (c .before .before .high-ok .ensures) ∙ c .before .if1 .taken)))
+    (search needs) ∙ sym (then-ok _ e ∙ check-yes _ _ ((search needs) ∙ sym (c .before .high-ok .ensures) ∙ c .if1 .taken))
 
 returns-2 : tie.Need-returns-2
 unfolding word-res
@@ -27,9 +27,7 @@ input-high-spec =
     tie.close
     (tie.spec
     (λ c κs. search needs)
-    (λ c. search needs)
-    (λ c. search needs)
-    (λ c κs. search needs)
+    (λ c. search needs) (λ c. search needs)
     (λ c κs. search needs)
     returns
     returns-2

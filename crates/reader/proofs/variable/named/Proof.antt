@@ -1,51 +1,79 @@
 -- `reader::variable::named` meets its contract. Assumes nothing.
 use mathlib.Core.Path.{_≡_, sym, _∙_}
+use mathlib.Core.Bool.{not}
+use mathlib.Core.List.{List}
+use Prim.Native.Nat.{ℕ}
 use native.Mathlib.Omega.{arith}
 use denote.Ref.{now}
 use mir.Syntax.{w32}
 use mir.Val.{toZ, ofZ}
+use borrow.Author.Tests.{not-true, not-false}
 use borrow.Author.Needs.{needs}
-use Rattle.semantics.specs.Reading.{with-var}
-use Rattle.semantics.proofs.Reloaded.{word-back}
+use Rattle.semantics.specs.Lists.{all}
+use Rattle.semantics.specs.Text.{same-bytes}
+use Rattle.semantics.specs.Reading.{So-far, with-var}
+use Rattle.semantics.proofs.Encoded.{name-short}
 use Rattle.reader.specs.Answers.{var-of}
+use Rattle.reader.specs.Held.{Names}
 use Rattle.reader.proofs.Growing.{rows-var, names-more}
-use Rattle.reader.proofs.Naming.{names-seen}
-use Rattle.reader.proofs.Judging.{check-no, check-yes, not-no, not-yes}
+use Rattle.reader.proofs.Naming.{new-variable}
+use Rattle.reader.proofs.Judging.{check-no, check-yes}
 use Rattle.reader.proofs.variable.named.Statement.{statement}
 use Rattle.reader.proofs.variable.named.Tie as tie
 
+-- once the name is stored, and looked for
+module _ (c : tie.After-name-is-new) where
+  abbrev stored-at : tie.After-put-location
+  stored-at = c .before .before .before .before .before
+
+  abbrev start : tie.Start
+  start = stored-at .before .before .before .before
+
+  abbrev name : List ℕ
+  name = now (start .args .name)
+
+  is-new : (s : So-far) → Names (start .args .t .vars) (now (start .args .names)) (s .names) → c .name-is-new .result ≡ all (λ m. not (same-bytes m name)) (s .names)
+  is-new s g =
+      let p = stored-at .put-location in
+      c .name-is-new .ensures ∙ new-variable g name (start .pre .0) (p .last .0) (p .ensures)
+
+put-location-requires : tie.Need-put-location-requires
+put-location-requires c κs = let s = c .before .before .before in
+    (name-short (now (s .args .name)) (s .pre .0), omega arith)
+
 returns : tie.Need-returns
-returns c = λ s h g o. check-no _ _ (not-no (sym (names-seen (now (c .before .before .before .before .args .name)) g o) ∙ sym (c .before .name-seen .ensures) ∙ c .if1 .taken))
+returns c = λ s h g. check-no _ _ (sym (is-new (c .before) s g) ∙ not-true _ (c .if1 .taken))
 
 returns-2 : tie.Need-returns-2
-returns-2 c = λ s h g o.
-    let v = c .before .before .before .before .before .before .before .before .before .before .before .before .before .before .before .args .v in
-    let p : toZ w32 (ofZ w32 (v .lo)) ≡ v .lo = search needs in
-    let q : toZ w32 (ofZ w32 (v .hi)) ≡ v .hi = search needs in
-    let r : toZ w32 (ofZ w32 (v .init)) ≡ v .init = search needs in
-    let k = c .before .before .before .before .before .before .before .before .before .before .before in
-    let name = now (k .before .before .before .before .args .name) in
+returns-2 c = λ s h g.
+    let p = c .before .before in
+    let u = p .before .before .before .before .used-words in
+    let l = p .before .before .before .before .before .before in
+    let k = l .before in
+    let v = start k .args .v in
+    let q = start k .pre in
+    let x : toZ w32 (ofZ w32 (v .lo)) ≡ v .lo = search needs in
+    let y : toZ w32 (ofZ w32 (v .hi)) ≡ v .hi = search needs in
+    let z : toZ w32 (ofZ w32 (v .init)) ≡ v .init = search needs in
     record {
-      read = with-var s name (var-of v);
-      is = check-yes _ _ (not-yes (sym (names-seen name g o) ∙ sym (k .before .name-seen .ensures) ∙ k .if1 .left));
-      few = record { vars = omega arith; locs = omega arith; edges = omega arith };
-      held = rw (c .before .before .before .before .before .before .push-row .ensures) (rows-var s h name (var-of v) _ (rw (p, q, r, word-back (v .init))) (omega arith) (omega arith) (omega arith));
-      names-held = rw (c .before .before .push-name .ensures) (names-more name g o (omega arith));
+      read = with-var s (name k) (var-of v);
+      is = check-yes _ _ (sym (is-new k s g) ∙ not-false _ (l .if1 .left));
+      few = record { vars = omega (arith, q); locs = omega arith; edges = omega arith };
+      held = rows-var s h (u .ensures) (name k) (var-of v) (p .put-variable .ensures ∙ rw (x, y, z)) (omega (arith, q)) (omega (arith, q)) (omega (arith, q));
+      names-held = names-more (name k) g (stored-at k .put-location .ensures) (q .0) (omega (arith, q));
     }
 
 pub named-spec : {M : Type 1} → statement M
 named-spec =
     tie.close
     (tie.spec
+    (λ c. search needs)
+    put-location-requires
+    (λ c. search needs) (λ c. search needs) (λ c. search needs) (λ c. search needs)
+    (λ c. search needs) (λ c. search needs) (λ c. search needs)
     (λ c κs. search needs)
     (λ c. search needs)
     returns
-    (λ c. search needs)
-    (λ c. search needs)
-    (λ c κs. search needs)
-    (λ c. search needs)
-    (λ c κs. search needs)
-    (λ c. search needs)
-    (λ c. search needs)
-    (λ c. search needs)
+    (λ c κs. search needs) (λ c κs. search needs)
+    (λ c. search needs) (λ c. search needs) (λ c. search needs)
     returns-2)

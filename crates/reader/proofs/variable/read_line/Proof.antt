@@ -1,13 +1,36 @@
 -- `reader::variable::read_line` meets its contract. Assumes nothing.
-use mathlib.Core.Path.{sym, ap, _∙_}
+use mathlib.Core.Path.{_≡_, sym, ap, _∙_}
+use mathlib.Core.List.{List}
+use Prim.Native.Nat.{ℕ}
+use lib.Dec.{T}
 use denote.Ref.{now}
 use borrow.Author.Needs.{needs}
 use Rattle.semantics.specs.Text.{name-ok, fields}
-use Rattle.reader.specs.Answers.{var-res}
-use Rattle.reader.proofs.Reading.{var-after-loc, var-after-edge, var-full, var-read, var-name-ok}
+use Rattle.semantics.specs.Reading.{ok}
+use Rattle.semantics.proofs.Accepted.{check-ok}
+use Rattle.reader.specs.Answers.{var-of, var-res}
+use Rattle.reader.specs.Lines.{var-judged}
+use Rattle.reader.proofs.Reading.{var-after-loc, var-after-edge, var-full, var-read}
 use Rattle.reader.proofs.Judging.{then-fail, then-ok}
 use Rattle.reader.proofs.variable.read_line.Statement.{statement}
 use Rattle.reader.proofs.variable.read_line.Tie as tie
+
+-- once the fields are judged, and the name is at hand
+module _ (c : tie.After-field) where
+  abbrev judged-at : tie.After-judged
+  judged-at = c .before .before .before .before .before .before
+
+  abbrev fs : List (List ℕ)
+  fs = fields (now (judged-at .before .before .before .before .before .before .before .before .args .line))
+
+  var-said : var-judged fs ≡ ok (var-of (c .before .before .before .before .v .given .0 .0))
+  var-said = sym (judged-at .judged .ensures) ∙ ap var-res (c .before .before .before .before .v .given .1)
+
+  named : T (name-ok (now (c .field .result)))
+  named = rw (c .field .ensures) (check-ok _ _ _ (check-ok _ _ _ var-said .1) .0)
+
+named-requires : tie.Need-named-requires
+named-requires c κs = (named c, search needs, search needs, search needs, search needs, search needs)
 
 returns : tie.Need-returns
 returns c = λ s h g. var-after-loc s _ h (c .if1 .taken)
@@ -25,12 +48,9 @@ returns-4 c = λ s h g.
 
 returns-5 : tie.Need-returns-5
 returns-5 c = λ s h g.
-    let k = c .before .before .before .before .before .before .before .before .before .before in
-    let fs = fields (now (k .before .before .before .before .before .before .before .args .line)) in
-    let e = sym (c .before .before .before .before .before .before .before .before .before .judged .ensures) ∙ ap var-res (c .before .before .before .before .before .before .before .v .given .1) in
-    let f = c .before .before .before .field .ensures in
-    let o = ap name-ok f ∙ var-name-ok fs e in
-    rw (var-read s fs h (k .before .before .before .before .if1 .left) (k .before .before .if2 .left) (k .if3 .left) ∙ then-ok _ e) (rw f at (c .before .before .named .ensures s h g o))
+    let f = c .before .before .before in
+    let k = judged-at f .before in
+    rw (var-read s (fs f) h (k .before .before .before .before .if1 .left) (k .before .before .if2 .left) (k .if3 .left) ∙ then-ok _ (var-said f)) (rw (f .field .ensures) at (c .before .before .named .ensures s h g))
 
 pub read-line-spec : {M : Type 1} → statement M
 read-line-spec =
@@ -40,11 +60,9 @@ read-line-spec =
     returns-2
     returns-3
     (λ c κs. search needs)
-    (λ c. search needs)
-    (λ c. search needs)
+    (λ c. search needs) (λ c. search needs)
     (λ c κs. search needs)
-    (λ c κs. search needs)
+    named-requires
     returns-4
-    (λ c. search needs)
-    (λ c. search needs)
+    (λ c. search needs) (λ c. search needs)
     returns-5)

@@ -1,0 +1,31 @@
+-- `chart::put_chart` meets its contract. Assumes nothing.
+use mathlib.Core.List.{[], _∷_}
+use mathlib.Core.Path.{_≡_, _∙_}
+use native.Mathlib.Omega.{arith}
+use lib.IntN.{pos}
+use denote.Ref.{now}
+use mir.Val.{toZ}
+use mir.Facts.{toZ-pos}
+use mir.Syntax.{w32}
+use borrow.Author.Needs.{needs}
+use Rattle.chart.proofs.Storing.{stored-then}
+use Rattle.chart.proofs.put_chart.Statement.{statement}
+use Rattle.chart.proofs.put_chart.Tie as tie
+
+returns : tie.Need-returns
+returns c =
+    let p = c .before .before .before .before in
+    let a = p .before .before .before .args in
+    let v : toZ w32 (a .vars) ≡ pos (a .vars) = toZ-pos w32 (omega arith) in
+    let l : toZ w32 (a .locations) ≡ pos (a .locations) = toZ-pos w32 (omega arith) in
+    let e : toZ w32 (a .edges) ≡ pos (a .edges) = toZ-pos w32 (omega arith) in
+    c .before .put-row2 .ensures ∙ rw (p .put-row .ensures, v, l, e) (stored-then 0 (pos (a .vars) ∷ pos (a .locations) ∷ pos (a .edges) ∷ []) (now (a .chart)) (omega arith) (now (a .rows)))
+
+pub put-chart-spec : {M : Type 1} → statement M
+put-chart-spec =
+    tie.close
+    (tie.spec
+    (λ c. search needs) (λ c. search needs) (λ c. search needs) (λ c. search needs)
+    (λ c κs. search needs) (λ c κs. search needs)
+    (λ c. search needs)
+    returns)

@@ -1,0 +1,22 @@
+-- `chart::put_row` meets its contract. Assumes nothing.
+use borrow.Author.Needs.{needs}
+use Rattle.words.proofs.Rows.{span, part-length}
+use Rattle.chart.specs.Rows.{stored}
+use Rattle.chart.proofs.put_row.Statement.{statement}
+use Rattle.chart.proofs.put_row.Tie as tie
+
+copy-words-requires : tie.Need-copy-words-requires
+copy-words-requires c κs = rw span (part-length _ _ _ (c .before .pre))
+
+returns : tie.Need-returns
+unfolding stored
+returns c = rw (span, c .before .copy-words .ensures)
+
+pub put-row-spec : {M : Type 1} → statement M
+put-row-spec =
+    tie.close
+    (tie.spec
+    (λ c. search needs) (λ c. search needs) (λ c. search needs) (λ c. search needs) (λ c. search needs)
+    copy-words-requires
+    (λ c. search needs)
+    returns)
