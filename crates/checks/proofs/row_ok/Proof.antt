@@ -22,7 +22,7 @@ returns c =
     let v = c .before .values .ensures in
     (λ j. b .is-below .ensures j && c .values-ok .ensures j)
     ∙ (λ j. below (b .before .location-count .ensures .0 j) (w j) && all-pairs value-ok (several var-in variable-size (length (v j)) (drop counts-size (s .args .chart .now))) (v j))
-    ∙ row-is (s .args .chart .now) (s .args .row .now) (s .pre)
+    ∙ row-is (s .args .chart .now) (s .args .row .now) (s .pre .0)
 
 pub row-ok-spec : {M : Type 1} → statement M
 row-ok-spec =
