@@ -14,7 +14,7 @@ ghost use lib.Dec.{eqb, ltb};
 ghost use lib.ListN.{length, drop};
 ghost use Rattle.semantics.specs.Lists.{all, all-pairs, all-of};
 ghost use Rattle.semantics.specs.Chart.{eqZ, within};
-ghost use Rattle.semantics.specs.Layout.{top-word, counts-size, variable-size, index-limit, index-limit};
+ghost use Rattle.semantics.specs.Layout.{top-word, counts-size, variable-size, index-limit};
 ghost use Rattle.semantics.specs.Algorithm.{allowed};
 ghost use Rattle.semantics.specs.Encoding.{several, var-in, decode};
 ghost use Rattle.semantics.specs.Memory.{width, capacity-ok, value-ok, below, row-ok, rows-ok, each-once, is-alarm, empty-if-safe, lent-tests, record-tests, analysis-ok};

@@ -61,8 +61,8 @@ module _ (c : tie.In-loop Inv-loop μ-loop) where
 row-ok-requires : tie.Need-row-ok-requires Inv-loop μ-loop
 row-ok-requires c κs =
     let p = c .before in
-    let l = rw span (part-length (table p) (p .before .loop .from) (w p) (room p)) in
-    (l ∙ wide p, omega (arith, l, p .before .before .width .ensures, start p .pre .0 .1))
+    let l = part-length (table p) (p .before .loop .from) (w p) (room p) in
+    (rw span l ∙ wide p, rw span (omega (arith, l, p .before .before .width .ensures, start p .pre .0 .1)))
 
 turn : (c : tie.After-row-ok Inv-loop μ-loop) (b : Bool) → c .row-ok .result ≡ b →
     let p = c .before .before in
