@@ -6,38 +6,46 @@ use Prim.Native.Nat.{ℕ, suc, _+_, _-_, _≤_, _<_}
 use native.Mathlib.Numerals.{add-one}
 use native.Mathlib.Omega.{arith}
 use borrow.Author.Tests.{lt-ltb, le-ltb}
-use lib.Dec.{T, ltb}
+use lib.Dec.{T}
 use lib.IntN.{ℤ}
 use lib.ListN.{length}
-use Rattle.semantics.specs.declared.Settings.{Settings}
+use Rattle.semantics.specs.declared.Analysis.{Analysis}
 use Rattle.semantics.specs.Lists.{some-of}
-use Rattle.semantics.specs.Algorithm.{Out, on, full, then, merged, rewait, stopped, arrive}
-use Rattle.semantics.specs.Tidy.{Allowed}
-use Rattle.state.specs.Rows.{row-leq}
-use Rattle.reached.proofs.Table.{Sized}
+use Rattle.semantics.specs.Algorithm.{Out, on, full, then, merged, stopped, arrive}
+use Rattle.state.specs.declared.Layout.{Layout}
+use Rattle.state.specs.Rows.{row-leq, rows-of}
+use Rattle.waitlist.specs.Waits.{waits}
+use Rattle.reached.proofs.Table.{Sized, rows-sized, rows-length}
+use Rattle.reached.proofs.Forms.{in-table}
 use Rattle.transfer.specs.Transfer.{post-at, post-words, edge-at, edges-from}
 use Rattle.analysis.specs.declared.Exit.{Exit}
 use Rattle.analysis.specs.declared.Exit.the-variants.{On, Alarm, Full}
-use Rattle.analysis.specs.Loaded.{rows-only, out-by, has-ended}
+use Rattle.analysis.specs.Loaded.{rows-only, Ready, Merged, out-by, has-ended}
 use Rattle.analysis.proofs.Merges.{stop-same}
 
-module _ (s : Settings) (r : ℕ) (e : List ℤ) (en : List (List ℤ)) (wa : List ℕ) (ok : Allowed s) (n : 0 < length e) (z : Sized (length e) en)
-    (en′ : List (List ℤ)) (wa′ : List ℕ) (me : en′ ≡ merged rows-only (s .merge) e en) (mw : wa′ ≡ rewait rows-only (s .merge) e en wa) where
-  is-stopped : stopped rows-only (s .stop) e (merged rows-only (s .merge) e en) ≡ some-of (row-leq e) en′
-  is-stopped = stop-same (s .merge) (s .stop) e en ok n z ∙ ap (some-of (row-leq e)) (sym me)
+-- the successor e is merged; what arrives is decided by the test against the slots
+module _ {y : Layout} {a : Analysis} {t l e t′ l′ : List ℤ} {r : ℕ} (g : Ready y a t l e) (m : Merged y a e t l t′ l′ r) where
+  abbrev arrived : Out (List ℤ)
+  arrived = arrive rows-only (a .settings) (length l) e (rows-of y (a .used) t) (waits (a .waiting) l)
 
-  pub arrive-drop : some-of (row-leq e) en′ ≡ true → on en′ wa′ ≡ arrive rows-only s r e en wa
-  arrive-drop h = rw (is-stopped ∙ h, me, mw)
+  sized : Sized (length e) (rows-of y (a .used) t)
+  sized = rw (g .row) (rows-sized y (g .kept .apart) (a .used) t (in-table (g .kept)))
 
-  pub arrive-store : some-of (row-leq e) en′ ≡ false → length en′ < r → on (en′ ++ (e ∷ [])) (wa′ ++ (length en′ ∷ [])) ≡ arrive rows-only s r e en wa
-  arrive-store h l =
-      let b : ltb (length (merged rows-only (s .merge) e en)) r ≡ true = ap (λ (x : List (List ℤ)). ltb (length x) r) (sym me) ∙ lt-ltb (length en′) r l in
-      rw (is-stopped ∙ h, b, me, mw)
+  is-stopped : stopped rows-only (a .settings .stop) e (merged rows-only (a .settings .merge) e (rows-of y (a .used) t)) ≡ some-of (row-leq e) (rows-of y (a .used) t′)
+  is-stopped = stop-same (a .settings .merge) (a .settings .stop) e (rows-of y (a .used) t) (g .allowed) (omega (arith, g .row, g .kept .wide)) sized ∙ ap (some-of (row-leq e)) (sym (m .rows))
 
-  pub arrive-full : some-of (row-leq e) en′ ≡ false → r ≤ length en′ → full en′ wa′ ≡ arrive rows-only s r e en wa
-  arrive-full h l =
-      let b : ltb (length (merged rows-only (s .merge) e en)) r ≡ false = ap (λ (x : List (List ℤ)). ltb (length x) r) (sym me) ∙ le-ltb (length en′) r l in
-      rw (is-stopped ∙ h, b, me, mw)
+  slots : length (merged rows-only (a .settings .merge) e (rows-of y (a .used) t)) ≡ a .used
+  slots = ap length (sym (m .rows)) ∙ rows-length y (a .used) t′
+
+  pub arrive-drop : some-of (row-leq e) (rows-of y (a .used) t′) ≡ true → on (rows-of y (a .used) t′) (waits r l′) ≡ arrived
+  arrive-drop h = rw (is-stopped ∙ h, m .rows, m .waiting)
+
+  pub arrive-store : some-of (row-leq e) (rows-of y (a .used) t′) ≡ false → a .used < length l
+      → on (rows-of y (a .used) t′ ++ (e ∷ [])) (waits r l′ ++ (a .used ∷ [])) ≡ arrived
+  arrive-store h u = rw (is-stopped ∙ h, slots, lt-ltb (a .used) (length l) u, m .rows, m .waiting)
+
+  pub arrive-full : some-of (row-leq e) (rows-of y (a .used) t′) ≡ false → length l ≤ a .used → full (rows-of y (a .used) t′) (waits r l′) ≡ arrived
+  arrive-full h u = rw (is-stopped ∙ h, slots, le-ltb (a .used) (length l) u, m .rows, m .waiting)
 
 -- ---- the edges
 

@@ -16,20 +16,22 @@ use Rattle.semantics.specs.declared.Verdict.the-variants.{Open, Safe, Alarm, Fu
 use Rattle.semantics.specs.Lists.{In, some-of, all}
 use Rattle.semantics.specs.Chart.{Chart, eqZ}
 use Rattle.semantics.specs.Tidy.{Distinct, Queue, Every, Tidy}
-use Rattle.semantics.specs.Memory.{Memory, width, load, below, each-once, is-alarm, empty-if-safe, analysis-ok}
+use Rattle.semantics.specs.Memory.{Memory, width, load, below, each-once, zeros, is-alarm, empty-if-safe, analysis-ok}
 use Rattle.semantics.proofs.Values.{and-left, and-right}
 use Rattle.semantics.proofs.Tidy.{some-not}
 use Rattle.semantics.proofs.Reloaded.{Form, form, slots-back, zeros-back}
 use Rattle.semantics.proofs.Listed.{few-slots}
 use Rattle.semantics.proofs.Simulate.{ExplorationR}
+use Rattle.state.specs.declared.Layout.{Layout}
 use Rattle.state.specs.Rows.{rows-of}
+use Rattle.state.proofs.Layouts.{LayoutOf, slots-in}
 use Rattle.waitlist.specs.Waits.{waits, Stored}
 use Rattle.waitlist.proofs.WaitWords.{any-some}
 use Rattle.reached.specs.Reached.{Kept}
 use Rattle.reached.proofs.Table.{rows-length, rows-prefix}
 use Rattle.transfer.proofs.Agree.{Says}
 use Rattle.transfer.proofs.Said.{rows-say}
-use Rattle.analysis.specs.Loaded.{Any, load-of, Held}
+use Rattle.analysis.specs.Loaded.{Any, load-of, Resumable}
 
 pub iterations-few : (c : Chart) (m : Memory) → T (analysis-ok c m) → m .analysis .iterations ≤ 60000
 iterations-few c m t = leb→le (m .analysis .iterations) 60000 (form c m t .iterations)
@@ -80,9 +82,9 @@ alarm-only Full false t h = t
 
 -- ---- the capacity's words
 
-module _ (c : Chart) (m : Memory) (lt : m .analysis .capacity * width c ≤ length (m .table)) (ll : m .analysis .capacity ≤ length (m .waitlist)) (ok : T (analysis-ok c m)) where
+module _ (c : Chart) (y : Layout) (o : LayoutOf c y) (m : Memory) (lt : m .analysis .capacity * width c ≤ length (m .table)) (ll : m .analysis .capacity ≤ length (m .waitlist)) (ok : T (analysis-ok c m)) where
   abbrev pub table-in : List ℤ
-  table-in = take (m .analysis .capacity * width c) (m .table)
+  table-in = take (m .analysis .capacity * y .stride) (m .table)
 
   abbrev pub list-in : List ℤ
   list-in = take (m .analysis .capacity) (m .waitlist)
@@ -99,13 +101,15 @@ module _ (c : Chart) (m : Memory) (lt : m .analysis .capacity * width c ≤ leng
   front : take (m .analysis .waiting) list-in ≡ take (m .analysis .waiting) (m .waitlist)
   front = take-take (m .analysis .waiting) (m .analysis .capacity) (m .waitlist) (omega (arith, few, fewer))
 
-  rows-in : rows-of (width c) (m .analysis .used) table-in ≡ rows-of (width c) (m .analysis .used) (m .table)
+  table-fits : m .analysis .capacity * y .stride ≤ length (m .table)
+  table-fits = slots-in o (m .analysis .capacity) (length (m .table)) lt
+
+  rows-in : rows-of y (m .analysis .used) table-in ≡ rows-of y (m .analysis .used) (m .table)
   rows-in =
-      let k = width c in
-      let n = m .analysis .used * k in
-      let le : n ≤ m .analysis .capacity * k = mul-le-mul-right k few in
-      ap (rows-of k (m .analysis .used)) (sym (take-append-drop n table-in) ∙ ap (λ (x : List ℤ). x ++ drop n table-in) (take-take n (m .analysis .capacity * k) (m .table) le))
-      ∙ rows-prefix k (m .analysis .used) (m .table) (drop n table-in) (omega (arith, le, lt))
+      let n = m .analysis .used * y .stride in
+      let le : n ≤ m .analysis .capacity * y .stride = mul-le-mul-right (y .stride) few in
+      ap (rows-of y (m .analysis .used)) (sym (take-append-drop n table-in) ∙ ap (λ (x : List ℤ). x ++ drop n table-in) (take-take n (m .analysis .capacity * y .stride) (m .table) le))
+      ∙ rows-prefix y (omega (arith, o .wide, o .stride)) (m .analysis .used) (m .table) (drop n table-in) (omega (arith, le, table-fits))
 
   size : length list-in ≡ m .analysis .capacity
   size = length-take-le (m .analysis .capacity) (m .waitlist) ll
@@ -133,25 +137,25 @@ module _ (c : Chart) (m : Memory) (lt : m .analysis .capacity * width c ≤ leng
         used = in-use (m .analysis .used) ks (subst (λ (x : List ℤ). T (all (below (m .analysis .used)) x)) e (f .slots));
       })
 
-  kept : Kept (width c) (m .analysis .capacity) table-in list-in (m .analysis .used) (m .analysis .waiting)
+  kept : Kept y table-in list-in (m .analysis .used) (m .analysis .waiting)
   kept =
-      let lt′ : length table-in ≡ m .analysis .capacity * width c = length-take-le (m .analysis .capacity * width c) (m .table) lt in
-      let n = m .analysis .used * width c in
+      let n = m .analysis .used * y .stride in
+      let zero : T (zeros (drop n table-in)) = subst (λ (k : ℕ). T (zeros (drop (m .analysis .used * k) (take (m .analysis .capacity * k) (m .table))))) (sym (o .stride)) (f .rest) in
       record {
-        wide = omega arith;
-        capacity = few;
-        small = omega (arith, few-slots (m .analysis .capacity) (f .capacity));
-        table = lt′;
-        list = size;
-        rest = sym (zeros-back (drop n table-in) (f .rest)) ∙ ap (λ (q : ℕ). replicate q (pos 0)) (length-drop n table-in);
+        wide = omega (arith, o .wide);
+        apart = omega (arith, o .wide, o .stride);
+        capacity = omega (arith, few, size);
+        small = omega (arith, few-slots (m .analysis .capacity) (f .capacity), size);
+        table = length-take-le (m .analysis .capacity * y .stride) (m .table) table-fits ∙ ap (λ (k : ℕ). k * y .stride) (sym size);
+        rest = sym (zeros-back (drop n table-in) zero) ∙ ap (λ (q : ℕ). replicate q (pos 0)) (length-drop n table-in);
         slots = put;
         queue = queue;
       }
 
-  tidy : Tidy Any (length (c .edges)) (load-of (width c) (m .analysis) table-in list-in)
+  tidy : Tidy Any (length (c .edges)) (load-of y (m .analysis) table-in list-in)
   tidy =
       let r = m .analysis in
-      let n = rows-length (width c) (r .used) table-in in
+      let n = rows-length y (r .used) table-in in
       record {
         within = omega (arith, n, few);
         queue = rw n queue;
@@ -159,23 +163,23 @@ module _ (c : Chart) (m : Memory) (lt : m .analysis .capacity * width c ≤ leng
         empty-safe = λ e. none-safe (r .verdict) (subst (λ (q : ℕ). T (empty-if-safe (r .verdict) q)) (put .count ∙ ap length e) (f .verdict));
         no-edge = λ h. eqb→eq (r .edge .0) 0 (alarm-only (r .verdict) (eqb (r .edge .0) 0) (f .alarm) h);
         edge-in = leb→le (r .edge .0) (length (c .edges)) (f .edge);
-        every = every-any (rows-of (width c) (r .used) table-in);
+        every = every-any (rows-of y (r .used) table-in);
       }
     where
       empty : (wa : List ℕ) → length wa ≡ 0 → wa ≡ []
       empty [] e = refl
       empty (x ∷ wa) e = absurd (omega arith)
 
-  pub entered : Held (width c) (length (c .edges)) (m .analysis) table-in list-in
-  entered = record { kept = kept; allowed = f .settings; tidy = tidy }
+  pub entered : Resumable y (length (c .edges)) (m .analysis) table-in list-in
+  entered = record { kept = kept; capacity = size; allowed = f .settings; tidy = tidy }
 
-  pub entry-says : ExplorationR (Says c) (load-of (width c) (m .analysis) table-in list-in) (load c m)
+  pub entry-says : ExplorationR (Says c) (load-of y (m .analysis) table-in list-in) (load c m)
   unfolding load
   entry-says = record {
     settings = refl;
     capacity = refl;
     iterations = refl;
-    reached = rw rows-in (rows-say c (m .analysis .used) (m .table) (f .rows));
+    reached = rw rows-in (rows-say c y o (m .analysis .used) (m .table) (f .rows));
     waitlist = ap (map natAbs) front;
     verdict = refl;
     edge = refl;

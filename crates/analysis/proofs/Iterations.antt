@@ -8,66 +8,62 @@ use native.Mathlib.Omega.{arith}
 use lib.Dec.{T}
 use lib.IntN.{ℤ}
 use lib.ListN.{length, take, drop}
-use Rattle.semantics.specs.declared.Settings.{Settings}
 use Rattle.semantics.specs.declared.Verdict.{Verdict}
 use Rattle.semantics.specs.declared.Verdict.the-variants.{Open, Safe, Alarm, Full}
 use Rattle.semantics.specs.declared.Analysis.{Analysis}
-use Rattle.semantics.specs.Algorithm.{Domain, Exploration, Taken, verdict-of, leave, finish, iteration, run, has-verdict}
+use Rattle.semantics.specs.Algorithm.{Domain, Out, Exploration, Taken, verdict-of, leave, finish, iteration, run, has-verdict}
 use Rattle.semantics.specs.Tidy.{Every, Queue, Tidy}
 use Rattle.semantics.proofs.Tidy.{Left, take-left, Keeps, iteration-tidy}
-use Rattle.state.specs.Rows.{rows-of}
+use Rattle.state.specs.declared.Layout.{Layout}
+use Rattle.state.specs.Rows.{width-of, rows-of}
 use Rattle.waitlist.specs.Waits.{waits, TakenFrom}
 use Rattle.reached.specs.Reached.{Kept}
 use Rattle.reached.proofs.Table.{rows-length, rows-get}
 use Rattle.reached.proofs.Forms.{kept-after}
 use Rattle.analysis.specs.declared.Progress.{Progress}
 use Rattle.transfer.specs.Transfer.{edges-from}
-use Rattle.analysis.specs.Loaded.{domain-of, Any, load-of, Held, Loaded, Finished, Progressed}
+use Rattle.analysis.specs.Loaded.{domain-of, Any, load-of, Resumable, Loaded, Finished, Progressed}
 
 -- each edge has a number up to the last
 pub keeps : (c : List ℤ) (last i n : ℕ) → i + n ≤ last → Every (Keeps (domain-of c) Any last) (edges-from i n)
 keeps c last i zero h = tt
 keeps c last i (suc n) h = (record { number = omega arith; post = λ e f p q. tt }, keeps c last (suc i) n (omega arith))
 
-module _ (w last : ℕ) (a : Analysis) (t l : List ℤ) (h : Held w last a t l) (k : ℕ) (l₁ : List ℤ)
+module _ (y : Layout) (last : ℕ) (a : Analysis) (t l : List ℤ) (h : Resumable y last a t l) (k : ℕ) (l₁ : List ℤ)
     (s : TakenFrom (a .settings .order) (waits (a .waiting) l) k l₁ (a .waiting - 1)) where
   -- the slot taken is in use, and the rest is a queue
-  pub taken-left : Queue (a .used) (waits (a .waiting - 1) l₁) × (k < a .used)
-  taken-left = subst (λ (o : Option Taken). Left (a .used) o) (s .taken) (take-left (a .used) (a .settings .order) (waits (a .waiting) l) (h .kept .queue))
+  pub taken-from : Queue (a .used) (waits (a .waiting - 1) l₁) × (k < a .used)
+  taken-from = subst (λ (o : Option Taken). Left (a .used) o) (s .taken) (take-left (a .used) (a .settings .order) (waits (a .waiting) l) (h .kept .queue))
 
-  pub kept-taken : length l₁ ≡ length l → Kept w (a .capacity) t l₁ (a .used) (a .waiting - 1)
-  kept-taken ll = kept-after (h .kept) t refl refl (s .kept) ll (taken-left .0)
+  pub kept-taken : length l₁ ≡ length l → Kept y t l₁ (a .used) (a .waiting - 1)
+  kept-taken ll = kept-after (h .kept) t refl refl (s .kept) ll (taken-from .0)
 
-  -- the iteration is the play of the edges, with the copy of the slot taken
-  iteration-is : (c : List ℤ) (gs : List ℕ) → iteration (domain-of c) gs (load-of w a t l)
-      ≡ finish (domain-of c) (load-of w a t l) k (leave (domain-of c) (a .settings) (a .capacity) (take w (drop (k * w) t)) gs (rows-of w (a .used) t) (waits (a .waiting - 1) l₁))
+  -- the play of the edges, with the copy of the slot taken
+  abbrev pub play-of : List ℤ → List ℕ → Out (List ℤ)
+  play-of c gs = leave (domain-of c) (a .settings) (a .capacity) (take (width-of y) (drop (k * y .stride) t)) gs (rows-of y (a .used) t) (waits (a .waiting - 1) l₁)
+
+  iteration-is : (c : List ℤ) (gs : List ℕ) → iteration (domain-of c) gs (load-of y a t l) ≡ finish (domain-of c) (load-of y a t l) k (play-of c gs)
   unfolding iteration
-  iteration-is c gs = rw (s .taken, rows-get w (a .used) k t (taken-left .1))
+  iteration-is c gs = rw (s .taken, rows-get y (a .used) k t (taken-from .1))
 
   -- the end of an iteration holds the rules' iteration
-  pub iteration-held : (c : List ℤ) (p : Progress) (t₂ l₂ : List ℤ)
-      → Progressed w (a .capacity) t₂ l₂ p (leave (domain-of c) (a .settings) (a .capacity) (take w (drop (k * w) t)) (edges-from 0 last) (rows-of w (a .used) t) (waits (a .waiting - 1) l₁))
+  pub iteration-held : (c : List ℤ) (p : Progress) (t₂ l₂ : List ℤ) → length l₂ ≡ length l → Progressed y t₂ l₂ p (play-of c (edges-from 0 last))
       → (r : Analysis) (l₃ : List ℤ) → length l₃ ≡ length l₂ → Finished a k p l₂ r l₃
-      → Loaded w last r t₂ l₃ (iteration (domain-of c) (edges-from 0 last) (load-of w a t l))
-  iteration-held c p t₂ l₂ y r l₃ ll f = record { load = load; held = record { kept = form; allowed = rw (f .settings) (h .allowed); tidy = tidy } }
+      → Loaded y last r t₂ l₃ (iteration (domain-of c) (edges-from 0 last) (load-of y a t l))
+  iteration-held c p t₂ l₂ l₂l g r l₃ ll f = record { load = load; form = record { kept = kept; capacity = ll ∙ l₂l ∙ h .capacity ∙ sym (f .capacity); allowed = rw (f .settings) (h .allowed); tidy = tidy } }
     where
-      load : load-of w r t₂ l₃ ≡ iteration (domain-of c) (edges-from 0 last) (load-of w a t l)
-      load = f .load w t₂ t l ∙ ap (finish (domain-of c) (load-of w a t l) k) (y .out) ∙ sym (iteration-is c (edges-from 0 last))
+      load : load-of y r t₂ l₃ ≡ iteration (domain-of c) (edges-from 0 last) (load-of y a t l)
+      load = f .load y t₂ t l ∙ ap (finish (domain-of c) (load-of y a t l) k) (g .out) ∙ sym (iteration-is c (edges-from 0 last))
 
-      tidy : Tidy Any last (load-of w r t₂ l₃)
+      tidy : Tidy Any last (load-of y r t₂ l₃)
       tidy = subst (λ (x : Exploration (List ℤ)). Tidy Any last x) (sym load)
-          (iteration-tidy (domain-of c) Any last (λ e x p q s. tt) (edges-from 0 last) (keeps c last 0 last (omega arith)) (load-of w a t l) (h .tidy))
+          (iteration-tidy (domain-of c) Any last (λ e x p q s. tt) (edges-from 0 last) (keeps c last 0 last (omega arith)) (load-of y a t l) (h .tidy))
 
       queue : Queue (p .used) (waits (r .waiting) l₃)
-      queue = subst (λ (n : ℕ). Queue n (waits (r .waiting) l₃)) (rows-length w (r .used) t₂ ∙ f .used) (tidy .queue)
+      queue = subst (λ (n : ℕ). Queue n (waits (r .waiting) l₃)) (rows-length y (r .used) t₂ ∙ f .used) (tidy .queue)
 
-      form : Kept w (r .capacity) t₂ l₃ (r .used) (r .waiting)
-      form = rw (f .capacity, f .used) (kept-after (y .kept) t₂ refl refl (f .put) ll queue)
-
--- the edges played with a row that is e
-pub played-at : (c row e : List ℤ) (w r : ℕ) (s : Settings) (gs : List ℕ) (u : ℕ) (t t₂ l₂ : List ℤ) (wa : List ℕ) (p : Progress) → length row ≡ w → row ≡ e
-    → Progressed (length row) r t₂ l₂ p (leave (domain-of c) s r row gs (rows-of (length row) u t) wa) → Progressed w r t₂ l₂ p (leave (domain-of c) s r e gs (rows-of w u t) wa)
-played-at c row e w r s gs u t t₂ l₂ wa p lw re y = rw (← lw, ← re) y
+      kept : Kept y t₂ l₃ (r .used) (r .waiting)
+      kept = rw (f .used) (kept-after (g .kept) t₂ refl refl (f .stored) ll queue)
 
 -- ---- the run
 
@@ -94,8 +90,8 @@ some-open [] e = absurd (omega arith)
 some-open (x ∷ wa) e = refl
 
 -- an open analysis has a slot waiting
-pub open-waits : (w last : ℕ) (a : Analysis) (t l : List ℤ) → Held w last a t l → has-verdict (a .verdict) ≡ false → 0 < a .waiting
-open-waits w last a t l h o = go (waits (a .waiting) l) (h .kept .slots .count) (h .tidy .empty-safe)
+pub open-waits : (y : Layout) (last : ℕ) (a : Analysis) (t l : List ℤ) → Resumable y last a t l → has-verdict (a .verdict) ≡ false → 0 < a .waiting
+open-waits y last a t l h o = go (waits (a .waiting) l) (h .kept .slots .count) (h .tidy .empty-safe)
   where
     not-safe : (v : Verdict) → has-verdict v ≡ false → v ≡ Safe → ⊥
     not-safe Open o e = let z : _≡_ {A = ℕ} 0 1 = cc in omega arith

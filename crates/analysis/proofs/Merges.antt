@@ -6,17 +6,18 @@ use mathlib.Core.List.{List, [], _∷_, map}
 use Prim.Native.Nat.{ℕ, suc, _<_}
 use native.Mathlib.Omega.{arith}
 use lib.Dec.{T}
-use lib.IntN.{ℤ, pos}
-use lib.ListN.{length, drop}
+use lib.IntN.{ℤ}
+use lib.ListN.{length}
 use Rattle.semantics.specs.declared.Mode.{Mode}
 use Rattle.semantics.specs.declared.Mode.the-variants.{Sep, Join}
+use Rattle.semantics.specs.Layout.{top-word}
 use Rattle.semantics.specs.Chart.{eqZ}
 use Rattle.semantics.specs.Lists.{pick, some-of}
 use Rattle.semantics.specs.Algorithm.{wait, wait-all, changed, merged, of-place, leq-joined, stopped, allowed}
 use Rattle.semantics.specs.Tidy.{Every}
 use Rattle.semantics.proofs.Values.{left-true, right-true}
 use Rattle.words.proofs.Words.{eqZ-true}
-use Rattle.state.specs.Rows.{word-leq, word-join, words-leq, words-join, same-words, same-place, row-leq, row-join, row-merge, join-of}
+use Rattle.state.specs.Rows.{values-of, word-leq, word-join, words-leq, words-join, same-words, same-place, row-leq, row-join, row-merge, join-of}
 use Rattle.state.proofs.RowLoops.{length-words-join}
 use Rattle.waitlist.specs.Waits.{wait-unless}
 use Rattle.reached.specs.Reached.{rewaits}
@@ -43,14 +44,14 @@ or-true false = refl
 word-new : (x y : ℤ) → word-leq x (word-join x y) ≡ true
 word-new x y = go (eqZ x y) refl
   where
-    go : (b : Bool) → eqZ x y ≡ b → word-leq x (pick b y (pos 32768)) ≡ true
-    go true e = rw e (or-true (eqZ y (pos 32768)))
+    go : (b : Bool) → eqZ x y ≡ b → word-leq x (pick b y top-word) ≡ true
+    go true e = rw e (or-true (eqZ y top-word))
     go false e = refl
 
 word-more : (x a b : ℤ) → word-leq x a ≡ true → word-leq x (word-join a b) ≡ true
 word-more x a b h = go (eqZ a b) refl
   where
-    go : (t : Bool) → eqZ a b ≡ t → word-leq x (pick t b (pos 32768)) ≡ true
+    go : (t : Bool) → eqZ a b ≡ t → word-leq x (pick t b top-word) ≡ true
     go true e = subst (λ (z : ℤ). word-leq x z ≡ true) (eqZ-true a b e) h
     go false e = refl
 
@@ -122,7 +123,7 @@ join-some e (x ∷ xs) n z = go (same-place e x) refl (join-some e xs n (z .1)) 
         rw (g .place) (under-join e (row-join e x) (of-place rows-only e (map (row-merge e) xs)) n g above
         ∙ sym (some-by e (row-join e x) (map (row-merge e) xs) true (g .under)))
     go false p ih above =
-        let u : row-leq e x ≡ false = ap (λ (b : Bool). b && words-leq (drop 1 e) (drop 1 x)) p in
+        let u : row-leq e x ≡ false = ap (λ (b : Bool). b && words-leq (values-of e) (values-of x)) p in
         rw p (ih ∙ sym (some-by e x (map (row-merge e) xs) false u))
 
 pub stop-same : (m s : Mode) (e : List ℤ) (en : List (List ℤ)) → T (allowed m s) → 0 < length e → Sized (length e) en

@@ -6,18 +6,20 @@ use native.Mathlib.Omega.{arith}
 use lib.Dec.{T}
 use lib.IntN.{ℤ}
 use lib.ListN.{length}
+use Rattle.semantics.specs.Layout.{index-limit}
 use Rattle.semantics.specs.Encoding.{decode, well-formed}
 use Rattle.semantics.specs.Memory.{width}
 use Rattle.semantics.proofs.Encoded.{well-formed-split}
 use Rattle.semantics.proofs.StatesOk.{bounds}
 use Rattle.semantics.proofs.Decoded.{vars-count, locs-count}
+use Rattle.state.specs.Rows.{most-width}
 use Rattle.transfer.specs.Transfer.{edge-at}
 
 module _ (ws : List ℤ) (ok : T (well-formed ws)) where
-  pub narrow : width (decode ws) ≤ 9
+  pub narrow : width (decode ws) ≤ most-width
   narrow = omega (arith, bounds (decode ws) (well-formed-split ws ok .1) .few-vars)
 
-  pub edges-near : edge-at ws (length (decode ws .edges)) < 4294967296
+  pub edges-near : edge-at ws (length (decode ws .edges)) < index-limit
   edges-near =
       let b = bounds (decode ws) (well-formed-split ws ok .1) in
       omega (arith, b .few-vars, b .few-locs, b .few-edges, vars-count ws, locs-count ws)

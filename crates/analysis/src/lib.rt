@@ -7,19 +7,27 @@ use semantics::Mode;
 use semantics::Settings;
 use semantics::SlotId;
 use semantics::Verdict;
+use state::Layout;
 use transfer::Move;
 ghost use mathlib.Core.Path.{_≡_};
 ghost use Prim.Native.Nat.{ℕ, _+_, _-_, _*_, _<_, _≤_, min};
 ghost use lib.ListN.{length};
-ghost use Rattle.semantics.specs.Algorithm.{merged, rewait, arrive, visit, leave, first-verdict, iteration, run, start};
+ghost use Rattle.semantics.specs.Layout.{index-limit};
+ghost use Rattle.semantics.specs.Algorithm.{arrive, visit, leave, first-verdict, iteration, run, start};
 ghost use Rattle.semantics.specs.Tidy.{Queue, Allowed};
-ghost use Rattle.state.specs.Rows.{rows-of};
+ghost use Rattle.state.specs.Rows.{width-of, most-width, rows-of};
 ghost use Rattle.waitlist.specs.Waits.{waits, Stored};
-ghost use Rattle.reached.specs.Reached.{Kept};
 ghost use Rattle.transfer.specs.Transfer.{edge-at, edges-from, post-at};
-ghost use Rattle.analysis.specs.Loaded.{Edges-held, rows-only, domain-of, has-ended, went-on, alarm-by, Progressed, load-of, Held, Loaded, Ended, Finished};
+ghost use Rattle.analysis.specs.Loaded.{Outlined, Ready, Merged, rows-only, domain-of, has-ended, with-counts, went-on, alarm-by, filled, Progressed, ended, load-of, Resumable, Loaded, Ended, Finished};
 
 mod outgoing;
+
+// What an analysis asks of its chart, by value: the layout of its table, edge 1, and how many edges there are.
+struct Outline {
+    layout: Layout,
+    first: Edge,
+    edges: usize,
+}
 
 // How the edges of an iteration, or some of them, end.
 enum Exit {
@@ -34,6 +42,16 @@ struct Progress {
     edge: EdgeId,
     used: usize,
     waiting: usize,
+}
+
+// The record with other counts.
+fn with_counts(a: Analysis, used: usize, waiting: usize) -> Analysis
+    ensures { λ r. ⌜ r ≡ with-counts a used waiting ⌝ }
+{
+    let mut r = a;
+    r.used = used;
+    r.waiting = waiting;
+    r
 }
 
 // No edge so far has met an error or a full table.
@@ -60,84 +78,72 @@ fn alarm_by(edge: EdgeId, used: usize, waiting: usize) -> Progress
     }
 }
 
-// The merge of a successor with each slot, by the setting. How many slots are waiting then. The capacity is there for
-// the contract alone.
-fn merge_by(
-    merge: Mode,
-    capacity: usize,
-    table: &mut [i32],
-    used: usize,
-    e: &[i32],
-    list: &mut [i32],
-    waiting: usize,
-) -> usize
-    requires { ⌜ Kept (length (now e)) capacity (now table) (now list) used waiting ⌝ }
-    ensures { λ r. ⌜ rows-of (length (now (e .entry))) used (now (table .exit)) ≡ merged rows-only merge (now (e .entry)) (rows-of (length (now (e .entry))) used (now (table .entry))) ⌝ }
-    ensures { λ r. ⌜ waits r (now (list .exit)) ≡ rewait rows-only merge (now (e .entry)) (rows-of (length (now (e .entry))) used (now (table .entry))) (waits waiting (now (list .entry))) ⌝ }
-    ensures { λ r. ⌜ Kept (length (now (e .entry))) capacity (now (table .exit)) (now (list .exit)) used r ⌝ }
+// A successor finds no slot.
+fn filled(used: usize, waiting: usize) -> Progress
+    ensures { λ p. ⌜ p ≡ filled used waiting ⌝ }
 {
-    match merge {
-        Mode::Sep => waiting,
-        Mode::Join => reached::merge_slots(table, used, e, list, waiting),
-    }
-}
-
-// A successor that is at no error location: merge, then stop, then store. After a join the test against the join of its
-// slots is the test against one slot, so one test serves both ways to stop.
-fn arrive(
-    settings: Settings,
-    capacity: usize,
-    table: &mut [i32],
-    used: usize,
-    e: &[i32],
-    list: &mut [i32],
-    waiting: usize,
-) -> Progress
-    requires { ⌜ Kept (length (now e)) capacity (now table) (now list) used waiting × Allowed settings ⌝ }
-    ensures { λ p. ⌜ Progressed (length (now (e .entry))) capacity (now (table .exit)) (now (list .exit)) p (arrive rows-only settings capacity (now (e .entry)) (rows-of (length (now (e .entry))) used (now (table .entry))) (waits waiting (now (list .entry)))) ⌝ }
-{
-    let merge = settings.merge;
-    let count = merge_by(merge, capacity, table, used, e, list, waiting);
-    if reached::covered(table, used, e) {
-        return went_on(used, count);
-    }
-    if used < capacity {
-        reached::put_row(table, SlotId(used), e);
-        let more = waitlist::append(list, count, SlotId(used));
-        return went_on(used + 1, more);
-    }
     Progress {
         exit: Exit::Full,
         edge: EdgeId(0),
         used,
-        waiting: count,
+        waiting,
     }
+}
+
+// The merge of a successor with each slot, by the setting. How many slots are waiting then.
+fn merge_by(layout: Layout, a: Analysis, e: &[i32], table: &mut [i32], list: &mut [i32]) -> usize
+    requires { ⌜ Ready layout a (now table) (now list) (now e) ⌝ }
+    ensures { λ r. ⌜ Merged layout a (now (e .entry)) (now (table .entry)) (now (list .entry)) (now (table .exit)) (now (list .exit)) r ⌝ }
+{
+    let settings = a.settings;
+    let merge = settings.merge;
+    match merge {
+        Mode::Sep => a.waiting,
+        Mode::Join => reached::merge_slots(layout, table, a.used, e, list, a.waiting),
+    }
+}
+
+// A successor that is at no error location: merge, then stop, then store. After a join the test against the join of its
+// slots is the test against one slot, so one test serves both ways to stop. The list has a word for each slot.
+fn arrive(layout: Layout, a: Analysis, e: &[i32], table: &mut [i32], list: &mut [i32]) -> Progress
+    requires { ⌜ Ready layout a (now table) (now list) (now e) ⌝ }
+    ensures { λ p. ⌜ Progressed layout (now (table .exit)) (now (list .exit)) p (arrive rows-only (a .settings) (length (now (list .entry))) (now (e .entry)) (rows-of layout (a .used) (now (table .entry))) (waits (a .waiting) (now (list .entry)))) ⌝ }
+{
+    let used = a.used;
+    let count = merge_by(layout, a, e, table, list);
+    if reached::covered(layout, table, used, e) {
+        return went_on(used, count);
+    }
+    if used < list.len() {
+        reached::put_row(layout, table, SlotId(used), e);
+        let more = waitlist::append(list, count, SlotId(used));
+        return went_on(used + 1, more);
+    }
+    filled(used, count)
 }
 
 // One edge, with the copy of the taken state. `next` is a row lent for the successor.
 fn visit(
     chart: &[i32],
     edge: Edge,
-    settings: Settings,
-    capacity: usize,
-    table: &mut [i32],
-    used: usize,
+    layout: Layout,
+    a: Analysis,
     copy: &[i32],
     next: &mut [i32],
+    table: &mut [i32],
     list: &mut [i32],
-    waiting: usize,
 ) -> Progress
-    requires { ⌜ Kept (length (now copy)) capacity (now table) (now list) used waiting × Allowed settings × (length (now next) ≡ length (now copy)) × (edge .at < 4294967296) ⌝ }
-    ensures { λ p. ⌜ Progressed (length (now (copy .entry))) capacity (now (table .exit)) (now (list .exit)) p (visit (domain-of (now (chart .entry))) settings capacity (edge .id .0) (post-at (now (chart .entry)) (edge .at) (now (copy .entry))) (rows-of (length (now (copy .entry))) used (now (table .entry))) (waits waiting (now (list .entry)))) ⌝ }
+    requires { ⌜ Ready layout a (now table) (now list) (now copy) × (length (now next) ≡ length (now copy)) × (edge .at < index-limit) ⌝ }
+    ensures { λ p. ⌜ Progressed layout (now (table .exit)) (now (list .exit)) p (visit (domain-of (now (chart .entry))) (a .settings) (length (now (list .entry))) (edge .id .0) (post-at (now (chart .entry)) (edge .at) (now (copy .entry))) (rows-of layout (a .used) (now (table .entry))) (waits (a .waiting) (now (list .entry)))) ⌝ }
 {
     match transfer::successor(chart, edge, copy, next) {
-        Move::Halt => went_on(used, waiting),
-        Move::Fault => alarm_by(edge.id, used, waiting),
+        Move::Halt => went_on(a.used, a.waiting),
+        Move::Fault => alarm_by(edge.id, a.used, a.waiting),
         Move::Successor => {
             if transfer::is_error(chart, next) {
-                return alarm_by(edge.id, used, waiting);
+                return alarm_by(edge.id, a.used, a.waiting);
             }
-            arrive(settings, capacity, table, used, next, list, waiting)
+            arrive(layout, a, next, table, list)
         }
     }
 }
@@ -156,49 +162,45 @@ fn has_ended(exit: Exit) -> bool
 // The edges in file order, each with the copy. Those that the chain of its location passes over would change nothing.
 fn leave(
     chart: &[i32],
-    first: Edge,
-    edges: usize,
+    outline: Outline,
     heads: &[usize],
     nexts: &[usize],
-    settings: Settings,
-    capacity: usize,
-    table: &mut [i32],
-    used: usize,
+    a: Analysis,
     copy: &[i32],
-    next: &mut [i32],
+    table: &mut [i32],
     list: &mut [i32],
-    waiting: usize,
 ) -> Progress
-    requires { ⌜ Kept (length (now copy)) capacity (now table) (now list) used waiting × Allowed settings × (length (now next) ≡ length (now copy)) × Edges-held (now chart) first edges (now heads) (now nexts) ⌝ }
-    ensures { λ p. ⌜ Progressed (length (now (copy .entry))) capacity (now (table .exit)) (now (list .exit)) p (leave (domain-of (now (chart .entry))) settings capacity (now (copy .entry)) (edges-from 0 edges) (rows-of (length (now (copy .entry))) used (now (table .entry))) (waits waiting (now (list .entry)))) ⌝ }
+    requires { ⌜ Ready (outline .layout) a (now table) (now list) (now copy) × Outlined (now chart) outline (now heads) (now nexts) ⌝ }
+    ensures { λ p. ⌜ Progressed (outline .layout) (now (table .exit)) (now (list .exit)) p (leave (domain-of (now (chart .entry))) (a .settings) (length (now (list .entry))) (now (copy .entry)) (edges-from 0 (outline .edges)) (rows-of (outline .layout) (a .used) (now (table .entry))) (waits (a .waiting) (now (list .entry)))) ⌝ }
 {
-    let mut slots = used;
-    let mut count = waiting;
+    let layout = outline.layout;
+    let first = outline.first;
+    let edges = outline.edges;
+    let width = copy.len();
+    let mut next = [0i32; semantics::MOST_WIDTH];
+    let mut at = a;
     let location = state::location_of(copy);
-    let mut id = outgoing::first_leaving(heads, location);
+    let mut id = outgoing::first(heads, location);
     while semantics::is_edge_within(edges, id) {
         let edge = chart::edge_of(first, id);
         let p = visit(
             chart,
             edge,
-            settings,
-            capacity,
-            table,
-            slots,
+            layout,
+            at,
             copy,
-            next,
+            &mut next[..width],
+            table,
             list,
-            count,
         );
         let exit = p.exit;
         if has_ended(exit) {
             return p;
         }
-        slots = p.used;
-        count = p.waiting;
-        id = outgoing::next_leaving(chart, edge, nexts, location);
+        at = with_counts(at, p.used, p.waiting);
+        id = outgoing::next(chart, edge, nexts, location);
     }
-    went_on(slots, count)
+    went_on(at.used, at.waiting)
 }
 
 // The verdict after an iteration that met no error and no full table.
@@ -211,165 +213,132 @@ fn verdict_of(waiting: usize) -> Verdict
     Verdict::Open
 }
 
+// The record after one iteration more.
+fn ended(a: Analysis, used: usize, waiting: usize, verdict: Verdict, edge: EdgeId) -> Analysis
+    requires { ⌜ a .iterations < 60000 ⌝ }
+    ensures { λ r. ⌜ r ≡ ended a used waiting verdict edge ⌝ }
+{
+    let settings = a.settings;
+    Analysis {
+        settings,
+        capacity: a.capacity,
+        iterations: a.iterations + 1,
+        used,
+        waiting,
+        verdict,
+        edge,
+    }
+}
+
 // The end of an iteration that took the slot.
 fn finish(a: Analysis, slot: SlotId, p: Progress, list: &mut [i32]) -> Analysis
-    requires { ⌜ Stored (now list) (p .waiting) (waits (p .waiting) (now list)) × (slot .0 < length (now list)) × (length (now list) < 65536) × Queue (length (now list)) (waits (p .waiting) (now list)) × (a .iterations < 60000) ⌝ }
+    requires { ⌜ Stored (now list) (p .waiting) (waits (p .waiting) (now list)) × (slot .0 < length (now list)) × (length (now list) < index-limit) × Queue (length (now list)) (waits (p .waiting) (now list)) × (a .iterations < 60000) ⌝ }
     ensures { λ r. ⌜ Finished a (slot .0) p (now (list .entry)) r (now (list .exit)) ⌝ }
 {
     let settings = a.settings;
-    let capacity = a.capacity;
-    let iterations = a.iterations + 1;
     let order = settings.order;
-    let used = p.used;
     let count = p.waiting;
-    let edge = p.edge;
     let exit = p.exit;
     match exit {
-        Exit::On => Analysis {
-            settings,
-            capacity,
-            iterations,
-            used,
-            waiting: count,
-            verdict: verdict_of(count),
-            edge: EdgeId(0),
-        },
+        Exit::On => ended(a, p.used, count, verdict_of(count), EdgeId(0)),
         Exit::Alarm => {
             let back = waitlist::put_back(order, list, count, slot);
-            Analysis {
-                settings,
-                capacity,
-                iterations,
-                used,
-                waiting: back,
-                verdict: Verdict::Alarm,
-                edge,
-            }
+            ended(a, p.used, back, Verdict::Alarm, p.edge)
         }
         Exit::Full => {
             let back = waitlist::put_back(order, list, count, slot);
-            Analysis {
-                settings,
-                capacity,
-                iterations,
-                used,
-                waiting: back,
-                verdict: Verdict::Full,
-                edge: EdgeId(0),
-            }
+            ended(a, p.used, back, Verdict::Full, EdgeId(0))
         }
     }
 }
 
-// One iteration, with rows lent for the copy of the taken state and for its successors.
+// One iteration, with a row lent for the copy of the taken state.
 fn iteration_with(
     chart: &[i32],
-    first: Edge,
-    edges: usize,
+    outline: Outline,
     heads: &[usize],
     nexts: &[usize],
     a: Analysis,
+    copy: &mut [i32],
     table: &mut [i32],
     list: &mut [i32],
-    copy: &mut [i32],
-    next: &mut [i32],
 ) -> Analysis
-    requires { ⌜ Held (length (now copy)) edges a (now table) (now list) × (a .iterations < 60000) × (0 < a .waiting) × (length (now next) ≡ length (now copy)) × Edges-held (now chart) first edges (now heads) (now nexts) ⌝ }
-    ensures { λ r. ⌜ Loaded (length (now (copy .entry))) edges r (now (table .exit)) (now (list .exit)) (iteration (domain-of (now (chart .entry))) (edges-from 0 edges) (load-of (length (now (copy .entry))) a (now (table .entry)) (now (list .entry)))) × (r .iterations ≡ a .iterations + 1) ⌝ }
+    requires { ⌜ Resumable (outline .layout) (outline .edges) a (now table) (now list) × (a .iterations < 60000) × (0 < a .waiting) × (length (now copy) ≡ width-of (outline .layout)) × Outlined (now chart) outline (now heads) (now nexts) ⌝ }
+    ensures { λ r. ⌜ Loaded (outline .layout) (outline .edges) r (now (table .exit)) (now (list .exit)) (iteration (domain-of (now (chart .entry))) (edges-from 0 (outline .edges)) (load-of (outline .layout) a (now (table .entry)) (now (list .entry)))) × (r .iterations ≡ a .iterations + 1) ⌝ }
 {
+    let layout = outline.layout;
     let settings = a.settings;
-    let capacity = a.capacity as usize;
-    let used = a.used;
-    let waiting = a.waiting;
     let order = settings.order;
-    let slot = waitlist::take_slot(order, list, waiting);
-    reached::get_row(table, slot, copy);
-    let p = leave(
-        chart,
-        first,
-        edges,
-        heads,
-        nexts,
-        settings,
-        capacity,
-        table,
-        used,
-        copy,
-        next,
-        list,
-        waiting - 1,
-    );
+    let slot = waitlist::take_slot(order, list, a.waiting);
+    reached::get_row(layout, table, slot, copy);
+    let taken = with_counts(a, a.used, a.waiting - 1);
+    let p = leave(chart, outline, heads, nexts, taken, copy, table, list);
     finish(a, slot, p, list)
 }
 
-// One iteration, over rows of `width` words.
+// One iteration.
 fn iteration(
     chart: &[i32],
-    first: Edge,
-    edges: usize,
+    outline: Outline,
     heads: &[usize],
     nexts: &[usize],
-    width: usize,
     a: Analysis,
     table: &mut [i32],
     list: &mut [i32],
 ) -> Analysis
-    requires { ⌜ Held width edges a (now table) (now list) × (a .iterations < 60000) × (0 < a .waiting) × (width ≤ 9) × Edges-held (now chart) first edges (now heads) (now nexts) ⌝ }
-    ensures { λ r. ⌜ Loaded width edges r (now (table .exit)) (now (list .exit)) (iteration (domain-of (now (chart .entry))) (edges-from 0 edges) (load-of width a (now (table .entry)) (now (list .entry)))) × (r .iterations ≡ a .iterations + 1) ⌝ }
+    requires { ⌜ Resumable (outline .layout) (outline .edges) a (now table) (now list) × (a .iterations < 60000) × (0 < a .waiting) × Outlined (now chart) outline (now heads) (now nexts) ⌝ }
+    ensures { λ r. ⌜ Loaded (outline .layout) (outline .edges) r (now (table .exit)) (now (list .exit)) (iteration (domain-of (now (chart .entry))) (edges-from 0 (outline .edges)) (load-of (outline .layout) a (now (table .entry)) (now (list .entry)))) × (r .iterations ≡ a .iterations + 1) ⌝ }
 {
+    let layout = outline.layout;
+    let width = layout.width();
     let mut copy = [0i32; semantics::MOST_WIDTH];
-    let mut next = [0i32; semantics::MOST_WIDTH];
     iteration_with(
         chart,
-        first,
-        edges,
+        outline,
         heads,
         nexts,
         a,
+        &mut copy[..width],
         table,
         list,
-        &mut copy[..width],
-        &mut next[..width],
     )
 }
 
-// How many iterations the budget still allows.
-fn iterations_left(budget: u32, iterations: u32) -> u32
+// How many iterations the budget allows after so many.
+fn iterations_allowed(budget: u32, iterations: u32) -> u32
     requires { ⌜ iterations ≤ 60000 ⌝ }
     ensures { λ r. ⌜ r ≡ min budget (60000 - iterations) ⌝ }
 {
-    let left = semantics::MOST_ITERATIONS - iterations;
-    if budget < left {
+    let most = semantics::MOST_ITERATIONS - iterations;
+    if budget < most {
         return budget;
     }
-    left
+    most
 }
 
 // Iterations until a verdict, `most` at most.
 fn play(
     chart: &[i32],
-    first: Edge,
-    edges: usize,
+    outline: Outline,
     heads: &[usize],
     nexts: &[usize],
-    width: usize,
     a: Analysis,
     most: u32,
     table: &mut [i32],
     list: &mut [i32],
 ) -> Analysis
-    requires { ⌜ Held width edges a (now table) (now list) × (a .iterations + most ≤ 60000) × (width ≤ 9) × Edges-held (now chart) first edges (now heads) (now nexts) ⌝ }
-    ensures { λ r. ⌜ Loaded width edges r (now (table .exit)) (now (list .exit)) (run (domain-of (now (chart .entry))) (edges-from 0 edges) most (load-of width a (now (table .entry)) (now (list .entry)))) ⌝ }
+    requires { ⌜ Resumable (outline .layout) (outline .edges) a (now table) (now list) × (a .iterations + most ≤ 60000) × Outlined (now chart) outline (now heads) (now nexts) ⌝ }
+    ensures { λ r. ⌜ Loaded (outline .layout) (outline .edges) r (now (table .exit)) (now (list .exit)) (run (domain-of (now (chart .entry))) (edges-from 0 (outline .edges)) most (load-of (outline .layout) a (now (table .entry)) (now (list .entry)))) ⌝ }
 {
-    let mut left = most;
+    let mut rest = most;
     let mut at = a;
-    while 0 < left {
+    while 0 < rest {
         let verdict = at.verdict;
         if semantics::has_verdict(verdict) {
             return at;
         }
-        at = iteration(chart, first, edges, heads, nexts, width, at, table, list);
-        left -= 1;
+        at = iteration(chart, outline, heads, nexts, at, table, list);
+        rest -= 1;
     }
     at
 }
@@ -378,34 +347,28 @@ fn play(
 pub fn run_core(
     chart: &[i32],
     edges: usize,
-    width: usize,
+    layout: Layout,
     a: Analysis,
     budget: u32,
     table: &mut [i32],
     list: &mut [i32],
 ) -> Analysis
-    requires { ⌜ Held width edges a (now table) (now list) × (a .iterations ≤ 60000) × (width ≤ 9) × (edge-at (now chart) edges < 4294967296) ⌝ }
-    ensures { λ r. ⌜ Loaded width edges r (now (table .exit)) (now (list .exit)) (run (domain-of (now (chart .entry))) (edges-from 0 edges) (min budget (60000 - a .iterations)) (load-of width a (now (table .entry)) (now (list .entry)))) ⌝ }
+    requires { ⌜ Resumable layout edges a (now table) (now list) × (a .iterations ≤ 60000) × (width-of layout ≤ most-width) × (edge-at (now chart) edges < index-limit) ⌝ }
+    ensures { λ r. ⌜ Loaded layout edges r (now (table .exit)) (now (list .exit)) (run (domain-of (now (chart .entry))) (edges-from 0 edges) (min budget (60000 - a .iterations)) (load-of layout a (now (table .entry)) (now (list .entry)))) ⌝ }
 {
     let first = chart::first_edge(chart);
+    let outline = Outline {
+        layout,
+        first,
+        edges,
+    };
     // the number past the last edge stands for none
     let none = edges + 1;
     let mut heads = [none; semantics::MOST_LOCATIONS];
     let mut nexts = [0usize; semantics::MOST_EDGES];
     outgoing::chain(chart, edges, &mut heads, &mut nexts);
-    let most = iterations_left(budget, a.iterations);
-    play(
-        chart,
-        first,
-        edges,
-        &heads,
-        &nexts,
-        width,
-        a,
-        most,
-        table,
-        list,
-    )
+    let most = iterations_allowed(budget, a.iterations);
+    play(chart, outline, &heads, &nexts, a, most, table, list)
 }
 
 // The verdict of a start: alarm where the initial state is at an error location.
@@ -421,18 +384,19 @@ fn first_verdict(error: bool) -> Verdict
 // An analysis begins with the initial state, in the row lent, in slot 0, waiting.
 pub fn start_core(
     chart: &[i32],
+    layout: Layout,
     settings: Settings,
     capacity: u32,
     table: &mut [i32],
     list: &mut [i32],
     row: &[i32],
 ) -> Analysis
-    requires { ⌜ (0 < length (now row)) × (0 < capacity) × (capacity < 65536) × (length (now table) ≡ capacity * length (now row)) × (length (now list) ≡ capacity) × Allowed settings ⌝ }
-    ensures { λ r. ⌜ ((last : ℕ) → Loaded (length (now (row .entry))) last r (now (table .exit)) (now (list .exit)) (start (domain-of (now (chart .entry))) settings capacity (now (row .entry)))) ⌝ }
+    requires { ⌜ (0 < length (now row)) × (length (now row) ≡ width-of layout) × (width-of layout ≤ layout .stride) × (0 < capacity) × (capacity < index-limit) × (length (now table) ≡ capacity * layout .stride) × (length (now list) ≡ capacity) × Allowed settings ⌝ }
+    ensures { λ r. ⌜ ((last : ℕ) → Loaded layout last r (now (table .exit)) (now (list .exit)) (start (domain-of (now (chart .entry))) settings capacity (now (row .entry)))) ⌝ }
 {
     words::fill_zero(table);
     words::fill_zero(list);
-    reached::put_row(table, SlotId(0), row);
+    reached::put_row(layout, table, SlotId(0), row);
     let count = waitlist::append(list, 0, SlotId(0));
     let error = transfer::is_error(chart, row);
     let verdict = first_verdict(error);

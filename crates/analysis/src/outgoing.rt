@@ -9,6 +9,7 @@ use semantics::LocationId;
 ghost use mathlib.Core.Path.{_≡_};
 ghost use Prim.Native.Nat.{_-_, _<_, _≤_, max};
 ghost use lib.ListN.{getD, set};
+ghost use Rattle.semantics.specs.Layout.{index-limit};
 ghost use Rattle.transfer.specs.Transfer.{edge-at};
 ghost use Rattle.analysis.specs.Chains.{from-at, Passed, Chained};
 
@@ -33,7 +34,7 @@ fn put(s: &mut [usize], i: usize, x: usize)
 
 // Chains all edges, from the last to the first.
 pub fn chain(chart: &[i32], edges: usize, heads: &mut [usize], nexts: &mut [usize])
-    requires { ⌜ Chained (now chart) edges (now heads) (now nexts) × (edge-at (now chart) edges < 4294967296) ⌝ }
+    requires { ⌜ Chained (now chart) edges (now heads) (now nexts) × (edge-at (now chart) edges < index-limit) ⌝ }
     ensures { λ _. ⌜ Chained (now (chart .entry)) 0 (now (heads .exit)) (now (nexts .exit)) ⌝ }
 {
     let first = chart::first_edge(chart);
@@ -50,15 +51,15 @@ pub fn chain(chart: &[i32], edges: usize, heads: &mut [usize], nexts: &mut [usiz
 }
 
 // The first edge to look at, for a location.
-pub fn first_leaving(heads: &[usize], l: LocationId) -> EdgeId
+pub fn first(heads: &[usize], l: LocationId) -> EdgeId
     ensures { λ r. ⌜ r .0 ≡ max 1 (getD (now (heads .entry)) (l .0) 0) ⌝ }
 {
     semantics::later_edge(EdgeId(1), EdgeId(number_at(heads, l.0)))
 }
 
 // The edge to look at next. The chain of this one serves if it leaves the location.
-pub fn next_leaving(chart: &[i32], edge: Edge, nexts: &[usize], l: LocationId) -> EdgeId
-    requires { ⌜ Passed (now chart) (from-at (now chart) (edge .id .0 - 1)) (edge .id .0) (getD (now nexts) (edge .id .0 - 1) 0 - 1) × (edge .at ≡ edge-at (now chart) (edge .id .0 - 1)) × (1 ≤ edge .id .0) × (edge .id .0 < 4294967297) ⌝ }
+pub fn next(chart: &[i32], edge: Edge, nexts: &[usize], l: LocationId) -> EdgeId
+    requires { ⌜ Passed (now chart) (from-at (now chart) (edge .id .0 - 1)) (edge .id .0) (getD (now nexts) (edge .id .0 - 1) 0 - 1) × (edge .at ≡ edge-at (now chart) (edge .id .0 - 1)) × (1 ≤ edge .id .0) × (edge .id .0 < index-limit) ⌝ }
     ensures { λ r. ⌜ (edge .id .0 < r .0) × Passed (now (chart .entry)) (l .0) (edge .id .0) (r .0 - 1) ⌝ }
 {
     let id = edge.id;

@@ -1,4 +1,3 @@
--- Refusals, sizes, and the record as the machine holds it.
+-- Refusals and sizes.
 pub mod Refusals
 pub mod Sized
-pub mod Record

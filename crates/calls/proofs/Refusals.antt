@@ -13,7 +13,7 @@ use Rattle.semantics.proofs.FirstCase.{none-holds, passed, enough, refused-stay
 use Rattle.checks.specs.Form.{InForm}
 use Rattle.checks.proofs.FormTests.{in-form}
 use Rattle.calls.specs.declared.Called.{Called}
-use Rattle.calls.specs.Calls.{Ends-called}
+use Rattle.calls.specs.Calls.{Answers, Ends-called}
 
 pub record StartPasses (ws : List ℤ) (z : Settings) (r : ℤ) (t l : ℕ) : Type 0 where
   pub capacity : T (capacity-ok r)
@@ -37,11 +37,11 @@ run-passes ws b m e =
     (passed (budget-ok b) (p .0), in-form ws m (p .1 .0) (p .1 .1 .0) (p .1 .1 .1 .0))
 
 -- a refused call changes nothing
-pub ends-refused : (k n : ℕ) (m : Memory) (sp : List ℕ) (o : Outcome) (r : Called) → k ≡ n → (k ≡ 0 → ⊥) → r .answer ≡ refused-by k 0 → r .analysis ≡ m .analysis → Ends-called (settled n m sp o) r (m .table) (m .waitlist)
-ends-refused k n m sp o r e h a b = rw (refused-stays m sp o {n = n} k e h) (record { answer = a; analysis = b; table = refl; waitlist = refl })
+pub ends-refused : (k n : ℕ) (m : Memory) (sp : List ℕ) (o : Outcome) (r : Called) → k ≡ n → (k ≡ 0 → ⊥) → Answers (refused-by k 0) (m .analysis) r → Ends-called (settled n m sp o) r (m .table) (m .waitlist)
+ends-refused k n m sp o r e h g = rw (refused-stays m sp o {n = n} k e h) (record { answer = g .0; analysis = g .1; table = refl; waitlist = refl })
 
 -- a call that nothing refuses has the outcome
-pub ends-through : (n : ℕ) (m m′ : Memory) (sp : List ℕ) (o : Outcome) (r : Called) → n ≡ 0 → o .memory ≡ m′ → r .answer ≡ o .answer → r .analysis ≡ m′ .analysis → Ends-called (settled n m sp o) r (m′ .table) (m′ .waitlist)
-ends-through n m m′ sp o r e p a b =
+pub ends-through : (n : ℕ) (m m′ : Memory) (sp : List ℕ) (o : Outcome) (r : Called) → n ≡ 0 → o .memory ≡ m′ → Answers (o .answer) (m′ .analysis) r → Ends-called (settled n m sp o) r (m′ .table) (m′ .waitlist)
+ends-through n m m′ sp o r e p g =
     rw (goes m sp o {n = n} e)
-    (record { answer = a; analysis = b ∙ sym (ap (λ (x : Memory). x .analysis) p); table = sym (ap (λ (x : Memory). x .table) p); waitlist = sym (ap (λ (x : Memory). x .waitlist) p) })
+    (record { answer = g .0; analysis = g .1 ∙ sym (ap (λ (x : Memory). x .analysis) p); table = sym (ap (λ (x : Memory). x .table) p); waitlist = sym (ap (λ (x : Memory). x .waitlist) p) })

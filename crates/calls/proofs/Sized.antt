@@ -1,33 +1,32 @@
 -- What a well-formed chart's counts say of a slot's words and of products with them. Assumes nothing.
-use mathlib.Core.Path.{_≡_, _∙_}
 use mathlib.Core.List.{List}
-use Prim.Native.Nat.{ℕ, suc, _*_, _≤_, _<_}
+use Prim.Native.Nat.{ℕ, _*_, _≤_, _<_}
 use native.Mathlib.Nat.{mul-le-mul}
 use native.Mathlib.Omega.{arith}
 use lib.Dec.{T, leb, leb→le}
 use lib.IntN.{ℤ, pos, negsuc, natAbs}
 use lib.Signed.{nonNeg}
-use Rattle.semantics.specs.Encoding.{count, decode, well-formed}
-use Rattle.semantics.specs.Memory.{width, capacity-ok}
+use Rattle.semantics.specs.Encoding.{decode, well-formed}
+use Rattle.semantics.specs.Memory.{capacity-ok}
 use Rattle.semantics.specs.Outcomes.{budget-ok}
 use Rattle.semantics.proofs.Values.{and-left, and-right}
-use Rattle.semantics.proofs.Decoded as decoded
+use Rattle.state.specs.declared.Layout.{Layout}
+use Rattle.state.specs.Rows.{width-of, most-width}
+use Rattle.state.proofs.Layouts.{LayoutOf}
 use Rattle.analysis.proofs.Sizes.{narrow}
 
-module _ (ws : List ℤ) (w : ℕ) (e : w ≡ suc (count ws 0)) where
-  pub width-is : w ≡ width (decode ws)
-  width-is = e ∙ decoded.width-is ws
+-- the layout of a well-formed chart's tables
+module _ (ws : List ℤ) (ok : T (well-formed ws)) (y : Layout) (o : LayoutOf (decode ws) y) where
+  pub thin : width-of y ≤ most-width
+  thin = omega (arith, o .wide, narrow ws ok)
 
-  module _ (ok : T (well-formed ws)) where
-    pub thin : w ≤ 9
-    thin = omega (arith, width-is, narrow ws ok)
-
-    -- the words of a capacity of 32 bits
-    pub words-fit : (r : ℕ) → r < 4294967296 → r * w < 18446744073709551616
-    words-fit r h =
-        let few : r ≤ 4294967296 = omega arith in
-        let m : r * w ≤ 4294967296 * 9 = mul-le-mul few thin in
-        omega arith
+  -- the words of a capacity of 32 bits
+  pub words-fit : (r : ℕ) → r < 4294967296 → r * y .stride < 18446744073709551616
+  words-fit r h =
+      let few : r ≤ 4294967296 = omega arith in
+      let d : y .stride ≤ most-width = omega (arith, o .stride, narrow ws ok) in
+      let m : r * y .stride ≤ 4294967296 * 9 = mul-le-mul few d in
+      omega arith
 
 -- a capacity that 11 lets pass is a number from 1 to 256
 pub record Counted (z : ℤ) : Type 0 where

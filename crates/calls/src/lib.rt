@@ -2,6 +2,7 @@
 use semantics::Analysis;
 use semantics::Answer;
 use semantics::Settings;
+use state::Layout;
 ghost use mathlib.Core.Path.{_≡_};
 ghost use Prim.Native.Nat.{ℕ, _*_, _≤_};
 ghost use lib.Dec.{T};
@@ -11,16 +12,37 @@ ghost use Rattle.semantics.specs.declared.Analysis.{Analysis};
 ghost use Rattle.semantics.specs.Algorithm.{start, allowed};
 ghost use Rattle.semantics.specs.Encoding.{decode, well-formed};
 ghost use Rattle.semantics.specs.Memory.{width, load};
+ghost use Rattle.state.specs.Rows.{width-of, most-width};
 ghost use Rattle.checks.specs.Form.{lent, InForm};
 ghost use Rattle.analysis.specs.Loaded.{domain-of, Loaded};
 ghost use Rattle.transfer.specs.Transfer.{initial-row};
-ghost use Rattle.calls.specs.Calls.{Begins, Ends, Ends-called};
-ghost use Rattle.semantics.specs.Outcomes.{refusal, size-of, form-of, put-in, started, resumed, start-cases, start-outcome, run-cases, run-outcome};
+ghost use Rattle.calls.specs.Calls.{Answers, Begins, Ends, Ends-called};
+ghost use Rattle.semantics.specs.Outcomes.{fine, refused-by, refusal, size-of, form-of, put-in, started, resumed, start-cases, start-outcome, run-cases, run-outcome};
 
 // What a call answers, and the record as it leaves it.
 pub struct Called {
     pub answer: Answer,
     pub analysis: Analysis,
+}
+
+// A refused call, which leaves the record as it was.
+fn refuse(number: u32, a: Analysis) -> Called
+    ensures { λ r. ⌜ Answers (refused-by number 0) a r ⌝ }
+{
+    Called {
+        answer: semantics::refused(number, 0),
+        analysis: a,
+    }
+}
+
+// A call that went through, and left the record so.
+fn go_through(a: Analysis) -> Called
+    ensures { λ r. ⌜ Answers (fine 0) a r ⌝ }
+{
+    Called {
+        answer: semantics::gone_through(0),
+        analysis: a,
+    }
 }
 
 // 11, 12, 20, 14: the first that refuses a start, or 0.
@@ -62,33 +84,43 @@ fn run_refusal(chart: &[i32], budget: i32, a: Analysis, table: &[i32], list: &[i
 // The initial state's row is made in the row lent, and put into slot 0.
 fn begin_with(
     chart: &[i32],
+    layout: Layout,
     settings: Settings,
     capacity: u32,
     table: &mut [i32],
     list: &mut [i32],
     row: &mut [i32],
 ) -> Analysis
-    requires { ⌜ Begins (now chart) settings capacity (length (now row)) (now table) (now list) ⌝ }
-    ensures { λ r. ⌜ ((last : ℕ) → Loaded (length (now (row .entry))) last r (now (table .exit)) (now (list .exit)) (start (domain-of (now (chart .entry))) settings capacity (initial-row (now (chart .entry))))) ⌝ }
+    requires { ⌜ Begins (now chart) layout settings capacity (now table) (now list) × (length (now row) ≡ width-of layout) ⌝ }
+    ensures { λ r. ⌜ ((last : ℕ) → Loaded layout last r (now (table .exit)) (now (list .exit)) (start (domain-of (now (chart .entry))) settings capacity (initial-row (now (chart .entry))))) ⌝ }
 {
     transfer::initial(chart, row);
-    analysis::start_core(chart, settings, capacity, table, list, row)
+    analysis::start_core(chart, layout, settings, capacity, table, list, row)
 }
 
 // An analysis in the words of its capacity.
 fn begin(
     chart: &[i32],
+    layout: Layout,
     settings: Settings,
     capacity: u32,
-    width: usize,
     table: &mut [i32],
     list: &mut [i32],
 ) -> Analysis
-    requires { ⌜ Begins (now chart) settings capacity width (now table) (now list) × (width ≤ 9) ⌝ }
-    ensures { λ r. ⌜ ((last : ℕ) → Loaded width last r (now (table .exit)) (now (list .exit)) (start (domain-of (now (chart .entry))) settings capacity (initial-row (now (chart .entry))))) ⌝ }
+    requires { ⌜ Begins (now chart) layout settings capacity (now table) (now list) × (width-of layout ≤ most-width) ⌝ }
+    ensures { λ r. ⌜ ((last : ℕ) → Loaded layout last r (now (table .exit)) (now (list .exit)) (start (domain-of (now (chart .entry))) settings capacity (initial-row (now (chart .entry))))) ⌝ }
 {
+    let width = layout.width();
     let mut row = [0i32; semantics::MOST_WIDTH];
-    begin_with(chart, settings, capacity, table, list, &mut row[..width])
+    begin_with(
+        chart,
+        layout,
+        settings,
+        capacity,
+        table,
+        list,
+        &mut row[..width],
+    )
 }
 
 // A start that no refusal stopped.
@@ -102,14 +134,14 @@ fn start_through(
     requires { ⌜ T (well-formed (now chart)) × T (allowed (settings .merge) (settings .stop)) × (1 ≤ capacity) × (capacity ≤ 256) × (capacity * width (decode (now chart)) ≤ length (now table)) × (capacity ≤ length (now list)) ⌝ }
     ensures { λ r. ⌜ ((a : Analysis) → put-in (decode (now (chart .entry))) (started (decode (now (chart .entry))) settings (pos capacity)) (lent (now (table .entry)) (now (list .entry)) a) ≡ lent (now (table .exit)) (now (list .exit)) r) ⌝ }
 {
-    let width = chart::width(chart);
+    let layout = state::layout_of(chart);
     let slots = capacity as usize;
-    let size = slots * width;
+    let size = slots * layout.stride;
     begin(
         chart,
+        layout,
         settings,
         capacity,
-        width,
         &mut table[..size],
         &mut list[..slots],
     )
@@ -126,14 +158,14 @@ fn run_through(
     requires { ⌜ InForm (now chart) (lent (now table) (now list) a) ⌝ }
     ensures { λ r. ⌜ put-in (decode (now (chart .entry))) (resumed (decode (now (chart .entry))) (pos budget) (load (decode (now (chart .entry))) (lent (now (table .entry)) (now (list .entry)) a))) (lent (now (table .entry)) (now (list .entry)) a) ≡ lent (now (table .exit)) (now (list .exit)) r ⌝ }
 {
-    let width = chart::width(chart);
+    let layout = state::layout_of(chart);
     let edges = chart::edge_count(chart);
     let slots = a.capacity as usize;
-    let size = slots * width;
+    let size = slots * layout.stride;
     analysis::run_core(
         chart,
         edges,
-        width,
+        layout,
         a,
         budget,
         &mut table[..size],
@@ -154,53 +186,13 @@ pub fn start(
 {
     let number = start_refusal(chart, settings, capacity, table.len(), list.len());
     if number != 0 {
-        return Called {
-            answer: semantics::refused(number, 0),
-            analysis: a,
-        };
+        return refuse(number, a);
     }
     let begun = start_through(chart, settings, capacity as u32, table, list);
-    Called {
-        answer: semantics::gone_through(0),
-        analysis: begun,
-    }
+    go_through(begun)
 }
 
-// A run with the record by value, and answered.
-fn advance(chart: &[i32], budget: i32, a: Analysis, table: &mut [i32], list: &mut [i32]) -> Called
-    ensures { λ r. ⌜ Ends-called (run-outcome (now (chart .entry)) budget (lent (now (table .entry)) (now (list .entry)) a)) r (now (table .exit)) (now (list .exit)) ⌝ }
-{
-    let number = run_refusal(chart, budget, a, table, list);
-    if number != 0 {
-        return Called {
-            answer: semantics::refused(number, 0),
-            analysis: a,
-        };
-    }
-    let played = run_through(chart, budget as u32, a, table, list);
-    Called {
-        answer: semantics::gone_through(0),
-        analysis: played,
-    }
-}
-
-// Plays iterations until a verdict, until the budget is spent, or until 60,000 were played. The record is advanced in
-// place.
-pub fn run(
-    chart: &[i32],
-    budget: i32,
-    a: &mut Analysis,
-    table: &mut [i32],
-    list: &mut [i32],
-) -> Answer
-    ensures { λ r. ⌜ Ends (run-outcome (now (chart .entry)) budget (lent (now (table .entry)) (now (list .entry)) (now (a .entry)))) r (now (a .exit)) (now (table .exit)) (now (list .exit)) ⌝ }
-{
-    let r = advance(chart, budget, *a, table, list);
-    *a = r.analysis;
-    r.answer
-}
-
-// The same for a caller that holds the record by value: it is put in a local, and lent.
+// Plays iterations until a verdict, until the budget is spent, or until 60,000 were played; the record by value.
 pub fn run_by_value(
     chart: &[i32],
     budget: i32,
@@ -210,7 +202,25 @@ pub fn run_by_value(
 ) -> Called
     ensures { λ r. ⌜ Ends-called (run-outcome (now (chart .entry)) budget (lent (now (table .entry)) (now (list .entry)) a)) r (now (table .exit)) (now (list .exit)) ⌝ }
 {
-    let mut analysis = a;
-    let answer = run(chart, budget, &mut analysis, table, list);
-    Called { answer, analysis }
+    let number = run_refusal(chart, budget, a, table, list);
+    if number != 0 {
+        return refuse(number, a);
+    }
+    let played = run_through(chart, budget as u32, a, table, list);
+    go_through(played)
+}
+
+// The same with the record lent, which is advanced in place.
+pub fn run(
+    chart: &[i32],
+    budget: i32,
+    a: &mut Analysis,
+    table: &mut [i32],
+    list: &mut [i32],
+) -> Answer
+    ensures { λ r. ⌜ Ends (run-outcome (now (chart .entry)) budget (lent (now (table .entry)) (now (list .entry)) (now (a .entry)))) r (now (a .exit)) (now (table .exit)) (now (list .exit)) ⌝ }
+{
+    let r = run_by_value(chart, budget, *a, table, list);
+    *a = r.analysis;
+    r.answer
 }

@@ -6,32 +6,33 @@ use semantics::Analysis;
 use semantics::EdgeId;
 use semantics::Mode;
 use semantics::Verdict;
+use state::Layout;
 ghost use mathlib.Core.Path.{_≡_};
 ghost use mathlib.Core.Bool.{_&&_, _||_};
-ghost use Prim.Native.Nat.{_*_, _<_, _≤_};
-ghost use lib.Dec.{eqb};
-ghost use lib.IntN.{pos};
+ghost use Prim.Native.Nat.{_*_, _≤_};
+ghost use lib.Dec.{eqb, ltb};
 ghost use lib.ListN.{length, drop};
 ghost use Rattle.semantics.specs.Lists.{all, all-pairs, all-of};
 ghost use Rattle.semantics.specs.Chart.{eqZ, within};
+ghost use Rattle.semantics.specs.Layout.{top-word, counts-size, variable-size, index-limit};
 ghost use Rattle.semantics.specs.Algorithm.{allowed};
 ghost use Rattle.semantics.specs.Encoding.{several, var-in, decode};
 ghost use Rattle.semantics.specs.Memory.{width, capacity-ok, value-ok, below, row-ok, rows-ok, each-once, is-alarm, empty-if-safe, lent-tests, record-tests, analysis-ok};
-ghost use Rattle.semantics.specs.Outcomes.{refusal, budget-ok, short, size-of, form-of};
-ghost use Rattle.checks.specs.Form.{lent};
+ghost use Rattle.semantics.specs.Outcomes.{refusal, budget-ok, size-of, form-of};
+ghost use Rattle.checks.specs.Form.{lent, LayoutOf, Enough};
 
 // ---- the reached table
 
 // Top, or a value of the range.
 fn value_ok(lo: i32, hi: i32, x: i32) -> bool
-    ensures { λ r. ⌜ r ≡ (eqZ x (pos 32768) || within lo hi x) ⌝ }
+    ensures { λ r. ⌜ r ≡ (eqZ x top-word || within lo hi x) ⌝ }
 {
     (x == words::TOP) | words::lies_within(lo, hi, x)
 }
 
 // Whether each value is one of its variable.
 fn values_ok(chart: &[i32], values: &[i32]) -> bool
-    ensures { λ r. ⌜ r ≡ all-pairs value-ok (several var-in 3 (length (now (values .entry))) (drop 3 (now (chart .entry)))) (now (values .entry)) ⌝ }
+    ensures { λ r. ⌜ r ≡ all-pairs value-ok (several var-in variable-size (length (now (values .entry))) (drop counts-size (now (chart .entry)))) (now (values .entry)) ⌝ }
 {
     let mut i = 0;
     while i < values.len() {
@@ -51,27 +52,25 @@ fn row_ok(chart: &[i32], row: &[i32]) -> bool
     requires { ⌜ length (now row) ≡ width (decode (now chart)) ⌝ }
     ensures { λ r. ⌜ r ≡ row-ok (decode (now (chart .entry))) (now (row .entry)) ⌝ }
 {
-    let location = row[0];
-    if words::is_below(chart::location_count(chart), location) {
-        return values_ok(chart, &row[1..]);
-    }
-    false
+    let location = state::location_word(row);
+    words::is_below(chart::location_count(chart), location) & values_ok(chart, state::values(row))
 }
 
 // The slots in use. Slot and word offset go together.
-fn rows_ok(chart: &[i32], table: &[i32], used: usize) -> bool
-    requires { ⌜ used * width (decode (now chart)) ≤ length (now table) ⌝ }
+fn rows_ok(chart: &[i32], layout: Layout, table: &[i32], used: usize) -> bool
+    requires { ⌜ LayoutOf (now chart) layout × (used * layout .stride ≤ length (now table)) ⌝ }
     ensures { λ r. ⌜ r ≡ rows-ok (decode (now (chart .entry))) used (now (table .entry)) ⌝ }
 {
-    let w = chart::width(chart);
+    let width = layout.width();
+    let stride = layout.stride;
     let mut from = 0;
     let mut s = 0;
     while s < used {
-        let to = from + w;
+        let to = from + width;
         if !row_ok(chart, &table[from..to]) {
             return false;
         }
-        from = to;
+        from += stride;
         s += 1;
     }
     true
@@ -79,76 +78,44 @@ fn rows_ok(chart: &[i32], table: &[i32], used: usize) -> bool
 
 // ---- the waitlist
 
-// Each word is a number below n.
-fn all_below(list: &[i32], n: usize) -> bool
-    ensures { λ r. ⌜ r ≡ all (below n) (now (list .entry)) ⌝ }
-{
-    let mut i = 0;
-    while i < list.len() {
-        let x = list[i];
-        if !words::is_below(n, x) {
-            return false;
-        }
-        i += 1;
-    }
-    true
-}
-
-// No word stands twice.
-fn each_once(list: &[i32]) -> bool
-    ensures { λ r. ⌜ r ≡ each-once (now (list .entry)) ⌝ }
-{
-    let mut i = 0;
-    while i < list.len() {
-        let x = list[i];
-        i += 1;
-        if words::contains(&list[i..], x) {
-            return false;
-        }
-    }
-    true
-}
-
 // Slots in use, each named once.
 fn waits_ok(list: &[i32], used: usize) -> bool
     ensures { λ r. ⌜ r ≡ (all (below used) (now (list .entry)) && each-once (now (list .entry))) ⌝ }
 {
-    if all_below(list, used) {
-        return each_once(list);
+    let mut i = 0;
+    while i < list.len() {
+        let x = list[i];
+        i += 1;
+        let again = words::contains(&list[i..], x);
+        if !(words::is_below(used, x) & !again) {
+            return false;
+        }
     }
-    false
+    true
 }
 
 // ---- the words lent
 
 // The tests of a table and a waitlist, by the record's three counts.
-fn lent_ok(
-    chart: &[i32],
-    table: &[i32],
-    list: &[i32],
-    capacity: usize,
-    used: usize,
-    waiting: usize,
-) -> bool
-    requires { ⌜ (capacity * width (decode (now chart)) ≤ length (now table)) × (capacity ≤ length (now list)) ⌝ }
-    ensures { λ r. ⌜ r ≡ all-of (lent-tests (decode (now (chart .entry))) capacity used waiting (now (table .entry)) (now (list .entry))) ⌝ }
+fn lent_ok(chart: &[i32], layout: Layout, table: &[i32], list: &[i32], a: Analysis) -> bool
+    requires { ⌜ Enough (now chart) layout (a .capacity) (now table) (now list) ⌝ }
+    ensures { λ r. ⌜ r ≡ all-of (lent-tests (decode (now (chart .entry))) (a .capacity) (a .used) (a .waiting) (now (table .entry)) (now (list .entry))) ⌝ }
 {
+    let capacity = a.capacity as usize;
+    let used = a.used;
+    let waiting = a.waiting;
     if used > capacity {
         return false;
     }
     if waiting > used {
         return false;
     }
-    if !rows_ok(chart, table, used) {
-        return false;
-    }
-    if !waits_ok(&list[..waiting], used) {
-        return false;
-    }
-    let w = chart::width(chart);
-    let from = used * w;
-    let to = capacity * w;
-    words::all_zero(&table[from..to]) & words::all_zero(&list[waiting..capacity])
+    let from = used * layout.stride;
+    let to = capacity * layout.stride;
+    rows_ok(chart, layout, table, used)
+        & waits_ok(&list[..waiting], used)
+        & words::all_zero(&table[from..to])
+        & words::all_zero(&list[waiting..capacity])
 }
 
 // ---- the record
@@ -208,11 +175,12 @@ fn record_ok(a: Analysis, edges: usize) -> bool
     let stop = settings.stop;
     let verdict = a.verdict;
     let edge = a.edge;
-    let counts = (a.iterations <= semantics::MOST_ITERATIONS)
-        & semantics::is_edge_within(edges, edge);
-    let rest = ((1 <= a.capacity) & (a.capacity <= semantics::MOST_SLOTS as u32))
-        & is_allowed(merge, stop);
-    counts & edge_ok(edge, verdict) & rest & empty_if_safe(verdict, a.waiting)
+    (a.iterations <= semantics::MOST_ITERATIONS)
+        & semantics::is_edge_within(edges, edge)
+        & edge_ok(edge, verdict)
+        & ((1 <= a.capacity) & (a.capacity <= semantics::MOST_SLOTS as u32))
+        & is_allowed(merge, stop)
+        & empty_if_safe(verdict, a.waiting)
 }
 
 // ---- the tests of 11, 13, 14 and 21
@@ -232,27 +200,20 @@ pub fn budget_ok(budget: i32) -> bool
 }
 
 // Fewer words are lent than the capacity takes (14).
-fn is_short(chart: &[i32], capacity: u32, table: usize, list: usize) -> bool
-    ensures { λ r. ⌜ r ≡ short (decode (now (chart .entry))) capacity table list ⌝ }
+fn too_few(layout: Layout, capacity: u32, table: usize, list: usize) -> bool
+    requires { ⌜ layout .stride ≤ index-limit ⌝ }
+    ensures { λ r. ⌜ r ≡ (ltb table (capacity * layout .stride) || ltb list capacity) ⌝ }
 {
-    let width = chart::width(chart);
     let slots = capacity as usize;
-    (table < slots * width) | (list < slots)
+    (table < slots * layout.stride) | (list < slots)
 }
 
 // Form rule 21. That the words lent are enough (14) is judged before.
-fn analysis_ok(chart: &[i32], table: &[i32], list: &[i32], a: Analysis) -> bool
-    requires { ⌜ (a .capacity * width (decode (now chart)) ≤ length (now table)) × (a .capacity ≤ length (now list)) ⌝ }
+fn analysis_ok(chart: &[i32], layout: Layout, table: &[i32], list: &[i32], a: Analysis) -> bool
+    requires { ⌜ Enough (now chart) layout (a .capacity) (now table) (now list) ⌝ }
     ensures { λ r. ⌜ r ≡ analysis-ok (decode (now (chart .entry))) (lent (now (table .entry)) (now (list .entry)) a) ⌝ }
 {
-    let capacity = a.capacity as usize;
-    let used = a.used;
-    let waiting = a.waiting;
-    if lent_ok(chart, table, list, capacity, used, waiting) {
-        let edges = chart::edge_count(chart);
-        return record_ok(a, edges);
-    }
-    false
+    lent_ok(chart, layout, table, list, a) & record_ok(a, chart::edge_count(chart))
 }
 
 // ---- the refusals that calls share
@@ -264,7 +225,7 @@ pub fn size_refusal(chart: &[i32], capacity: u32, table: usize, list: usize) -> 
     if !chart::well_formed(chart) {
         return 20;
     }
-    if is_short(chart, capacity, table, list) {
+    if too_few(state::layout_of(chart), capacity, table, list) {
         return 14;
     }
     0
@@ -278,7 +239,7 @@ pub fn form_refusal(chart: &[i32], a: Analysis, table: &[i32], list: &[i32]) -> 
     if earlier != 0 {
         return earlier;
     }
-    if !analysis_ok(chart, table, list, a) {
+    if !analysis_ok(chart, state::layout_of(chart), table, list, a) {
         return 21;
     }
     0

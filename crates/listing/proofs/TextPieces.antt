@@ -1,27 +1,25 @@
 -- The listing's text piece by piece: lines as their fields, and what one turn of each loop adds. Assumes nothing.
 use mathlib.Core.Path.{_≡_, refl, sym, ap, subst, _∙_}
-use mathlib.Core.Bool.{Bool, true, false, _||_}
-use mathlib.Core.List.{List, [], _∷_, _++_, map, append-assoc, append-nil}
-use Prim.Native.Nat.{ℕ, zero, suc, _+_, _-_, _*_, _≤_, _<_}
-use native.Mathlib.Nat.{add-zero, zero-mul, suc-mul}
+use mathlib.Core.Bool.{Bool, true, false, _||_, or-true, or-false}
+use mathlib.Core.List.{List, [], _∷_, _++_, map, append-assoc}
+use Prim.Native.Nat.{ℕ, zero, suc, _+_, _-_, _≤_, _<_}
 use native.Mathlib.Numerals.{add-one}
 use native.Mathlib.Omega.{arith}
 use borrow.Author.Tests.{eqb-true, eqb-false}
 use lib.Dec.{T, eqb, leb→le}
 use lib.IntN.{ℤ, pos, natAbs}
 use lib.ListN.{length, getD, set, take, drop, replicate, getD-replicate, length-set, length-replicate}
-use lib.Seq.{drop-cons, drop-drop, take-all, getD-set-same, getD-set-other}
+use lib.Seq.{drop-cons, drop-drop, getD-set-same, getD-set-other}
 use Rattle.semantics.specs.Lists.{some-of, each}
 use Rattle.semantics.specs.Text.{bytes, decimal, line-of}
 use Rattle.semantics.specs.Chart.{Chart}
-use Rattle.semantics.specs.Encoding.{val}
+use Rattle.semantics.specs.Encoding.{val, word-at}
 use Rattle.semantics.specs.Memory.{Memory, width, state-in, states-in, load, analysis-ok}
 use Rattle.semantics.specs.Listing.{loc-text, mark, val-text, slot-text, slots-text, header-text, listing-text}
 use Rattle.semantics.specs.declared.Analysis.{Analysis}
 use Rattle.semantics.proofs.Reloaded.{form, states-count}
+use Rattle.state.specs.Rows.{location-in, values-of}
 use Rattle.checks.specs.Form.{lent}
-use Rattle.writer.specs.Writing.{Put}
-use Rattle.writer.proofs.Written.{written-long, put-none}
 use Rattle.listing.specs.Pieces.{tabbed, values-text, words-text, counts-text, marked}
 
 -- ---- lines
@@ -32,20 +30,13 @@ unfolding line-of
 line-end f [] g = refl
 line-end f (x ∷ gs) g = ap (λ (l : List ℕ). f ++ (9 ∷ l)) (line-end x gs g ∙ sym (append-assoc x (each tabbed gs) (tabbed g ++ (10 ∷ []))))
 
-three : (a b c x : List ℕ) → (a ++ (b ++ c)) ++ x ≡ a ++ (b ++ (c ++ x))
-three a b c x = append-assoc a (b ++ c) x ∙ ap (λ (l : List ℕ). a ++ l) (append-assoc b c x)
-
-four : (a b c d x : List ℕ) → (a ++ (b ++ (c ++ d))) ++ x ≡ a ++ (b ++ (c ++ (d ++ x)))
-four a b c d x = append-assoc a (b ++ (c ++ d)) x ∙ ap (λ (l : List ℕ). a ++ l) (three b c d x)
+flat : (f m s o v i u e x : List ℕ) → f ++ ((m ++ (s ++ (o ++ v))) ++ ((i ++ (u ++ e)) ++ x)) ≡ f ++ (m ++ (s ++ (o ++ (v ++ (i ++ (u ++ (e ++ x)))))))
+flat f m s o v i u e x = simp append-assoc
 
 seven : (f m s o v i u e : List ℕ)
     → f ++ ((tabbed m ++ (tabbed s ++ (tabbed o ++ tabbed v))) ++ ((tabbed i ++ (tabbed u ++ tabbed e)) ++ (10 ∷ []))) ≡ line-of f (m ∷ s ∷ o ∷ v ∷ i ∷ u ∷ e ∷ [])
 unfolding line-of
-seven f m s o v i u e =
-    ap (λ (l : List ℕ). f ++ l) (
-    ap (λ (l : List ℕ). (tabbed m ++ (tabbed s ++ (tabbed o ++ tabbed v))) ++ l) (three (tabbed i) (tabbed u) (tabbed e) (10 ∷ []))
-    ∙ four (tabbed m) (tabbed s) (tabbed o) (tabbed v) (tabbed i ++ (tabbed u ++ (tabbed e ++ (10 ∷ []))))
-    )
+seven f m s o v i u e = flat f (tabbed m) (tabbed s) (tabbed o) (tabbed v) (tabbed i) (tabbed u) (tabbed e) (10 ∷ [])
 
 pub header-is : (a : Analysis) → bytes "walk" ++ (words-text a ++ (counts-text a ++ (10 ∷ []))) ≡ header-text a
 unfolding words-text counts-text
@@ -53,58 +44,23 @@ header-is a = seven _ _ _ _ _ _ _ _
 
 -- ---- the turns of the loops
 
--- before the first turn
-pub put-start : {at r : ℕ} {bs out out′ : List ℕ} → Put at bs out out′ r → Put r [] out′ out′ r
-put-start {at} {r} {bs} {out} {out′} p =
-    let l : length out′ ≡ length out = ap length (p .bytes) ∙ written-long at bs out in
-    put-none r out′ r (omega (arith, p .place)) (omega (arith, p .small, l))
-
-values-snoc : (vs : List ℤ) (i : ℕ) → i < length vs → values-text (take (suc i) vs) ≡ values-text (take i vs) ++ tabbed (val-text (val (getD vs i (pos 0))))
+pub values-turn : (vs : List ℤ) (i : ℕ) → i < length vs → values-text (drop i vs) ≡ tabbed (val-text (val (word-at vs i))) ++ values-text (drop (i + 1) vs)
 unfolding values-text
-values-snoc [] i h = absurd (omega arith)
-values-snoc (x ∷ xs) zero h = append-nil (tabbed (val-text (val x)))
-values-snoc (x ∷ xs) (suc i) h =
-    ap (λ (l : List ℕ). tabbed (val-text (val x)) ++ l) (values-snoc xs i (omega arith))
-    ∙ sym (append-assoc (tabbed (val-text (val x))) (each tabbed (map val-text (map val (take i xs)))) (tabbed (val-text (val (getD xs i (pos 0))))))
-
-pub values-turn : (vs : List ℤ) (i : ℕ) → i < length vs → values-text (take (i + 1) vs) ≡ values-text (take i vs) ++ tabbed (val-text (val (getD vs i (pos 0))))
-values-turn vs i h = rw add-one (values-snoc vs i h)
+values-turn vs i h = rw (add-one, drop-cons vs i (pos 0) h)
 
 -- a slot's line, by its location n and its mark b
-pub slot-is : (c : Chart) (s : ℕ) (row : List ℤ) (n : ℕ) (b : Bool) → 1 ≤ length row → n ≡ natAbs (getD row 0 (pos 0))
-    → decimal s ++ (tabbed (loc-text (c .locs) n) ++ (values-text (take (length row - 1) (drop 1 row)) ++ (tabbed (mark b) ++ (10 ∷ [])))) ≡ slot-text c s (state-in row) b
+pub slot-is : (c : Chart) (s : ℕ) (row : List ℤ) (n : ℕ) (b : Bool) → 1 ≤ length row → n ≡ location-in row
+    → decimal s ++ (tabbed (loc-text (c .locs) n) ++ (values-text (values-of row) ++ (tabbed (mark b) ++ (10 ∷ [])))) ≡ slot-text c s (state-in row) b
 unfolding line-of values-text
 slot-is c s [] n b h p = absurd (omega arith)
 slot-is c s (x ∷ xs) n b h p =
-    let r : take (length (x ∷ xs) - 1) xs ≡ xs = take-all (length (x ∷ xs) - 1) xs (omega arith) in
-    (λ j. decimal s ++ (tabbed (loc-text (c .locs) (p j)) ++ (values-text (r j) ++ (tabbed (mark b) ++ (10 ∷ [])))))
+    (λ j. decimal s ++ (tabbed (loc-text (c .locs) (p j)) ++ (values-text xs ++ (tabbed (mark b) ++ (10 ∷ [])))))
     ∙ ap (λ (l : List ℕ). decimal s ++ (9 ∷ l)) (sym (line-end (loc-text (c .locs) (natAbs x)) (map val-text (map val xs)) (mark b)))
 
--- the lines of s slots from slot k on, and of one more
-module _ (c : Chart) (wa : List ℕ) (w : ℕ) where
-  abbrev line : ℕ → List ℤ → List ℕ
-  line k row = slot-text c k (state-in row) (some-of (eqb k) wa)
-
-  slots-snoc : (k s : ℕ) (t : List ℤ) → slots-text c wa k (states-in w (suc s) t) ≡ slots-text c wa k (states-in w s t) ++ line (k + s) (take w (drop (s * w) t))
-  slots-snoc k zero t =
-      append-nil (line k (take w t))
-      ∙ ap (λ (n : ℕ). line n (take w t)) (sym (add-zero k)) ∙ ap (λ (n : ℕ). line (k + 0) (take w (drop n t))) (sym (zero-mul w))
-  slots-snoc k (suc s) t =
-      let e : w + s * w ≡ suc s * w = rw suc-mul (omega arith) in
-      let n : suc k + s ≡ k + suc s = omega arith in
-      ap (λ (l : List ℕ). line k (take w t) ++ l) (
-      slots-snoc (suc k) s (drop w t)
-      ∙ ap (λ (m : ℕ). slots-text c wa (suc k) (states-in w s (drop w t)) ++ line m (take w (drop (s * w) (drop w t)))) n
-      ∙ ap (λ (l : List ℤ). slots-text c wa (suc k) (states-in w s (drop w t)) ++ line (k + suc s) (take w l)) (drop-drop (s * w) w t ∙ ap (λ (m : ℕ). drop m t) e)
-      )
-      ∙ sym (append-assoc (line k (take w t)) (slots-text c wa (suc k) (states-in w s (drop w t))) (line (k + suc s) (take w (drop (suc s * w) t))))
-
-  pub slots-turn : (s : ℕ) (t : List ℤ) → slots-text c wa 0 (states-in w (s + 1) t) ≡ slots-text c wa 0 (states-in w s t) ++ line s (take w (drop (s * w) t))
-  slots-turn s t =
-      ap (λ (n : ℕ). slots-text c wa 0 (states-in w n t)) (add-one s) ∙ slots-snoc 0 s t
-      ∙ ap (λ (n : ℕ). slots-text c wa 0 (states-in w s t) ++ line n (take w (drop (s * w) t))) (zero-plus s) where
-        zero-plus : (n : ℕ) → 0 + n ≡ n
-        zero-plus n = omega arith
+-- the lines of the slots from slot s on, whose words begin at `from`
+pub slots-turn : (c : Chart) (wa : List ℕ) (w from s n : ℕ) (t : List ℤ)
+    → slots-text c wa s (states-in w (suc n) (drop from t)) ≡ slot-text c s (state-in (take w (drop from t))) (some-of (eqb s) wa) ++ slots-text c wa (s + 1) (states-in w n (drop (from + w) t))
+slots-turn c wa w from s n t = rw (add-one, ← drop-drop w from t)
 
 -- ---- the marks
 
@@ -120,23 +76,15 @@ marks-turn ms l i h = rw (add-one i, drop-cons l i (pos 0) h)
 -- a slot is marked that was, or that is in the list
 is-marked : (ms : List Bool) (ks : List ℕ) (s : ℕ) → s < length ms → getD (marked ms ks) s false ≡ getD ms s false || some-of (eqb s) ks
 unfolding marked
-is-marked ms [] s h = or-false (getD ms s false)
-  where
-    or-false : (b : Bool) → b ≡ b || false
-    or-false true = refl
-    or-false false = refl
+is-marked ms [] s h = sym (or-false (getD ms s false))
 is-marked ms (k ∷ ks) s h = is-marked (set ms k true) ks s (rw length-set h) ∙ go (eqb s k) refl
   where
-    or-true : (a b : Bool) → true || b ≡ a || true
-    or-true true b = refl
-    or-true false b = refl
-
     go : (b : Bool) → eqb s k ≡ b → getD (set ms k true) s false || some-of (eqb s) ks ≡ getD ms s false || elim b [ true ↦ true | false ↦ some-of (eqb s) ks ]
     go true e =
         let q : s ≡ k = eqb-true s k e in
         ap (λ (n : ℕ). getD (set ms k true) n false || some-of (eqb s) ks) q
         ∙ ap (λ (b : Bool). b || some-of (eqb s) ks) (getD-set-same ms k true false (subst (λ (n : ℕ). n < length ms) q h))
-        ∙ or-true (getD ms s false) (some-of (eqb s) ks)
+        ∙ sym (or-true (getD ms s false))
     go false e = ap (λ (b : Bool). b || some-of (eqb s) ks) (getD-set-other ms k s true false (eqb-false s k e))
 
 pub marked-from-none : (n : ℕ) (ks : List ℕ) (s : ℕ) → s < n → getD (marked (replicate n false) ks) s false ≡ some-of (eqb s) ks

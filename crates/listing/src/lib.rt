@@ -134,11 +134,11 @@ fn put_value(out: &mut [u8], at: usize, w: i32) -> usize
     writer::put_signed(out, place, w)
 }
 
-// The values of a row. The empty text before them keeps the place within the writer's limit.
+// The values of a row.
 fn put_values(out: &mut [u8], at: usize, values: &[i32]) -> usize
     ensures { λ r. ⌜ Put at (values-text (now (values .entry))) (now (out .entry)) (now (out .exit)) r ⌝ }
 {
-    let mut place = writer::put_bytes(out, at, b"");
+    let mut place = at;
     let mut i = 0;
     while i < values.len() {
         let w = values[i];
@@ -194,7 +194,7 @@ fn put_slot(
     let location = state::location_of(row);
     let name = writer::put_decimal(out, at, slot.0);
     let values = put_name(out, name, chart, location);
-    let last = put_values(out, values, &row[1..]);
+    let last = put_values(out, values, state::values(row));
     let end = put_mark(out, last, waiting);
     writer::put_byte(out, end, semantics::LF)
 }
@@ -211,17 +211,19 @@ fn put_slots(
     requires { ⌜ T (well-formed (now chart)) × (used * width (decode (now chart)) ≤ length (now table)) × (used ≤ 256) ⌝ }
     ensures { λ r. ⌜ Put at (slots-text (decode (now (chart .entry))) (map natAbs (now (list .entry))) 0 (states-in (width (decode (now (chart .entry)))) used (now (table .entry)))) (now (out .entry)) (now (out .exit)) r ⌝ }
 {
-    let w = chart::width(chart);
+    let layout = state::layout_of(chart);
+    let width = layout.width();
+    let stride = layout.stride;
     let mut marks = [false; semantics::MOST_SLOTS];
     mark_waiting(&mut marks, list);
-    let mut place = writer::put_bytes(out, at, b"");
+    let mut place = at;
     let mut from = 0;
     let mut s = 0;
     while s < used {
-        let to = from + w;
+        let to = from + width;
         let waiting = marks[s];
         place = put_slot(out, place, chart, SlotId(s), &table[from..to], waiting);
-        from = to;
+        from += stride;
         s += 1;
     }
     place
@@ -243,7 +245,7 @@ fn write_listing(chart: &[i32], table: &[i32], list: &[i32], a: Analysis, out: &
 // How long the listing is; it is written nowhere.
 fn listing_length(chart: &[i32], table: &[i32], list: &[i32], a: Analysis) -> usize
     requires { ⌜ InForm (now chart) (lent (now table) (now list) a) ⌝ }
-    ensures { λ r. ⌜ r ≡ min (length (text-of (decode (now (chart .entry))) (lent (now (table .entry)) (now (list .entry)) a))) limit ⌝ }
+    ensures { λ r. ⌜ min r limit ≡ min (length (text-of (decode (now (chart .entry))) (lent (now (table .entry)) (now (list .entry)) a))) limit ⌝ }
 {
     let mut none = [0u8; 1];
     write_listing(chart, table, list, a, &mut none[..0])
@@ -271,8 +273,8 @@ fn listing_refusal(chart: &[i32], a: Analysis, table: &[i32], list: &[i32], spac
 
 // Writes the listing of an analysis and answers its length, or refuses and writes nothing.
 pub fn listing(chart: &[i32], a: Analysis, table: &[i32], list: &[i32], space: &mut [u8]) -> Answer
-    ensures { λ r. ⌜ r ≡ listing-outcome (now (chart .entry)) (lent (now (table .entry)) (now (list .entry)) a) (now (space .entry)) .answer ⌝ }
-    ensures { λ _. ⌜ now (space .exit) ≡ listing-outcome (now (chart .entry)) (lent (now (table .entry)) (now (list .entry)) a) (now (space .entry)) .space ⌝ }
+    ensures answer { λ r. ⌜ r ≡ listing-outcome (now (chart .entry)) (lent (now (table .entry)) (now (list .entry)) a) (now (space .entry)) .answer ⌝ }
+    ensures space { λ _. ⌜ now (space .exit) ≡ listing-outcome (now (chart .entry)) (lent (now (table .entry)) (now (list .entry)) a) (now (space .entry)) .space ⌝ }
 {
     let number = listing_refusal(chart, a, table, list, space.len());
     if number != 0 {

@@ -22,8 +22,8 @@ use Rattle.semantics.proofs.Calls.{read-goes}
 use Rattle.writer.specs.Writing.{Put}
 use Rattle.writer.proofs.Written.{put-fits}
 use Rattle.program.specs.declared.go_line.Go.{Go}
-use Rattle.program.specs.Asked.{Asks}
-use Rattle.program.specs.Responded.{asking, Printed}
+use Rattle.program.specs.Asked.{asking, Asks}
+use Rattle.program.specs.Responded.{Printed}
 
 module _ (text : List ℕ) (ws ws′ : List ℤ) (r : Answer) (long : length ws ≡ 3163) (a : r ≡ read-outcome text ws .answer) (w : ws′ ≡ read-outcome text ws .words) where
   pub read-refused : (r .number ≡ 0 → ⊥) → read text ≡ refused (r .number) (r .line)
@@ -61,10 +61,10 @@ pub refused-output : (input : List ℕ) {n : ℕ} → go-line input ≡ fail n �
 unfolding output
 refused-output input e = rw e
 
-pub charted-output : (input : List ℕ) (g : Go) → Asks input g → output input ≡ print-read (asking g) (read (take (length input - g .chart) (drop (g .chart) input)))
+pub charted-output : (input : List ℕ) (g : Go) (at : ℕ) → Asks input g at → output input ≡ print-read (asking g) (read (take (length input - at) (drop at input)))
 unfolding output
-charted-output input g a =
-    let all : take (length input - g .chart) (drop (g .chart) input) ≡ past-line input = take-all (length input - g .chart) (drop (g .chart) input) (omega (arith, length-drop (g .chart) input)) ∙ a .rest in
+charted-output input g at a =
+    let all : take (length input - at) (drop at input) ≡ past-line input = take-all (length input - at) (drop at input) (omega (arith, length-drop at input)) ∙ a .rest in
     rw (a .is, all)
 
 pub printed-is : {text text′ out out′ : List ℕ} {r : ℕ} → text′ ≡ text → Printed text out out′ r → (r ≡ length text′) × (out′ ≡ text′ ++ drop (length text′) out)

@@ -12,11 +12,10 @@ use Rattle.semantics.specs.Reading.{Res, ok, check, if-ok}
 use Rattle.semantics.specs.Algorithm.{allowed}
 use Rattle.semantics.specs.Memory.{capacity-ok}
 use Rattle.semantics.specs.Outcomes.{budget-ok}
-use Rattle.semantics.specs.Program.{Go}
+use Rattle.semantics.specs.Program.{Go, sized, counts}
 use Rattle.semantics.specs.declared.Settings.{Settings}
 use Rattle.text.specs.Fields.{clamp, number-read, number-said}
 use Rattle.text.proofs.Bytes.{and-no}
-use Rattle.program.specs.Asked.{sized, numbers}
 
 range-cut : {A : Type 0} (lo hi : ℕ) → hi < 100000 → (n : ℕ) (f : ℤ → Res A) (z : ℤ) → check (within (pos lo) (pos hi) (clamp z)) n (f (clamp z)) ≡ check (within (pos lo) (pos hi) z) n (f z)
 unfolding check
@@ -30,13 +29,12 @@ range-cut lo hi h n f (pos k) = by-size (leb k hi) refl
         simp (e, q, and-no)
 
 sized-cut : (s : Settings) (r a : ℤ) → sized s (clamp r) (clamp a) ≡ sized s r a
-unfolding sized
 sized-cut s r a =
     range-cut 1 256 (omega arith) 11 (λ x. check (allowed (s .merge) (s .stop)) 12 (check (budget-ok (clamp a)) 13 (ok (record { settings = s; capacity = x; budget = clamp a })))) r
     ∙ ap (λ (x : Res Go). check (capacity-ok r) 11 (check (allowed (s .merge) (s .stop)) 12 x)) (range-cut 0 60000 (omega arith) 13 (λ x. ok (record { settings = s; capacity = r; budget = x })) a)
 
-pub numbers-cut : (s : Settings) (p q : Option ℤ) → numbers s (number-said (number-read p)) (number-said (number-read q)) ≡ numbers s p q
-unfolding numbers number-said number-read if-ok
-numbers-cut s none q = refl
-numbers-cut s (some r) none = refl
-numbers-cut s (some r) (some a) = sized-cut s r a
+pub counts-cut : (s : Settings) (p q : Option ℤ) → counts s (number-said (number-read p)) (number-said (number-read q)) ≡ counts s p q
+unfolding number-said number-read if-ok
+counts-cut s none q = refl
+counts-cut s (some r) none = refl
+counts-cut s (some r) (some a) = sized-cut s r a

@@ -2,16 +2,18 @@
 use mathlib.Core.Path.{_≡_, refl, sym, ap, _∙_}
 use mathlib.Core.Bool.{Bool, true, false, _&&_, _||_, not}
 use mathlib.Core.List.{List, [], _∷_}
-use Prim.Native.Nat.{ℕ, zero, suc, _≤_}
+use Prim.Native.Nat.{ℕ, zero, suc, _+_, _≤_}
+use native.Mathlib.Numerals.{add-one}
 use native.Mathlib.Omega.{arith}
 use lib.Dec.{leb, ltb, eqb, leb·suc-suc}
 use lib.ListN.{length, take, drop}
 use lib.Seq.{take-length}
 use borrow.Author.Tests.{ltb-true, ltb-false, lt-leb, le-leb, lt-ltb, le-ltb}
-use Rattle.semantics.specs.Lists.{pick}
-use Rattle.semantics.specs.Program.{has-lf, first-line, past-line, go-line}
+use Rattle.semantics.specs.Lists.{pick, all}
+use Rattle.semantics.specs.Text.{fields}
+use Rattle.semantics.specs.Reading.{check}
+use Rattle.semantics.specs.Program.{has-lf, first-line, past-line, line-byte, go-fields, go-line}
 use Rattle.text.specs.Fields.{up-to}
-use Rattle.program.specs.Asked.{numbers, sized, line-fields, by-end}
 
 first-is : (l : List ℕ) → first-line l ≡ take (up-to 10 l) l
 unfolding up-to
@@ -22,7 +24,7 @@ first-is (b ∷ bs) = at-byte (eqb b 10) (first-is bs)
     at-byte true ih = refl
     at-byte false ih = rw ih
 
-pub past-is : (l : List ℕ) → past-line l ≡ drop (suc (up-to 10 l)) l
+past-is : (l : List ℕ) → past-line l ≡ drop (suc (up-to 10 l)) l
 unfolding up-to
 past-is [] = refl
 past-is (b ∷ bs) = at-byte (eqb b 10) (past-is bs)
@@ -30,6 +32,10 @@ past-is (b ∷ bs) = at-byte (eqb b 10) (past-is bs)
     at-byte : (t : Bool) → past-line bs ≡ drop (suc (up-to 10 bs)) bs → pick t bs (past-line bs) ≡ drop (suc (pick t 0 (suc (up-to 10 bs)))) (b ∷ bs)
     at-byte true ih = refl
     at-byte false ih = ih
+
+-- the rest of the input, by the place e of the first LF
+pub past-end : (l : List ℕ) (e : ℕ) → e ≡ up-to 10 l → drop (e + 1) l ≡ past-line l
+past-end l e p = rw (add-one, p) (sym (past-is l))
 
 -- an LF is among the first n bytes where its place is below n
 has-is : (n : ℕ) (l : List ℕ) → n ≤ length l → has-lf (take n l) ≡ ltb (up-to 10 l) n
@@ -60,6 +66,8 @@ late-is n l = by-test (ltb n (length l)) refl
     by-test true e = let k = ltb-true n (length l) e in ap not (has-is n l (omega arith)) ∙ not-ltb (up-to 10 l) n
     by-test false e = refl
 
-pub by-its-end : (l : List ℕ) → go-line l ≡ by-end (up-to 10 l) l
-unfolding go-line by-end numbers sized line-fields
-by-its-end l = rw (late-is 64 l, first-is l, lf-is l)
+-- the go line by the place e of its LF, which is the input's length where there is none
+pub by-its-end : (l : List ℕ) (e : ℕ) → e ≡ up-to 10 l
+    → go-line l ≡ check (not (ltb 64 (length l) && leb 64 e)) 1 (check (all line-byte (take e l)) 2 (check (ltb e (length l)) 3 (go-fields (fields (take e l)))))
+unfolding go-line
+by-its-end l e p = rw (p, late-is 64 l, first-is l, lf-is l)

@@ -2,7 +2,7 @@
 pub mod FirstLine
 pub mod Cut
 pub mod OneField
--- What the program's memory holds, then what reading answers it; and that its buffer is long enough.
-pub mod Held
+-- That the calls go through, then what reading answers it; and that its buffer is long enough.
+pub mod GoThrough
 pub mod Charted
 pub mod Enough

@@ -13,15 +13,11 @@ use Rattle.semantics.specs.Encoding.{well-formed}
 use Rattle.semantics.specs.Memory.{Memory}
 use Rattle.semantics.specs.Outcomes.{put-in}
 use Rattle.semantics.specs.Program.{go-line}
-use Rattle.semantics.specs.Program.{Go as Asking}
 use Rattle.semantics.specs.declared.Settings.{Settings}
 use Rattle.semantics.specs.declared.Analysis.{Analysis}
 use Rattle.semantics.specs.declared.Verdict.the-variants.{Open}
 use Rattle.program.specs.declared.go_line.Go.{Go}
-
--- what a go line asks, as the definitions have it: without the place where the chart begins
-abbrev pub asking : Go → Asking
-asking g = record { settings = g .settings; capacity = g .capacity; budget = g .budget }
+use Rattle.program.specs.Asked.{asking}
 
 -- the record before the first start, which a start that goes through does not look at
 abbrev pub no-analysis : Settings → Analysis
@@ -38,8 +34,8 @@ pub record Lends (ws t l : List ℤ) : Type 0 where
   pub table : length t ≡ 2304
   pub list : length l ≡ 256
 
--- the memory holds the exploration, over other words
-pub record Holds (c : Chart) (w : Exploration AbstractState) (m : Memory) : Type 0 where
+-- the memory is the exploration, put into words lent
+pub record PutIn (c : Chart) (w : Exploration AbstractState) (m : Memory) : Type 0 where
   pub over : Memory
   pub table : length (over .table) ≡ 2304
   pub list : length (over .waitlist) ≡ 256

@@ -6,32 +6,27 @@ use text::NumberRead;
 ghost use mathlib.Core.Path.{_≡_};
 ghost use Rattle.semantics.specs.Lists.{all};
 ghost use Rattle.semantics.specs.Text.{fields};
-ghost use Rattle.semantics.specs.Program.{mode-field, order-field, line-byte};
+ghost use Rattle.semantics.specs.Program.{mode-field, order-field, settings-fields, sized, counts, go-fields, line-byte};
 ghost use Rattle.text.specs.Fields.{number-said};
-ghost use Rattle.program.specs.Asked.{mode-res, order-res, asked-res, sized, numbers, from-order, from-stop, from-merge, line-fields, GoRead};
+ghost use Rattle.program.specs.Asked.{mode-res, order-res, settings-res, asked-res, GoRead};
 
-// What the go line asks, and where the chart's bytes begin.
+// What the go line asks.
 pub struct Go {
     pub settings: Settings,
     pub capacity: i32,
     pub budget: i32,
-    pub chart: usize,
 }
 
-// The refusal's number, or what the go line asks.
+// The refusal's number, or what the go line asks and where the chart's bytes begin.
 pub enum GoLine {
     Refused(u32),
-    Accepted(Go),
+    Accepted { go: Go, chart: usize },
 }
 
-// What a line asks, or the refusal's number.
+// The refusal's number, or what a line asks.
 enum Asked {
     Refused(u32),
-    Is {
-        settings: Settings,
-        capacity: i32,
-        budget: i32,
-    },
+    Is(Go),
 }
 
 enum ModeRead {
@@ -42,6 +37,11 @@ enum ModeRead {
 enum OrderRead {
     Malformed,
     Is(Order),
+}
+
+enum SettingsRead {
+    Malformed,
+    Is(Settings),
 }
 
 fn mode_field(f: &[u8]) -> ModeRead
@@ -68,15 +68,32 @@ fn order_field(f: &[u8]) -> OrderRead
     OrderRead::Malformed
 }
 
-// 11, 12, 13, once every field is well formed.
-fn sizes(settings: Settings, capacity: i32, budget: i32) -> Asked
-    ensures { λ r. ⌜ asked-res r ≡ sized settings capacity budget ⌝ }
+// Merge, stop and order.
+fn settings_fields(line: &[u8]) -> SettingsRead
+    ensures { λ r. ⌜ settings-res r ≡ settings-fields (fields (now (line .entry))) ⌝ }
 {
+    let ModeRead::Is(merge) = mode_field(text::field(line, 1)) else {
+        return SettingsRead::Malformed;
+    };
+    let ModeRead::Is(stop) = mode_field(text::field(line, 2)) else {
+        return SettingsRead::Malformed;
+    };
+    let OrderRead::Is(order) = order_field(text::field(line, 3)) else {
+        return SettingsRead::Malformed;
+    };
+    SettingsRead::Is(Settings { merge, stop, order })
+}
+
+// 11, 12, 13, once every field is well formed.
+fn sizes(go: Go) -> Asked
+    ensures { λ r. ⌜ asked-res r ≡ sized (go .settings) (go .capacity) (go .budget) ⌝ }
+{
+    let settings = go.settings;
     let merge = settings.merge;
     let stop = settings.stop;
-    let capacity_fits = checks::capacity_ok(capacity);
+    let capacity_fits = checks::capacity_ok(go.capacity);
     let allowed = checks::is_allowed(merge, stop);
-    let budget_fits = checks::budget_ok(budget);
+    let budget_fits = checks::budget_ok(go.budget);
     if !capacity_fits {
         return Asked::Refused(11);
     }
@@ -86,62 +103,29 @@ fn sizes(settings: Settings, capacity: i32, budget: i32) -> Asked
     if !budget_fits {
         return Asked::Refused(13);
     }
-    Asked::Is {
-        settings,
-        capacity,
-        budget,
-    }
+    Asked::Is(go)
 }
 
 // Capacity and budget, numbers in form only, then their sizes.
-fn counts(settings: Settings, capacity: NumberRead, budget: NumberRead) -> Asked
-    ensures { λ r. ⌜ asked-res r ≡ numbers settings (number-said capacity) (number-said budget) ⌝ }
+fn count_fields(settings: Settings, capacity: NumberRead, budget: NumberRead) -> Asked
+    ensures { λ r. ⌜ asked-res r ≡ counts settings (number-said capacity) (number-said budget) ⌝ }
 {
-    match capacity {
-        NumberRead::Malformed => Asked::Refused(6),
-        NumberRead::Is(c) => match budget {
-            NumberRead::Malformed => Asked::Refused(6),
-            NumberRead::Is(b) => sizes(settings, c, b),
-        },
-    }
-}
-
-// The fields from the order on; then those from the stop and from the merge on.
-fn from_order(merge: Mode, stop: Mode, line: &[u8]) -> Asked
-    ensures { λ r. ⌜ asked-res r ≡ from-order merge stop (fields (now (line .entry))) ⌝ }
-{
-    match order_field(text::field(line, 3)) {
-        OrderRead::Malformed => Asked::Refused(6),
-        OrderRead::Is(order) => {
-            let settings = Settings { merge, stop, order };
-            let capacity = text::number(text::field(line, 4));
-            let budget = text::number(text::field(line, 5));
-            counts(settings, capacity, budget)
-        }
-    }
-}
-
-fn from_stop(merge: Mode, line: &[u8]) -> Asked
-    ensures { λ r. ⌜ asked-res r ≡ from-stop merge (fields (now (line .entry))) ⌝ }
-{
-    match mode_field(text::field(line, 2)) {
-        ModeRead::Malformed => Asked::Refused(6),
-        ModeRead::Is(stop) => from_order(merge, stop, line),
-    }
-}
-
-fn from_merge(line: &[u8]) -> Asked
-    ensures { λ r. ⌜ asked-res r ≡ from-merge (fields (now (line .entry))) ⌝ }
-{
-    match mode_field(text::field(line, 1)) {
-        ModeRead::Malformed => Asked::Refused(6),
-        ModeRead::Is(merge) => from_stop(merge, line),
-    }
+    let NumberRead::Is(capacity) = capacity else {
+        return Asked::Refused(6);
+    };
+    let NumberRead::Is(budget) = budget else {
+        return Asked::Refused(6);
+    };
+    sizes(Go {
+        settings,
+        capacity,
+        budget,
+    })
 }
 
 // The line without its LF, by 5 and what follows it.
 fn judged(line: &[u8]) -> Asked
-    ensures { λ r. ⌜ asked-res r ≡ line-fields (fields (now (line .entry))) ⌝ }
+    ensures { λ r. ⌜ asked-res r ≡ go-fields (fields (now (line .entry))) ⌝ }
 {
     if !text::filled(line, 6) {
         return Asked::Refused(5);
@@ -149,7 +133,12 @@ fn judged(line: &[u8]) -> Asked
     if !text::same_bytes(text::field(line, 0), b"go") {
         return Asked::Refused(6);
     }
-    from_merge(line)
+    let SettingsRead::Is(settings) = settings_fields(line) else {
+        return Asked::Refused(6);
+    };
+    let capacity = text::number(text::field(line, 4));
+    let budget = text::number(text::field(line, 5));
+    count_fields(settings, capacity, budget)
 }
 
 // A tab, or 0x21..0x7E: what may stand before the LF.
@@ -188,15 +177,6 @@ pub fn read(input: &[u8]) -> GoLine
     }
     match judged(&input[..end]) {
         Asked::Refused(n) => GoLine::Refused(n),
-        Asked::Is {
-            settings,
-            capacity,
-            budget,
-        } => GoLine::Accepted(Go {
-            settings,
-            capacity,
-            budget,
-            chart: end + 1,
-        }),
+        Asked::Is(go) => GoLine::Accepted { go, chart: end + 1 },
     }
 }

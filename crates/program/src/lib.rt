@@ -17,7 +17,8 @@ ghost use Rattle.semantics.specs.Outcomes.{started};
 ghost use Rattle.semantics.specs.Program.{explored, print-read, output};
 ghost use Rattle.checks.specs.Form.{lent};
 ghost use Rattle.writer.specs.Writing.{Put};
-ghost use Rattle.program.specs.Responded.{no-analysis, asking, Accepted, Lends, Holds, Printed, Buffered};
+ghost use Rattle.program.specs.Asked.{asking};
+ghost use Rattle.program.specs.Responded.{no-analysis, Accepted, Lends, PutIn, Printed, Buffered};
 
 mod go_line;
 
@@ -62,7 +63,7 @@ fn no_analysis(settings: Settings) -> Analysis
 // enough. So no answer of theirs is looked at but the listing's length.
 fn begin(chart: &[i32], go: Go, table: &mut [i32], list: &mut [i32]) -> Analysis
     requires { ⌜ Lends (now chart) (now table) (now list) × Accepted go ⌝ }
-    ensures { λ r. ⌜ Holds (decode (now (chart .entry))) (started (decode (now (chart .entry))) (go .settings) (go .capacity)) (lent (now (table .exit)) (now (list .exit)) r) ⌝ }
+    ensures { λ r. ⌜ PutIn (decode (now (chart .entry))) (started (decode (now (chart .entry))) (go .settings) (go .capacity)) (lent (now (table .exit)) (now (list .exit)) r) ⌝ }
 {
     let settings = go.settings;
     let a = no_analysis(settings);
@@ -73,7 +74,7 @@ fn begin(chart: &[i32], go: Go, table: &mut [i32], list: &mut [i32]) -> Analysis
 // The start, and the run unless the start gave a verdict.
 fn explore(chart: &[i32], go: Go, table: &mut [i32], list: &mut [i32]) -> Analysis
     requires { ⌜ Lends (now chart) (now table) (now list) × Accepted go ⌝ }
-    ensures { λ r. ⌜ Holds (decode (now (chart .entry))) (explored (decode (now (chart .entry))) (asking go)) (lent (now (table .exit)) (now (list .exit)) r) ⌝ }
+    ensures { λ r. ⌜ PutIn (decode (now (chart .entry))) (explored (decode (now (chart .entry))) (asking go)) (lent (now (table .exit)) (now (list .exit)) r) ⌝ }
 {
     let a = begin(chart, go, table, list);
     let verdict = a.verdict;
@@ -111,15 +112,12 @@ fn put_chart(chart: &[u8], go: Go, out: &mut [u8]) -> usize
 
 // What the program prints for an input: its bytes at the front of those lent, and how many they are.
 pub fn respond(input: &[u8], out: &mut [u8; semantics::LISTING_BYTES]) -> usize
-    ensures { λ r. ⌜ r ≡ length (output (now (input .entry))) ⌝ }
-    ensures { λ _. ⌜ now (out .exit) ≡ output (now (input .entry)) ++ drop (length (output (now (input .entry)))) (now (out .entry)) ⌝ }
+    ensures count { λ r. ⌜ r ≡ length (output (now (input .entry))) ⌝ }
+    ensures bytes { λ _. ⌜ now (out .exit) ≡ output (now (input .entry)) ++ drop (length (output (now (input .entry)))) (now (out .entry)) ⌝ }
 {
     match go_line::read(input) {
         GoLine::Refused(n) => put_refusal(out, n, 0),
-        GoLine::Accepted(go) => {
-            let at = go.chart;
-            put_chart(&input[at..], go, out)
-        }
+        GoLine::Accepted { go, chart } => put_chart(&input[chart..], go, out),
     }
 }
 

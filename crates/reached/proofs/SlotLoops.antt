@@ -2,20 +2,28 @@
 use mathlib.Core.Path.{_≡_}
 use mathlib.Core.Bool.{Bool, true, false}
 use mathlib.Core.List.{List}
-use Prim.Native.Nat.{ℕ, suc, _+_, _<_}
+use Prim.Native.Nat.{ℕ, suc, _+_, _≤_, _<_}
 use lib.IntN.{ℤ}
-use lib.ListN.{take, drop}
+use native.Mathlib.Omega.{arith}
+use lib.ListN.{length, take, drop}
 use lib.Seq.{drop-drop}
 use Rattle.semantics.specs.Lists.{some-of}
 use Rattle.semantics.specs.Tidy.{Queue}
 use Rattle.semantics.proofs.Tidy.{wait-queue}
-use Rattle.state.specs.Rows.{row-leq, rows-of}
+use Rattle.state.specs.declared.Layout.{Layout}
+use Rattle.state.specs.Rows.{width-of, row-leq, rows-of, Laid}
+use Rattle.state.proofs.Slots.{OnSlot, slot-in}
 use Rattle.waitlist.specs.Waits.{wait-unless}
 
--- the row at a is tested, and the rows after it are left
-pub some-turn : (e t : List ℤ) (a w k : ℕ) (b : Bool) → row-leq e (take w (drop a t)) ≡ b
-    → some-of (row-leq e) (rows-of w (suc k) (drop a t)) ≡ elim b [ true ↦ true | false ↦ some-of (row-leq e) (rows-of w k (drop (a + w) t)) ]
-some-turn e t a w k b h = let d = drop-drop w a t in λ i. elim (h i) [ true ↦ true | false ↦ some-of (row-leq e) (rows-of w k (d i)) ]
+-- the state of the slot at a is tested, and the slots after it are left
+pub some-turn : (e t : List ℤ) (y : Layout) (a k : ℕ) (b : Bool) → row-leq e (take (width-of y) (drop a t)) ≡ b
+    → some-of (row-leq e) (rows-of y (suc k) (drop a t)) ≡ elim b [ true ↦ true | false ↦ some-of (row-leq e) (rows-of y k (drop (a + y .stride) t)) ]
+some-turn e t y a k b h = let d = drop-drop (y .stride) a t in λ i. elim (h i) [ true ↦ true | false ↦ some-of (row-leq e) (rows-of y k (d i)) ]
+
+-- the part of the slot at a that is its state
+module _ {y : Layout} {n : ℕ} {e t : List ℤ} (g : Laid y n e t) {a s : ℕ} (o : OnSlot (y .stride) n a s) (h : s < n) where
+  pub state-in : (t′ : List ℤ) → length t′ ≡ length t → a + length e ≤ length t′
+  state-in t′ l = omega (arith, slot-in o h t (g .table), g .row, g .apart, l)
 
 pub unless-queue : (b : Bool) (n k : ℕ) (wa : List ℕ) → k < n → Queue n wa → Queue n (wait-unless b k wa)
 unless-queue true n k wa l q = q

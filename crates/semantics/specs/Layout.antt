@@ -1,7 +1,34 @@
--- The numbers of the layout, each under its name: the word for top, the sizes of the rows of an encoded chart, the place
--- of each word in its row, and the codes of operations. docs/memory.md shows them as pictures. Assumes nothing.
+-- The numbers that several definitions need, each under its name: document 01's limits, the word for top, the sizes of the
+-- rows of an encoded chart, the place of each word in its row, and the codes of operations. docs/memory.md shows the
+-- layout as pictures. Assumes nothing.
 use Prim.Native.Nat.{ℕ, _+_, _*_}
 use lib.IntN.{ℤ, pos}
+
+-- ---- limits
+
+-- 1: the most bytes of a chart file
+abbrev pub most-bytes : ℕ
+most-bytes = 32768
+
+-- 8: the most variables, locations and edges
+abbrev pub most-variables : ℕ
+most-variables = 8
+
+abbrev pub most-locations : ℕ
+most-locations = 64
+
+abbrev pub most-edges : ℕ
+most-edges = 256
+
+-- 11: the most slots
+abbrev pub most-slots : ℕ
+most-slots = 256
+
+-- 13, 21 and 23: the most iterations
+abbrev pub most-iterations : ℕ
+most-iterations = 60000
+
+-- ---- a value
 
 -- "unspecific written 32,768, which no variable can hold"
 abbrev pub top-word : ℤ

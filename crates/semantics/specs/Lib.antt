@@ -1,15 +1,15 @@
--- To be believed, in this order, each close to document 01: lists and text, the chart file, the algorithm and its domain
--- of constants, runs and what covers them, the encoded chart and its layout, memory, listing, calls, whole walks, the program. Then
+-- To be believed, in this order, each close to document 01: lists, the numbers under their names, text, the chart file, the algorithm and its domain
+-- of constants, runs and what covers them, the encoded chart, memory, listing, calls, whole walks, the program. Then
 -- claims of these definitions that the others do not rest on: ProgramSafe, Exact, Verdicts, Runs, MarkedCases. Last what
 -- only proofs use, and contracts of inner functions: Laws, Tidy, Rendering, Operations. Nothing in these four has to be believed.
 pub mod Lists
+pub mod Layout
 pub mod Text
 pub mod Chart
 pub mod Reading
 pub mod Algorithm
 pub mod Constants
 pub mod Coverage
-pub mod Layout
 pub mod Encoding
 pub mod Memory
 pub mod Listing

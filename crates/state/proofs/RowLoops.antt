@@ -1,7 +1,7 @@
--- The turns of the loops over rows of words, and the merge of a table row by row. Assumes nothing.
+-- The turns of the loops over the words of a row. Assumes nothing.
 use mathlib.Core.Path.{_≡_, refl, ap}
 use mathlib.Core.Bool.{Bool, true, false, _&&_}
-use mathlib.Core.List.{List, [], _∷_, _++_, append-nil, append-assoc}
+use mathlib.Core.List.{List, [], _∷_, _++_, append-nil}
 use Prim.Native.Nat.{ℕ, suc, _+_, _≤_, _<_}
 use native.Mathlib.Numerals.{add-one}
 use native.Mathlib.Omega.{arith}
@@ -12,8 +12,7 @@ use Rattle.semantics.specs.Lists.{pick}
 use Rattle.semantics.specs.Chart.{eqZ}
 use Rattle.semantics.proofs.Values.{and-true}
 use Rattle.words.proofs.Words.{eqZ-refl}
-use Rattle.words.proofs.Rows.{take-put, drop-put}
-use Rattle.state.specs.Rows.{word-leq, word-join, words-leq, words-join, same-words, same-place, row-join, row-merge, rows-merge}
+use Rattle.state.specs.Rows.{word-leq, word-join, words-leq, words-join, same-words, same-place, row-join, row-merge}
 
 and-assoc : (a b c : Bool) → a && (b && c) ≡ (a && b) && c
 and-assoc true b c = refl
@@ -54,13 +53,6 @@ module _ (e s : List ℤ) (i : ℕ) (he : length e ≤ i) (hs : length s ≤ i) 
 pub same-start : (e s : List ℤ) → 0 < length s → same-words (row-join e s) s ≡ same-words (words-join (drop 1 e) (drop 1 s)) (drop 1 s)
 same-start e [] n = absurd (omega arith)
 same-start e (y ∷ s) n = rw (eqZ-refl y)
-
--- one row of w words at a, merged
-module _ (e t : List ℤ) (a w k : ℕ) (ws : List ℤ) (fits : a + w ≤ length t) (len : length ws ≡ w)
-    (is-merged : ws ≡ row-merge e (take w (drop a t))) where
-  pub merge-turn : take a t ++ rows-merge e w (suc k) (drop a t)
-      ≡ take (a + w) (take a t ++ (ws ++ drop w (drop a t))) ++ rows-merge e w k (drop (a + w) (take a t ++ (ws ++ drop w (drop a t))))
-  merge-turn = rw (take-put t a w ws fits len, drop-put t a w ws fits len, append-assoc, is-merged)
 
 -- ---- lengths
 

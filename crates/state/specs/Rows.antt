@@ -1,23 +1,91 @@
 -- One abstract state as a row of words, its location and then one word a variable: order, join and merge, with no
 -- word on the rows' form; rows of a table; and the rows as a domain of the algorithm. Assumes nothing.
+use mathlib.Core.Path.{_≡_}
 use mathlib.Core.Bool.{Bool, false, _&&_, _||_}
 use mathlib.Core.List.{List, [], _∷_, _++_}
-use Prim.Native.Nat.{ℕ, zero, suc}
-use lib.IntN.{ℤ, pos}
-use lib.ListN.{take, drop, getD}
+use Prim.Native.Nat.{ℕ, zero, suc, _+_, _*_, _≤_, _<_}
+use lib.Dec.{ltb}
+use lib.IntN.{ℤ, pos, natAbs}
+use lib.ListN.{length, take, drop, set}
 use Rattle.semantics.specs.Lists.{pick, all-pairs}
 use Rattle.semantics.specs.Chart.{eqZ}
+use Rattle.semantics.specs.Layout.{top-word}
+use Rattle.semantics.specs.Encoding.{word-at, count}
 use Rattle.semantics.specs.Algorithm.{Domain, Step}
+use Rattle.state.specs.declared.Layout.{Layout}
 
--- ---- words, 32,768 being top
+-- ---- where the words of a state stand
+
+-- before the values: the location's word
+abbrev pub head-size : ℕ
+head-size = 1
+
+-- the words of a variable
+abbrev pub value-size : ℕ
+value-size = 1
+
+-- the words of a state
+abbrev pub width-of : Layout → ℕ
+width-of l = l .head + l .value * l .variables
+
+-- the most words of a state, at 8 variables
+abbrev pub most-width : ℕ
+most-width = 9
+
+-- the tables of an encoded chart: slot follows slot
+abbrev pub layout-of : List ℤ → Layout
+layout-of ws = record {
+  head = head-size;
+  value = value-size;
+  variables = count ws 0;
+  stride = head-size + value-size * count ws 0;
+}
+
+-- the word of a row's location
+abbrev pub location-word : List ℤ → ℤ
+location-word e = word-at e 0
+
+-- the location, its sign left out
+abbrev pub location-in : List ℤ → ℕ
+location-in e = natAbs (location-word e)
+
+-- the values, a word each
+abbrev pub values-of : List ℤ → List ℤ
+values-of e = drop head-size e
+
+-- where the word of variable k stands
+abbrev pub value-place : ℕ → ℕ
+value-place k = k + head-size
+
+-- the value of variable k
+abbrev pub value-at : List ℤ → ℕ → ℤ
+value-at e k = word-at e (value-place k)
+
+-- the least number that no word holds
+abbrev pub word-limit : ℕ
+word-limit = 2147483648
+
+-- the word of a location; one that no word can hold has 0
+unfoldable pub id-word : ℕ → ℤ
+id-word n = pick (ltb n word-limit) (pos n) (pos 0)
+
+-- the row at another location
+abbrev pub with-location : List ℤ → ℕ → List ℤ
+with-location e n = set e 0 (id-word n)
+
+-- the row with another value of variable k
+abbrev pub with-value : List ℤ → ℕ → ℤ → List ℤ
+with-value e k x = set e (value-place k) x
+
+-- ---- words
 
 -- x lies under y: y is top, or it is "the same value in both"
 abbrev pub word-leq : ℤ → ℤ → Bool
-word-leq x y = eqZ y (pos 32768) || eqZ x y
+word-leq x y = eqZ y top-word || eqZ x y
 
 -- "equal values stay, all else becomes unspecific"
 abbrev pub word-join : ℤ → ℤ → ℤ
-word-join x y = pick (eqZ x y) y (pos 32768)
+word-join x y = pick (eqZ x y) y top-word
 
 -- lists of one length, each word under the one at its place
 abbrev pub words-leq : List ℤ → List ℤ → Bool
@@ -37,15 +105,15 @@ same-words e s = all-pairs eqZ e s
 
 -- "the locations agree"
 abbrev pub same-place : List ℤ → List ℤ → Bool
-same-place e s = eqZ (getD e 0 (pos 0)) (getD s 0 (pos 0))
+same-place e s = eqZ (location-word e) (location-word s)
 
 -- the row e lies under the row s
 abbrev pub row-leq : List ℤ → List ℤ → Bool
-row-leq e s = same-place e s && words-leq (drop 1 e) (drop 1 s)
+row-leq e s = same-place e s && words-leq (values-of e) (values-of s)
 
 -- e joined into s
 abbrev pub row-join : List ℤ → List ℤ → List ℤ
-row-join e s = take 1 s ++ words-join (drop 1 e) (drop 1 s)
+row-join e s = take head-size s ++ words-join (values-of e) (values-of s)
 
 -- the same where the locations agree, else s
 abbrev pub row-merge : List ℤ → List ℤ → List ℤ
@@ -63,15 +131,26 @@ leq-join-of e (x ∷ xs) = row-leq e (join-of x xs)
 
 -- ---- tables
 
--- the first n rows, of w words each
-abbrev pub rows-of : ℕ → ℕ → List ℤ → List (List ℤ)
-rows-of w zero t = []
-rows-of w (suc n) t = take w t ∷ rows-of w n (drop w t)
+-- the states of the first n slots
+abbrev pub rows-of : Layout → ℕ → List ℤ → List (List ℤ)
+rows-of y zero t = []
+rows-of y (suc n) t = take (width-of y) t ∷ rows-of y n (drop (y .stride) t)
 
--- the first n rows, of w words each, merged with e; the words after them stay
-abbrev pub rows-merge : List ℤ → ℕ → ℕ → List ℤ → List ℤ
-rows-merge e w zero t = t
-rows-merge e w (suc n) t = row-merge e (take w t) ++ rows-merge e w n (drop w t)
+-- the first slot, its state merged with e; the words after the state stay
+abbrev pub slot-merge : List ℤ → Layout → List ℤ → List ℤ
+slot-merge e y t = row-merge e (take (width-of y) t) ++ drop (width-of y) (take (y .stride) t)
+
+-- the states of the first n slots merged with e; all other words stay
+abbrev pub rows-merge : List ℤ → Layout → ℕ → List ℤ → List ℤ
+rows-merge e y zero t = t
+rows-merge e y (suc n) t = slot-merge e y t ++ rows-merge e y n (drop (y .stride) t)
+
+-- the row e is a state, and t a table of n slots or more, by the layout
+pub record Laid (y : Layout) (n : ℕ) (e t : List ℤ) : Type 0 where
+  pub some : 0 < length e
+  pub row : length e ≡ width-of y
+  pub apart : width-of y ≤ y .stride
+  pub table : n * y .stride ≤ length t
 
 -- ---- the rows as a domain, over the transfer by an edge, counted from 0 here, and the test of an error location
 

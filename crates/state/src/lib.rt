@@ -1,19 +1,116 @@
-// One abstract state as a row of words, its location and then one word a variable: order, join and merge.
+// One abstract state as a row of words, its location and then one word a variable: where each stands, in a row and in a
+// table; order, join and merge. No other crate reads or writes a row by place.
 // The locations of two rows are compared as words, not as ids: nothing is asked of a row's form, and a word and its
 // negation say the same id.
 use semantics::LocationId;
 ghost use mathlib.Core.Path.{_≡_};
-ghost use Prim.Native.Nat.{_<_};
-ghost use lib.ListN.{length, drop};
-ghost use Rattle.semantics.specs.Encoding.{count};
-ghost use Rattle.state.specs.Rows.{word-leq, word-join, words-leq, same-words, row-leq, row-join, row-merge};
+ghost use Prim.Native.Nat.{_<_, _≤_};
+ghost use lib.ListN.{length};
+ghost use Rattle.semantics.specs.Layout.{index-limit};
+ghost use Rattle.state.specs.Rows.{layout-of, width-of, location-word, location-in, values-of, value-at, id-word, with-location, with-value, word-leq, word-join, words-leq, same-words, row-leq, row-join, row-merge};
+
+// ---- where the words stand
+
+// The words before the values: the location's.
+const HEAD: usize = 1;
+
+// The words of a variable.
+const VALUE: usize = 1;
+
+// How the states of a table stand in its words. A slot begins `stride` words after the one before it; its state is the
+// first words of it, `width` of them.
+pub struct Layout {
+    pub head: usize,
+    pub value: usize,
+    pub variables: usize,
+    pub stride: usize,
+}
+
+impl Layout {
+    // The words of a state.
+    pub fn width(self) -> usize
+        requires { ⌜ width-of self ≤ index-limit ⌝ }
+        ensures { λ r. ⌜ r ≡ width-of self ⌝ }
+    {
+        self.head + self.value * self.variables
+    }
+}
+
+// The layout of a chart's tables: slot follows slot.
+pub fn layout_of(chart: &[i32]) -> Layout
+    ensures layout { λ r. ⌜ r ≡ layout-of (now (chart .entry)) ⌝ }
+    ensures small { λ r. ⌜ width-of r ≤ index-limit ⌝ }
+{
+    let variables = chart::var_count(chart);
+    Layout {
+        head: HEAD,
+        value: VALUE,
+        variables,
+        stride: HEAD + VALUE * variables,
+    }
+}
+
+// The word of a row's location; 0 in an empty row.
+pub fn location_word(row: &[i32]) -> i32
+    ensures { λ r. ⌜ r ≡ location-word (now (row .entry)) ⌝ }
+{
+    words::word_at(row, 0)
+}
 
 // The location of a row.
 pub fn location_of(row: &[i32]) -> LocationId
-    ensures { λ r. ⌜ (r .0 ≡ count (now (row .entry)) 0) × (r .0 < 2147483649) ⌝ }
+    ensures { λ r. ⌜ (r .0 ≡ location-in (now (row .entry))) × (r .0 < index-limit) ⌝ }
 {
     LocationId(words::number_at(row, 0))
 }
+
+// The values of a row, a word each.
+pub fn values(row: &[i32]) -> &[i32]
+    requires { ⌜ 0 < length (now row) ⌝ }
+    ensures { λ r. ⌜ now r ≡ values-of (now (row .entry)) ⌝ }
+{
+    &row[HEAD..]
+}
+
+// The value of variable k; 0 where there is none.
+pub fn value_at(row: &[i32], k: usize) -> i32
+    requires { ⌜ k < index-limit ⌝ }
+    ensures { λ r. ⌜ r ≡ value-at (now (row .entry)) k ⌝ }
+{
+    words::word_at(row, k + HEAD)
+}
+
+// The word that a row holds for a location; 0 for one that no word can hold.
+fn id_word(l: LocationId) -> i32
+    ensures { λ r. ⌜ r ≡ id-word (l .0) ⌝ }
+{
+    let n = l.0;
+    if n < 2147483648 {
+        return n as i32;
+    }
+    0
+}
+
+// The row stands at the location then.
+pub fn set_location(row: &mut [i32], l: LocationId)
+    requires { ⌜ 0 < length (now row) ⌝ }
+    ensures { λ _. ⌜ now (row .exit) ≡ with-location (now (row .entry)) (l .0) ⌝ }
+{
+    row[0] = id_word(l);
+}
+
+// Variable k becomes x; nothing where there is none.
+pub fn set_value(row: &mut [i32], k: usize, x: i32)
+    requires { ⌜ k < index-limit ⌝ }
+    ensures { λ _. ⌜ now (row .exit) ≡ with-value (now (row .entry)) k x ⌝ }
+{
+    let i = k + HEAD;
+    if i < row.len() {
+        row[i] = x;
+    }
+}
+
+// ---- order, join and merge
 
 // Whether the word x lies under y: y is top, or they are equal.
 fn leq_word(x: i32, y: i32) -> bool
@@ -35,10 +132,10 @@ pub fn join_word(x: i32, y: i32) -> i32
 // Whether the values of e lie under those of s. No branch: rows are short.
 fn leq_values(e: &[i32], s: &[i32]) -> bool
     requires { ⌜ (length (now s) ≡ length (now e)) × (0 < length (now e)) ⌝ }
-    ensures { λ r. ⌜ r ≡ words-leq (drop 1 (now (e .entry))) (drop 1 (now (s .entry))) ⌝ }
+    ensures { λ r. ⌜ r ≡ words-leq (values-of (now (e .entry))) (values-of (now (s .entry))) ⌝ }
 {
     let mut ok = true;
-    let mut i = 1;
+    let mut i = HEAD;
     while i < s.len() {
         let x = e[i];
         let y = s[i];
@@ -67,7 +164,7 @@ fn join_row(s: &mut [i32], e: &[i32]) -> bool
     ensures { λ r. ⌜ (r ≡ same-words (row-join (now (e .entry)) (now (s .entry))) (now (s .entry))) × (now (s .exit) ≡ row-join (now (e .entry)) (now (s .entry))) ⌝ }
 {
     let mut same = true;
-    let mut i = 1;
+    let mut i = HEAD;
     while i < s.len() {
         let x = e[i];
         let y = s[i];

@@ -1,3 +1,3 @@
 -- Codes read back, then the way from the calls to the boundary.
 pub mod Codes
-pub mod Left
+pub mod ByCodes

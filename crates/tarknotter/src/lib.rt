@@ -210,8 +210,8 @@ fn answered(before: Record, c: calls::Called) -> Called
 // A chart file's bytes into the words of the encoded chart.
 #[no_mangle]
 pub extern "C" fn tarknotter_read(text: &[u8], words: &mut [i32]) -> Reply
-    ensures { λ r. ⌜ r ≡ as-reply (read-outcome (now (text .entry)) (now (words .entry)) .answer) ⌝ }
-    ensures { λ _. ⌜ now (words .exit) ≡ read-outcome (now (text .entry)) (now (words .entry)) .words ⌝ }
+    ensures reply { λ r. ⌜ r ≡ as-reply (read-outcome (now (text .entry)) (now (words .entry)) .answer) ⌝ }
+    ensures words { λ _. ⌜ now (words .exit) ≡ read-outcome (now (text .entry)) (now (words .entry)) .words ⌝ }
 {
     replied(reader::read(text, words))
 }
@@ -277,8 +277,8 @@ pub extern "C" fn tarknotter_listing(
     list: &[i32],
     space: &mut [u8],
 ) -> Reply
-    ensures { λ r. ⌜ r ≡ as-reply (listing-outcome (now (chart .entry)) (lent (now (table .entry)) (now (list .entry)) (analysis-in «record»)) (now (space .entry)) .answer) ⌝ }
-    ensures { λ _. ⌜ now (space .exit) ≡ listing-outcome (now (chart .entry)) (lent (now (table .entry)) (now (list .entry)) (analysis-in «record»)) (now (space .entry)) .space ⌝ }
+    ensures reply { λ r. ⌜ r ≡ as-reply (listing-outcome (now (chart .entry)) (lent (now (table .entry)) (now (list .entry)) (analysis-in «record»)) (now (space .entry)) .answer) ⌝ }
+    ensures space { λ _. ⌜ now (space .exit) ≡ listing-outcome (now (chart .entry)) (lent (now (table .entry)) (now (list .entry)) (analysis-in «record»)) (now (space .entry)) .space ⌝ }
 {
     replied(listing::listing(chart, analysis_in(record), table, list, space))
 }

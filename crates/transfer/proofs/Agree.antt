@@ -10,6 +10,7 @@ use native.Mathlib.Omega.{arith}
 use lib.Dec.{T, eqb, eqb-refl, ltb→lt}
 use lib.IntN.{ℤ, pos, natAbs}
 use lib.ListN.{length, drop}
+use Rattle.semantics.specs.Layout.{top-word, from-place, to-place}
 use Rattle.semantics.specs.Lists.{At, pick, all, all-pairs}
 use Rattle.semantics.specs.Chart.{Value, known, top, Edge, Numbered, number-from, numbered, Chart, eqZ, error-location}
 use Rattle.semantics.specs.Algorithm.{Step, halt, fault, to}
@@ -23,9 +24,10 @@ use Rattle.semantics.proofs.StatesOk.{StateOk, join-ok, bounds, keeps, initial-
 use Rattle.semantics.proofs.Encoded.{well-formed-split}
 use Rattle.semantics.proofs.Simulate.{AllPairs, StepR, Agree}
 use Rattle.words.proofs.Words.{eqZ-sym}
-use Rattle.state.specs.Rows.{word-leq, word-join, words-join, same-words, same-place, row-leq, row-join, join-of, leq-join-of, row-domain}
-use Rattle.transfer.specs.Transfer.{location-word, edge-at, edges-from, post-at, post-words, error-row, initial-row}
-use Rattle.transfer.proofs.Places.{placed, edge-word, error-is, initial-is}
+use Rattle.state.specs.Rows.{id-word, word-leq, word-join, words-join, same-words, same-place, row-leq, row-join, join-of, leq-join-of, row-domain}
+use Rattle.state.proofs.Layouts.{id-fits}
+use Rattle.transfer.specs.Transfer.{edge-at, edges-from, post-at, post-words, error-row, initial-row}
+use Rattle.transfer.proofs.Places.{edge-word, error-is, initial-is}
 use Rattle.transfer.proofs.Effects.{Plain, AllPlain, values-plain, row-step, effect-is}
 
 -- ---- one value
@@ -33,19 +35,19 @@ use Rattle.transfer.proofs.Effects.{Plain, AllPlain, values-plain, row-
 equal-is : (x y : Value) → Plain x → Plain y → eqZ (word x) (word y) ≡ equal-value x y
 equal-is (known a) (known b) p q = refl
 equal-is (known a) top p q = p
-equal-is top (known b) p q = eqZ-sym (pos 32768) b ∙ q
+equal-is top (known b) p q = eqZ-sym top-word b ∙ q
 equal-is top top p q = refl
 
 leq-is : (x y : Value) → Plain x → Plain y → word-leq (word x) (word y) ≡ leq-value x y
 leq-is (known a) (known b) p q = rw q
 leq-is (known a) top p q = refl
-leq-is top (known b) p q = rw (q, eqZ-sym (pos 32768) b, q)
+leq-is top (known b) p q = rw (q, eqZ-sym top-word b, q)
 leq-is top top p q = refl
 
 join-is : (x y : Value) → Plain x → Plain y → word-join (word x) (word y) ≡ word (join-value x y)
-join-is x y p q = ap (λ (t : Bool). pick t (word y) (pos 32768)) (equal-is x y p q) ∙ go (equal-value x y)
+join-is x y p q = ap (λ (t : Bool). pick t (word y) top-word) (equal-is x y p q) ∙ go (equal-value x y)
   where
-    go : (t : Bool) → pick t (word y) (pos 32768) ≡ word (value-or-top t y)
+    go : (t : Bool) → pick t (word y) top-word ≡ word (value-or-top t y)
     go true = refl
     go false = refl
 
@@ -157,11 +159,11 @@ module _ (c : Chart) (ok : T (chart-ok c)) (rest : List ℤ) where
   unfolding post-words post-at post
   post-is n g f a t h =
       let i = edge-at ws n in
-      let z : i ≡ i + 0 = omega arith in
+      let z : i ≡ i + from-place = omega arith in
       let read = edge-word c ok rest n g a in
-      let from : count ws i ≡ g .from = ap (count ws) z ∙ ap natAbs (read 0 (omega arith)) in
+      let from : count ws i ≡ g .from = ap (count ws) z ∙ ap natAbs (read from-place (omega arith)) in
       let few : g .to < 2147483648 = omega (arith, bounds c ok .few-locs, ltb→lt (g .to) (length (c .locs)) (search (and-left, and-right))) in
-      let there : location-word (count ws (i + 1)) ≡ pos (g .to) = ap location-word (ap natAbs (read 1 (omega arith))) ∙ placed (g .to) few in
+      let there : id-word (count ws (i + to-place)) ≡ pos (g .to) = ap id-word (ap natAbs (read to-place (omega arith))) ∙ id-fits (g .to) few in
       let u : T (op-ok (c .vars) (g .op)) = search (and-left, and-right) in
       rw (from, there, effect-is c ok rest (pos (g .to)) (f .vals) (plain-of c ok f h) i (pos (g .from)) (pos (g .to)) (g .op) u read) (go (eqb (g .from) (f .loc)))
     where

@@ -10,22 +10,23 @@ use lib.Dec.{T, ltb→lt}
 use lib.IntN.{ℤ, pos, natAbs, _+ℤ_, _-ℤ_}
 use lib.ListN.{length, getD, set, List·getD-map}
 use lib.Signed.{leZ}
+use Rattle.semantics.specs.Layout.{top-word, edge-size, operation-place, target-place, first-tag-place, first-value-place, second-tag-place, second-value-place, add-code, sub-code}
 use Rattle.semantics.specs.Lists.{pick, all}
 use Rattle.semantics.specs.Chart.{Value, known, top, Var, Operand, num, var, Rel, eq, ne, lt, le, gt, ge, Op, assign, add, sub, input, assume, skip, Chart, eqZ, small, holds, in-range}
 use Rattle.semantics.specs.Algorithm.{Step, halt, to}
 use Rattle.semantics.specs.Constants.{operand-value, both, assign-value, one-of, one-known, tested, effect}
-use Rattle.semantics.specs.Encoding.{word, tag, held, rel-code, op-words, encode, count, var-ok, operand-ok, op-ok, chart-ok}
+use Rattle.semantics.specs.Encoding.{word, word-at, tag, held, rel-code, op-words, encode, count, var-ok, operand-ok, op-ok, chart-ok}
 use Rattle.semantics.proofs.Values.{and-left, and-right}
 use Rattle.semantics.proofs.StatesOk.{ValOk, ValsOk}
 use Rattle.semantics.proofs.Stored.{not-any}
 use Rattle.words.proofs.Words.{eqZ-true}
-use Rattle.state.specs.Rows.{word-join}
+use Rattle.state.specs.Rows.{value-at, with-value, word-join}
 use Rattle.transfer.specs.Transfer.{operand-by, set-ranged, set-value, assign-at, set-result, both-at, input-at, holds-by, refine-by, tested-by, assume-at, op-by}
 use Rattle.transfer.proofs.Places.{range-is}
 
 -- a value whose word is top's only where it is top
 abbrev pub Plain : Value → Type 0
-Plain (known z) = eqZ z (pos 32768) ≡ false
+Plain (known z) = eqZ z top-word ≡ false
 Plain top = Unit
 
 small-plain : (z : ℤ) → T (small z) → Plain (known z)
@@ -75,36 +76,36 @@ module _ (c : Chart) (ok : T (chart-ok c)) (rest : List ℤ) (l : ℤ) (xs : Lis
   abbrev e : List ℤ
   e = l ∷ map word xs
 
-  get-word : (k : ℕ) → getD e (k + 1) (pos 0) ≡ word (getD xs k (known (pos 0)))
+  get-word : (k : ℕ) → value-at e k ≡ word (getD xs k (known (pos 0)))
   get-word k = rw (add-one k) (List·getD-map word xs k (known (pos 0)))
 
-  set-word : (k : ℕ) (x : Value) → set e (k + 1) (word x) ≡ l ∷ map word (set xs k x)
+  set-word : (k : ℕ) (x : Value) → with-value e k (word x) ≡ l ∷ map word (set xs k x)
   set-word k x = rw (add-one k) (ap (λ (m : List ℤ). l ∷ m) (map-set xs k x))
 
   set-ranged-is : (k : ℕ) (z : ℤ) → k < length (c .vars) → set-ranged ws k z e ≡ row-step l (assign-value (c .vars) k (known z) xs)
   unfolding set-ranged
   set-ranged-is k z h = (λ i. pick (range-is c ok rest k z h i) (to (set-word k (known z) i)) halt) ∙ step-if l (in-range (c .vars) k z) (set xs k (known z))
 
-  top-is : (k : ℕ) → to (set e (k + 1) (pos 32768)) ≡ row-step l (some (set xs k top))
+  top-is : (k : ℕ) → to (with-value e k top-word) ≡ row-step l (some (set xs k top))
   top-is k = ap to (set-word k top)
 
-  assign-is : (k : ℕ) (x : Value) → k < length (c .vars) → Plain x → set-value ws k (eqZ (word x) (pos 32768)) (word x) e ≡ row-step l (assign-value (c .vars) k x xs)
+  assign-is : (k : ℕ) (x : Value) → k < length (c .vars) → Plain x → set-value ws k (eqZ (word x) top-word) (word x) e ≡ row-step l (assign-value (c .vars) k x xs)
   unfolding set-value
   assign-is k (known z) h p = rw p (set-ranged-is k z h)
   assign-is k top h p = top-is k
 
   both-is : (f : ℤ → ℤ → ℤ) (k : ℕ) (x y : Value) → k < length (c .vars) → Plain x → Plain y
-      → set-value ws k (eqZ (word x) (pos 32768) || eqZ (word y) (pos 32768)) (f (word x) (word y)) e ≡ row-step l (assign-value (c .vars) k (both f x y) xs)
+      → set-value ws k (eqZ (word x) top-word || eqZ (word y) top-word) (f (word x) (word y)) e ≡ row-step l (assign-value (c .vars) k (both f x y) xs)
   unfolding set-value
   both-is f k (known a) (known b) h p q = rw (p, q) (set-ranged-is k (f a b) h)
   both-is f k (known a) top h p q = rw p (top-is k)
   both-is f k top (known b) h p q = top-is k
   both-is f k top top h p q = top-is k
 
-  join-is : (k : ℕ) (p q : ℤ) → to (set e (k + 1) (word-join p q)) ≡ row-step l (some (set xs k (one-of (eqZ p q) p)))
-  join-is k p q = ap (λ (z : ℤ). to (set e (k + 1) z)) (go (eqZ p q) refl) ∙ ap to (set-word k (one-of (eqZ p q) p))
+  join-is : (k : ℕ) (p q : ℤ) → to (with-value e k (word-join p q)) ≡ row-step l (some (set xs k (one-of (eqZ p q) p)))
+  join-is k p q = ap (λ (z : ℤ). to (with-value e k z)) (go (eqZ p q) refl) ∙ ap to (set-word k (one-of (eqZ p q) p))
     where
-      go : (t : Bool) → eqZ p q ≡ t → pick t q (pos 32768) ≡ word (one-of t p)
+      go : (t : Bool) → eqZ p q ≡ t → pick t q top-word ≡ word (one-of t p)
       go true h = sym (eqZ-true p q h)
       go false h = refl
 
@@ -128,7 +129,7 @@ module _ (c : Chart) (ok : T (chart-ok c)) (rest : List ℤ) (l : ℤ) (xs : Lis
   refine-is gt k z h p = rw p
   refine-is ge k z h p = rw p
 
-  nothing-known : (n k : ℕ) → refine-by ws n k (pos 32768) e ≡ to e
+  nothing-known : (n k : ℕ) → refine-by ws n k top-word e ≡ to e
   unfolding refine-by
   nothing-known n k = refl
 
@@ -164,36 +165,36 @@ module _ (c : Chart) (ok : T (chart-ok c)) (rest : List ℤ) (l : ℤ) (xs : Lis
   -- ---- the operations: the edge's words, from i on, are two for its locations and six for its operation
   module _ (i : ℕ) (from goal : ℤ) where
     abbrev pub Reads : Op → Type 0
-    Reads o = (j : ℕ) → j < 8 → getD ws (i + j) (pos 0) ≡ getD (from ∷ goal ∷ op-words o) j (pos 0)
+    Reads o = (j : ℕ) → j < edge-size → word-at ws (i + j) ≡ getD (from ∷ goal ∷ op-words o) j (pos 0)
 
     -- add and sub, by their code
     both-effect : (f : ℤ → ℤ → ℤ) (n v : ℕ) (a b : Operand) → T (op-ok (c .vars) (add v a b))
-        → ((j : ℕ) → j < 8 → getD ws (i + j) (pos 0) ≡ getD (from ∷ goal ∷ pos n ∷ pos v ∷ tag a ∷ held a ∷ tag b ∷ held b ∷ []) j (pos 0))
+        → ((j : ℕ) → j < edge-size → word-at ws (i + j) ≡ getD (from ∷ goal ∷ pos n ∷ pos v ∷ tag a ∷ held a ∷ tag b ∷ held b ∷ []) j (pos 0))
         → both-at f ws i e ≡ row-step l (assign-value (c .vars) v (both f (operand-value a xs) (operand-value b xs)) xs)
     unfolding both-at set-result
     both-effect f n v a b t r =
         let k : v < length (c .vars) = ltb→lt v (length (c .vars)) (search (and-left, and-right)) in
         let u : T (operand-ok (c .vars) a) = search (and-left, and-right) in
         let w : T (operand-ok (c .vars) b) = search (and-left, and-right) in
-        rw (r 3 (omega arith), r 4 (omega arith), r 5 (omega arith), r 6 (omega arith), r 7 (omega arith), operand-is a, operand-is b) (both-is f v (operand-value a xs) (operand-value b xs) k (operand-plain a u) (operand-plain b w))
+        rw (r target-place (omega arith), r first-tag-place (omega arith), r first-value-place (omega arith), r second-tag-place (omega arith), r second-value-place (omega arith), operand-is a, operand-is b) (both-is f v (operand-value a xs) (operand-value b xs) k (operand-plain a u) (operand-plain b w))
 
-    pub effect-is : (o : Op) → T (op-ok (c .vars) o) → Reads o → op-by (count ws (i + 2)) ws i e ≡ row-step l (effect (c .vars) o xs)
+    pub effect-is : (o : Op) → T (op-ok (c .vars) o) → Reads o → op-by (count ws (i + operation-place)) ws i e ≡ row-step l (effect (c .vars) o xs)
     unfolding op-by assign-at input-at assume-at
-    effect-is skip t r = rw (r 2 (omega arith))
+    effect-is skip t r = rw (r operation-place (omega arith))
     effect-is (assign v a) t r =
         let k : v < length (c .vars) = ltb→lt v (length (c .vars)) (search (and-left, and-right)) in
         let u : T (operand-ok (c .vars) a) = search (and-left, and-right) in
-        rw (r 2 (omega arith), r 3 (omega arith), r 4 (omega arith), r 5 (omega arith), operand-is a) (assign-is v (operand-value a xs) k (operand-plain a u))
-    effect-is (add v a b) t r = rw (r 2 (omega arith)) (both-effect _+ℤ_ 2 v a b t r)
-    effect-is (sub v a b) t r = rw (r 2 (omega arith)) (both-effect _-ℤ_ 3 v a b t r)
-    effect-is (input v p q) t r = rw (r 2 (omega arith), r 3 (omega arith), r 5 (omega arith), r 7 (omega arith)) (join-is v p q)
+        rw (r operation-place (omega arith), r target-place (omega arith), r first-tag-place (omega arith), r first-value-place (omega arith), operand-is a) (assign-is v (operand-value a xs) k (operand-plain a u))
+    effect-is (add v a b) t r = rw (r operation-place (omega arith)) (both-effect _+ℤ_ add-code v a b t r)
+    effect-is (sub v a b) t r = rw (r operation-place (omega arith)) (both-effect _-ℤ_ sub-code v a b t r)
+    effect-is (input v p q) t r = rw (r operation-place (omega arith), r target-place (omega arith), r first-value-place (omega arith), r second-value-place (omega arith)) (join-is v p q)
     effect-is (assume v g a) t r =
         let k : v < length (c .vars) = ltb→lt v (length (c .vars)) (search (and-left, and-right)) in
         let u : T (operand-ok (c .vars) a) = search (and-left, and-right) in
-        coded g (ap natAbs (r 2 (omega arith)))
-        ∙ rw (r 3 (omega arith), r 4 (omega arith), r 5 (omega arith), operand-is a, get-word v) (tested-is g v a (operand-value (var v) xs) (operand-value a xs) k u (get-plain xs v plain) (operand-plain a u) (operand-sided a))
+        coded g (ap natAbs (r operation-place (omega arith)))
+        ∙ rw (r target-place (omega arith), r first-tag-place (omega arith), r first-value-place (omega arith), operand-is a, get-word v) (tested-is g v a (operand-value (var v) xs) (operand-value a xs) k u (get-plain xs v plain) (operand-plain a u) (operand-sided a))
       where
-        coded : (g : Rel) → count ws (i + 2) ≡ rel-code g → op-by (count ws (i + 2)) ws i e ≡ assume-at ws (rel-code g) i e
+        coded : (g : Rel) → count ws (i + operation-place) ≡ rel-code g → op-by (count ws (i + operation-place)) ws i e ≡ assume-at ws (rel-code g) i e
         coded eq h = rw h
         coded ne h = rw h
         coded lt h = rw h

@@ -5,24 +5,19 @@ use mathlib.Core.List.{List, [], _∷_, _++_, map, append-assoc}
 use Prim.Native.Nat.{ℕ, zero, suc, _+_, _*_, _<_}
 use native.Mathlib.Nat.{mul-suc}
 use native.Mathlib.Omega.{arith}
-use borrow.Author.Tests.{lt-ltb}
 use lib.Dec.{T}
 use lib.IntN.{ℤ, pos}
-use lib.ListN.{length, getD, length-append, List·getD-append}
+use lib.ListN.{length, length-append, List·getD-append}
 use lib.Seq.{getD-append-add}
+use Rattle.semantics.specs.Layout.{counts-size, variable-size, location-size, edge-size, variable-at, low-place, high-place, init-place}
 use Rattle.semantics.specs.Lists.{At, each}
 use Rattle.semantics.specs.Text.{name-ok}
 use Rattle.semantics.specs.Chart.{Var, Loc, Edge, Chart, eqZ, within, in-range, error-location, inits}
 use Rattle.semantics.specs.Tidy.{Every}
-use Rattle.semantics.specs.Encoding.{word, kind-word, var-words, loc-words, edge-words, encode, count, var-ok, chart-ok}
+use Rattle.semantics.specs.Encoding.{word-at, word, kind-word, var-words, loc-words, edge-words, encode, count, var-ok, chart-ok}
 use Rattle.semantics.proofs.StatesOk.{Bounds, bounds}
 use Rattle.semantics.proofs.Encoded.{kind-back, each-length, every-of, loc-wide, edge-wide, every-any}
-use Rattle.transfer.specs.Transfer.{location-word, edge-at, error-row, initial-words, initial-row}
-
--- the word of a location that a word can hold
-pub placed : (n : ℕ) → n < 2147483648 → location-word n ≡ pos n
-unfolding location-word
-placed n h = rw (lt-ltb n 2147483648 h)
+use Rattle.transfer.specs.Transfer.{edge-at, error-row, initial-words, initial-row}
 
 pub at-some : {A : Type 0} (xs : List A) (n : ℕ) → n < length xs → (x : A) × At xs n x
 at-some [] n h = absurd (omega arith)
@@ -31,18 +26,18 @@ at-some (x ∷ xs) (suc n) h = at-some xs n (omega arith)
 
 -- things of k words each, one after the other
 module _ {A : Type 0} (f : A → List ℤ) (k : ℕ) (Ok : A → Type 0) (wide : (x : A) → Ok x → length (f x) ≡ k) where
-  each-at : (xs : List A) (rest : List ℤ) (n : ℕ) (x : A) → Every Ok xs → At xs n x → (i : ℕ) → i < k → getD (each f xs ++ rest) (k * n + i) (pos 0) ≡ getD (f x) i (pos 0)
+  each-at : (xs : List A) (rest : List ℤ) (n : ℕ) (x : A) → Every Ok xs → At xs n x → (i : ℕ) → i < k → word-at (each f xs ++ rest) (k * n + i) ≡ word-at (f x) i
   each-at [] rest n x h a i l = absurd a
   each-at (y ∷ ys) rest zero x h a i l =
       let e : k * 0 + i ≡ i = omega arith in
       let w = wide y (h .0) in
-      rw (append-assoc (f y) (each f ys) rest, e, List·getD-append (f y) (each f ys ++ rest) (pos 0) i (omega arith)) (ap (λ (z : A). getD (f z) i (pos 0)) a)
+      rw (append-assoc (f y) (each f ys) rest, e, List·getD-append (f y) (each f ys ++ rest) (pos 0) i (omega arith)) (ap (λ (z : A). word-at (f z) i) a)
   each-at (y ∷ ys) rest (suc n) x h a i l =
       let w = wide y (h .0) in
       let e : k * suc n + i ≡ length (f y) + (k * n + i) = omega (arith, mul-suc k n) in
       rw (append-assoc (f y) (each f ys) rest, e, getD-append-add (f y) (each f ys ++ rest) (k * n + i) (pos 0)) (each-at ys rest n x (h .1) a i l)
 
-  each-past : (xs : List A) (rest : List ℤ) (i : ℕ) → Every Ok xs → getD (each f xs ++ rest) (k * length xs + i) (pos 0) ≡ getD rest i (pos 0)
+  each-past : (xs : List A) (rest : List ℤ) (i : ℕ) → Every Ok xs → word-at (each f xs ++ rest) (k * length xs + i) ≡ word-at rest i
   each-past xs rest i h = rw (← each-length f k Ok wide xs h, getD-append-add (each f xs) rest i (pos 0))
 
 in-range-at : (vars : List Var) (k : ℕ) (v : Var) (z : ℤ) → At vars k v → in-range vars k z ≡ within (v .lo) (v .hi) z
@@ -56,16 +51,16 @@ error-at (m ∷ ms) zero l a = ap (λ (x : Loc). x .error) a
 error-at (m ∷ ms) (suc n) l a = error-at ms n l a
 
 -- the variables' initial words
-initial-from : (before : List ℤ) (vars : List Var) (rest : List ℤ) (n : ℕ) → n ≡ length before + 2
+initial-from : (before : List ℤ) (vars : List Var) (rest : List ℤ) (n : ℕ) → n ≡ length before + init-place
     → initial-words (before ++ (each var-words vars ++ rest)) n (length vars) ≡ map word (inits vars)
 initial-from before [] rest n e = refl
 initial-from before (v ∷ vs) rest n e =
-    let here : getD (before ++ (each var-words (v ∷ vs) ++ rest)) n (pos 0) ≡ word (v .init) =
-    rw (e, getD-append-add before (each var-words (v ∷ vs) ++ rest) 2 (pos 0)) in
+    let here : word-at (before ++ (each var-words (v ∷ vs) ++ rest)) n ≡ word (v .init) =
+    rw (e, getD-append-add before (each var-words (v ∷ vs) ++ rest) init-place (pos 0)) in
     let again : before ++ (each var-words (v ∷ vs) ++ rest) ≡ (before ++ var-words v) ++ (each var-words vs ++ rest) =
     ap (λ (l : List ℤ). before ++ l) (append-assoc (var-words v) (each var-words vs) rest) ∙ sym (append-assoc before (var-words v) (each var-words vs ++ rest)) in
-    let more : initial-words (before ++ (each var-words (v ∷ vs) ++ rest)) (n + 3) (length vs) ≡ map word (inits vs) =
-    rw again (initial-from (before ++ var-words v) vs rest (n + 3) (omega (arith, length-append before (var-words v)))) in
+    let more : initial-words (before ++ (each var-words (v ∷ vs) ++ rest)) (n + variable-size) (length vs) ≡ map word (inits vs) =
+    rw again (initial-from (before ++ var-words v) vs rest (n + variable-size) (omega (arith, length-append before (var-words v)))) in
     λ i. here i ∷ more i
 
 module _ (c : Chart) (ok : T (chart-ok c)) (rest : List ℤ) where
@@ -83,12 +78,12 @@ module _ (c : Chart) (ok : T (chart-ok c)) (rest : List ℤ) where
       append-assoc (each var-words (c .vars)) (each loc-words (c .locs) ++ each edge-words (c .edges)) rest
       ∙ ap (λ (l : List ℤ). each var-words (c .vars) ++ l) (append-assoc (each loc-words (c .locs)) (each edge-words (c .edges)) rest)
 
-  from-3 : (i : ℕ) → getD ws (3 + i) (pos 0) ≡ getD (each var-words (c .vars) ++ after-vars) i (pos 0)
+  from-counts : (i : ℕ) → word-at ws (counts-size + i) ≡ word-at (each var-words (c .vars) ++ after-vars) i
   unfolding encode
-  from-3 i =
+  from-counts i =
       getD-append-add (pos (length (c .vars)) ∷ pos (length (c .locs)) ∷ pos (length (c .edges)) ∷ [])
       ((each var-words (c .vars) ++ (each loc-words (c .locs) ++ each edge-words (c .edges))) ++ rest) i (pos 0)
-      ∙ ap (λ (l : List ℤ). getD l i (pos 0)) apart
+      ∙ ap (λ (l : List ℤ). word-at l i) apart
 
   pub var-count : count ws 0 ≡ length (c .vars)
   unfolding encode
@@ -98,21 +93,21 @@ module _ (c : Chart) (ok : T (chart-ok c)) (rest : List ℤ) where
   unfolding encode
   loc-count = refl
 
-  var-word : (k : ℕ) (v : Var) → At (c .vars) k v → (i : ℕ) → i < 3 → getD ws (3 + (3 * k + i)) (pos 0) ≡ getD (var-words v) i (pos 0)
-  var-word k v a i l = from-3 (3 * k + i) ∙ each-at var-words 3 (λ v. T (var-ok v)) (λ v t. refl) (c .vars) after-vars k v (every-of var-ok (c .vars) (b .vars)) a i l
+  var-word : (k : ℕ) (v : Var) → At (c .vars) k v → (i : ℕ) → i < variable-size → word-at ws (counts-size + (variable-size * k + i)) ≡ word-at (var-words v) i
+  var-word k v a i l = from-counts (variable-size * k + i) ∙ each-at var-words variable-size (λ v. T (var-ok v)) (λ v t. refl) (c .vars) after-vars k v (every-of var-ok (c .vars) (b .vars)) a i l
 
   -- the test of a range by the chart's words
-  pub range-is : (k : ℕ) (z : ℤ) → k < length (c .vars) → within (getD ws (3 + 3 * k) (pos 0)) (getD ws (3 + 3 * k + 1) (pos 0)) z ≡ in-range (c .vars) k z
+  pub range-is : (k : ℕ) (z : ℤ) → k < length (c .vars) → within (word-at ws (variable-at k)) (word-at ws (variable-at k + high-place)) z ≡ in-range (c .vars) k z
   range-is k z h =
       let v = at-some (c .vars) k h in
-      let e : 3 + 3 * k ≡ 3 + (3 * k + 0) = omega arith in
-      let f : 3 + 3 * k + 1 ≡ 3 + (3 * k + 1) = omega arith in
-      let p : getD ws (3 + 3 * k) (pos 0) ≡ v .0 .lo = rw e (var-word k (v .0) (v .1) 0 (omega arith)) in
-      let q : getD ws (3 + 3 * k + 1) (pos 0) ≡ v .0 .hi = rw f (var-word k (v .0) (v .1) 1 (omega arith)) in
+      let e : variable-at k ≡ counts-size + (variable-size * k + low-place) = omega arith in
+      let f : variable-at k + high-place ≡ counts-size + (variable-size * k + high-place) = omega arith in
+      let p : word-at ws (variable-at k) ≡ v .0 .lo = rw e (var-word k (v .0) (v .1) 0 (omega arith)) in
+      let q : word-at ws (variable-at k + high-place) ≡ v .0 .hi = rw f (var-word k (v .0) (v .1) 1 (omega arith)) in
       (λ i. within (p i) (q i) z) ∙ sym (in-range-at (c .vars) k (v .0) z (v .1))
 
-  past-vars : (i : ℕ) → getD ws (3 + (3 * length (c .vars) + i)) (pos 0) ≡ getD after-vars i (pos 0)
-  past-vars i = from-3 (3 * length (c .vars) + i) ∙ each-past var-words 3 (λ v. T (var-ok v)) (λ v t. refl) (c .vars) after-vars i (every-of var-ok (c .vars) (b .vars))
+  past-vars : (i : ℕ) → word-at ws (counts-size + (variable-size * length (c .vars) + i)) ≡ word-at after-vars i
+  past-vars i = from-counts (variable-size * length (c .vars) + i) ∙ each-past var-words variable-size (λ v. T (var-ok v)) (λ v t. refl) (c .vars) after-vars i (every-of var-ok (c .vars) (b .vars))
 
   -- the test of an error location by the chart's words
   pub error-is : (e : List ℤ) → count e 0 < length (c .locs) → error-row ws e ≡ error-location (c .locs) (count e 0)
@@ -120,24 +115,24 @@ module _ (c : Chart) (ok : T (chart-ok c)) (rest : List ℤ) where
   error-is e h =
       let n = count e 0 in
       let l = at-some (c .locs) n h in
-      let at : 3 + 3 * count ws 0 + 17 * n ≡ 3 + (3 * length (c .vars) + (17 * n + 0)) = omega (arith, var-count) in
-      let p : getD ws (3 + 3 * count ws 0 + 17 * n) (pos 0) ≡ kind-word (l .0 .error) =
-      ap (λ (j : ℕ). getD ws j (pos 0)) at ∙ past-vars (17 * n + 0)
-      ∙ each-at loc-words 17 (λ l. T (name-ok (l .name))) loc-wide (c .locs) (each edge-words (c .edges) ++ rest) n (l .0) (every-of (λ l. name-ok (l .name)) (c .locs) (b .names)) (l .1) 0 (omega arith) in
+      let at : counts-size + variable-size * count ws 0 + location-size * n ≡ counts-size + (variable-size * length (c .vars) + (location-size * n + 0)) = omega (arith, var-count) in
+      let p : word-at ws (counts-size + variable-size * count ws 0 + location-size * n) ≡ kind-word (l .0 .error) =
+      ap (λ (j : ℕ). word-at ws j) at ∙ past-vars (location-size * n + 0)
+      ∙ each-at loc-words location-size (λ l. T (name-ok (l .name))) loc-wide (c .locs) (each edge-words (c .edges) ++ rest) n (l .0) (every-of (λ l. name-ok (l .name)) (c .locs) (b .names)) (l .1) 0 (omega arith) in
       ap (λ (z : ℤ). eqZ z (pos 1)) p ∙ kind-back (l .0 .error) ∙ sym (error-at (c .locs) n (l .0) (l .1))
 
   -- the words of an edge
-  pub edge-word : (n : ℕ) (g : Edge) → At (c .edges) n g → (i : ℕ) → i < 8 → getD ws (edge-at ws n + i) (pos 0) ≡ getD (edge-words g) i (pos 0)
+  pub edge-word : (n : ℕ) (g : Edge) → At (c .edges) n g → (i : ℕ) → i < edge-size → word-at ws (edge-at ws n + i) ≡ word-at (edge-words g) i
   edge-word n g a i l =
-      let at : edge-at ws n + i ≡ 3 + (3 * length (c .vars) + (17 * length (c .locs) + (8 * n + i))) = omega (arith, var-count, loc-count) in
-      ap (λ (j : ℕ). getD ws j (pos 0)) at ∙ past-vars (17 * length (c .locs) + (8 * n + i))
-      ∙ each-past loc-words 17 (λ l. T (name-ok (l .name))) loc-wide (c .locs) (each edge-words (c .edges) ++ rest) (8 * n + i) (every-of (λ l. name-ok (l .name)) (c .locs) (b .names))
-      ∙ each-at edge-words 8 (λ g. Unit {0}) edge-wide (c .edges) rest n g (every-any (c .edges)) a i l
+      let at : edge-at ws n + i ≡ counts-size + (variable-size * length (c .vars) + (location-size * length (c .locs) + (edge-size * n + i))) = omega (arith, var-count, loc-count) in
+      ap (λ (j : ℕ). word-at ws j) at ∙ past-vars (location-size * length (c .locs) + (edge-size * n + i))
+      ∙ each-past loc-words location-size (λ l. T (name-ok (l .name))) loc-wide (c .locs) (each edge-words (c .edges) ++ rest) (edge-size * n + i) (every-of (λ l. name-ok (l .name)) (c .locs) (b .names))
+      ∙ each-at edge-words edge-size (λ g. Unit {0}) edge-wide (c .edges) rest n g (every-any (c .edges)) a i l
 
   pub initial-is : initial-row ws ≡ pos 0 ∷ map word (inits (c .vars))
   unfolding initial-row encode
   initial-is =
       ap (λ (l : List ℤ). pos 0 ∷ l) (
-      ap (λ (l : List ℤ). initial-words (pos (length (c .vars)) ∷ pos (length (c .locs)) ∷ pos (length (c .edges)) ∷ l) 5 (length (c .vars))) apart
-      ∙ initial-from (pos (length (c .vars)) ∷ pos (length (c .locs)) ∷ pos (length (c .edges)) ∷ []) (c .vars) after-vars 5 refl
+      ap (λ (l : List ℤ). initial-words (pos (length (c .vars)) ∷ pos (length (c .locs)) ∷ pos (length (c .edges)) ∷ l) (variable-at 0 + init-place) (length (c .vars))) apart
+      ∙ initial-from (pos (length (c .vars)) ∷ pos (length (c .locs)) ∷ pos (length (c .edges)) ∷ []) (c .vars) after-vars (variable-at 0 + init-place) refl
       )

@@ -7,27 +7,29 @@ use native.Mathlib.Numerals.{add-one}
 use native.Mathlib.Omega.{arith}
 use lib.IntN.{ℤ, pos}
 use lib.Signed.{leZ}
-use lib.ListN.{length, take, getD, set}
+use lib.ListN.{length, take, set}
 use lib.Seq.{take-all, take-suc-set, append-snoc}
 use mir.Syntax.{w32}
 use mir.Val.{SFits}
+use Rattle.semantics.specs.Layout.{variable-size, variable-at, init-place}
 use Rattle.semantics.specs.Chart.{within}
-use Rattle.semantics.specs.Encoding.{count}
+use Rattle.semantics.specs.Encoding.{word-at, count}
 use Rattle.semantics.proofs.Values.{left-true, right-true}
 use Rattle.words.proofs.Words.{between-fits}
+use Rattle.state.specs.Rows.{head-size}
 use Rattle.transfer.specs.Transfer.{initial-words, initial-row}
 
 -- what lies between two words is a word
 pub within-fits : (lo hi z : ℤ) → SFits w32 lo → SFits w32 hi → within lo hi z ≡ true → SFits w32 z
 within-fits lo hi z f g e = between-fits z f g (left-true (leZ lo z) (leZ z hi) e) (right-true (leZ lo z) (leZ z hi) e)
 
-pub initial-start : (c out : List ℤ) (n : ℕ) → 0 < length out → n ≡ count c 0 → initial-row c ≡ take 1 (set out 0 (pos 0)) ++ initial-words c 5 (n + 1 - 1)
+pub initial-start : (c out : List ℤ) (n : ℕ) → 0 < length out → n ≡ count c 0 → initial-row c ≡ take head-size (set out 0 (pos 0)) ++ initial-words c (variable-at 0 + init-place) (n + 1 - 1)
 unfolding initial-row
 initial-start c out n h e = let f : n + 1 - 1 ≡ n = omega arith in rw (take-suc-set out 0 (pos 0) h, f, e)
 
 module _ (c out : List ℤ) (i at n : ℕ) where
-  pub initial-turn : (v : ℤ) → v ≡ getD c at (pos 0) → i < length out → i ≤ n
-      → take i out ++ initial-words c at (n + 1 - i) ≡ take (i + 1) (set out i v) ++ initial-words c (at + 3) (n + 1 - (i + 1))
+  pub initial-turn : (v : ℤ) → v ≡ word-at c at → i < length out → i ≤ n
+      → take i out ++ initial-words c at (n + 1 - i) ≡ take (i + 1) (set out i v) ++ initial-words c (at + variable-size) (n + 1 - (i + 1))
   initial-turn v q h l =
       let e : n + 1 - i ≡ suc (n - i) = omega arith in
       let f : n + 1 - (i + 1) ≡ n - i = omega arith in

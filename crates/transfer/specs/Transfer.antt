@@ -1,17 +1,17 @@
 -- The transfer of an edge of the encoded chart on a row of words, the test of an error location, and the initial row,
 -- with no word on the form of either: a word past the end is 0, a number's sign does not count. Assumes nothing.
-use mathlib.Core.Bool.{Bool, _&&_, _||_, not}
+use mathlib.Core.Bool.{Bool, true, _&&_, _||_, not}
 use mathlib.Core.List.{List, [], _∷_}
 use Prim.Native.Nat.{ℕ, zero, suc, _+_, _*_}
-use lib.Dec.{ltb, eqb}
+use lib.Dec.{eqb}
 use lib.IntN.{ℤ, pos, natAbs, _+ℤ_, _-ℤ_}
-use lib.ListN.{getD, set}
 use lib.Signed.{leZ, ltZ}
 use Rattle.semantics.specs.Lists.{pick}
 use Rattle.semantics.specs.Chart.{eqZ, within}
 use Rattle.semantics.specs.Algorithm.{Step, halt, fault, to}
-use Rattle.semantics.specs.Encoding.{count}
-use Rattle.state.specs.Rows.{word-join}
+use Rattle.semantics.specs.Layout.{top-word, variable-size, location-size, edge-size, variable-at, high-place, init-place, to-place, operation-place, target-place, first-tag-place, first-value-place, second-tag-place, second-value-place, skip-code, set-code, add-code, sub-code, in-code, eq-code, ne-code, lt-code, le-code, gt-code, number-tag}
+use Rattle.semantics.specs.Encoding.{word-at, count, kind-word}
+use Rattle.state.specs.Rows.{location-in, value-at, with-location, with-value, word-join}
 use Rattle.chart.specs.Encoded.{locations-at, edges-at}
 use Rattle.transfer.specs.declared.Move.{Move}
 use Rattle.transfer.specs.declared.Move.the-variants.{Halt, Fault, Successor}
@@ -26,7 +26,7 @@ step-of Successor e = to e
 
 -- where the words of edge g stand, edges from 0
 abbrev pub edge-at : List ℤ → ℕ → ℕ
-edge-at c g = edges-at c + 8 * g
+edge-at c g = edges-at c + edge-size * g
 
 -- n edges, from edge g on
 abbrev pub edges-from : ℕ → ℕ → List ℕ
@@ -37,37 +37,37 @@ edges-from g (suc n) = g ∷ edges-from (suc g) n
 
 -- an operand by its tag and its own word: a number, or the word of a variable
 abbrev pub operand-by : ℤ → ℤ → List ℤ → ℤ
-operand-by tag z e = pick (eqZ tag (pos 0)) z (getD e (natAbs z + 1) (pos 0))
+operand-by tag z e = pick (eqZ tag number-tag) z (value-at e (natAbs z))
 
 -- variable k becomes z if that lies in its range
 unfoldable pub set-ranged : List ℤ → ℕ → ℤ → List ℤ → Step (List ℤ)
-set-ranged c k z e = pick (within (getD c (3 + 3 * k) (pos 0)) (getD c (3 + 3 * k + 1) (pos 0)) z) (to (set e (k + 1) z)) halt
+set-ranged c k z e = pick (within (word-at c (variable-at k)) (word-at c (variable-at k + high-place)) z) (to (with-value e k z)) halt
 
 -- variable k becomes top, or z if that lies in its range
 unfoldable pub set-value : List ℤ → ℕ → Bool → ℤ → List ℤ → Step (List ℤ)
-set-value c k top z e = pick top (to (set e (k + 1) (pos 32768))) (set-ranged c k z e)
+set-value c k top z e = pick top (to (with-value e k top-word)) (set-ranged c k z e)
 
 -- ---- the operations of the edge at i: its target, and its operands
 
 -- v, the variable that the edge sets or tests
 abbrev pub target-at : List ℤ → ℕ → ℕ
-target-at c i = count c (i + 3)
+target-at c i = count c (i + target-place)
 
 -- the word of its first operand
 abbrev pub first-at : List ℤ → ℕ → List ℤ → ℤ
-first-at c i e = operand-by (getD c (i + 4) (pos 0)) (getD c (i + 5) (pos 0)) e
+first-at c i e = operand-by (word-at c (i + first-tag-place)) (word-at c (i + first-value-place)) e
 
 -- and of its second
 abbrev pub second-at : List ℤ → ℕ → List ℤ → ℤ
-second-at c i e = operand-by (getD c (i + 6) (pos 0)) (getD c (i + 7) (pos 0)) e
+second-at c i e = operand-by (word-at c (i + second-tag-place)) (word-at c (i + second-value-place)) e
 
 -- "`set v a`: v becomes a"
 unfoldable pub assign-at : List ℤ → ℕ → List ℤ → Step (List ℤ)
-assign-at c i e = let a = first-at c i e in set-value c (target-at c i) (eqZ a (pos 32768)) a e
+assign-at c i e = let a = first-at c i e in set-value c (target-at c i) (eqZ a top-word) a e
 
 -- v becomes z, what an operation makes of the words a and b; "any unknown operand makes v unspecific"
 unfoldable pub set-result : List ℤ → ℕ → ℤ → ℤ → ℤ → List ℤ → Step (List ℤ)
-set-result c i a b z e = set-value c (target-at c i) (eqZ a (pos 32768) || eqZ b (pos 32768)) z e
+set-result c i a b z e = set-value c (target-at c i) (eqZ a top-word || eqZ b top-word) z e
 
 -- "`add v a b`: a + b", "`sub v a b`: a − b", by the operation f
 unfoldable pub both-at : (ℤ → ℤ → ℤ) → List ℤ → ℕ → List ℤ → Step (List ℤ)
@@ -75,41 +75,37 @@ both-at f c i e = let a = first-at c i e in let b = second-at c i e in set-resul
 
 -- `in v p q`: "known if p = q, else unspecific"
 unfoldable pub input-at : List ℤ → ℕ → List ℤ → Step (List ℤ)
-input-at c i e = to (set e (target-at c i + 1) (word-join (getD c (i + 5) (pos 0)) (getD c (i + 7) (pos 0))))
+input-at c i e = to (with-value e (target-at c i) (word-join (word-at c (i + first-value-place)) (word-at c (i + second-value-place))))
 
 -- the relation of code n holds
 unfoldable pub holds-by : ℕ → ℤ → ℤ → Bool
 holds-by n a b =
-    pick (eqb n 5) (eqZ a b) (pick (eqb n 6) (not (eqZ a b)) (pick (eqb n 7) (ltZ a b) (pick (eqb n 8) (leZ a b) (pick (eqb n 9) (ltZ b a) (leZ b a)))))
+    pick (eqb n eq-code) (eqZ a b) (pick (eqb n ne-code) (not (eqZ a b)) (pick (eqb n lt-code) (ltZ a b) (pick (eqb n le-code) (leZ a b) (pick (eqb n gt-code) (ltZ b a) (leZ b a)))))
 
 -- a side of the relation of code n is variable k, at top; the other side is x. "With eq, one side known [..]: that
 -- variable takes the value if in its range, else no successor. Every other case passes unchanged"
 unfoldable pub refine-by : List ℤ → ℕ → ℕ → ℤ → List ℤ → Step (List ℤ)
-refine-by c n k x e = pick (not (eqZ x (pos 32768)) && eqb n 5) (set-ranged c k x e) (to e)
+refine-by c n k x e = pick (not (eqZ x top-word) && eqb n eq-code) (set-ranged c k x e) (to e)
 
 -- its sides are x, variable k, and y, variable j where it is at top
 unfoldable pub tested-by : List ℤ → ℕ → ℕ → ℕ → ℤ → ℤ → List ℤ → Step (List ℤ)
 tested-by c n k j x y e =
-    pick (eqZ x (pos 32768)) (refine-by c n k y e) (pick (eqZ y (pos 32768)) (refine-by c n j x e) (pick (holds-by n x y) (to e) halt))
+    pick (eqZ x top-word) (refine-by c n k y e) (pick (eqZ y top-word) (refine-by c n j x e) (pick (holds-by n x y) (to e) halt))
 
 -- `if v rel a`, the relation of code n
 unfoldable pub assume-at : List ℤ → ℕ → ℕ → List ℤ → Step (List ℤ)
-assume-at c n i e = tested-by c n (target-at c i) (count c (i + 5)) (getD e (target-at c i + 1) (pos 0)) (first-at c i e) e
+assume-at c n i e = tested-by c n (target-at c i) (count c (i + first-value-place)) (value-at e (target-at c i)) (first-at c i e) e
 
 -- the operation of code n
 unfoldable pub op-by : ℕ → List ℤ → ℕ → List ℤ → Step (List ℤ)
 op-by n c i e =
-    pick (eqb n 0) (to e) (pick (eqb n 1) (assign-at c i e) (pick (eqb n 2) (both-at _+ℤ_ c i e) (pick (eqb n 3) (both-at _-ℤ_ c i e) (pick (eqb n 4) (input-at c i e) (assume-at c n i e)))))
+    pick (eqb n skip-code) (to e) (pick (eqb n set-code) (assign-at c i e) (pick (eqb n add-code) (both-at _+ℤ_ c i e) (pick (eqb n sub-code) (both-at _-ℤ_ c i e) (pick (eqb n in-code) (input-at c i e) (assume-at c n i e)))))
 
 -- ---- the transfer
 
--- the word of a location; one that no word can hold has 0
-unfoldable pub location-word : ℕ → ℤ
-location-word n = pick (ltb n 2147483648) (pos n) (pos 0)
-
 -- by the edge whose words stand at i
 unfoldable pub post-at : List ℤ → ℕ → List ℤ → Step (List ℤ)
-post-at c i e = pick (eqb (count c i) (count e 0)) (op-by (count c (i + 2)) c i (set e 0 (location-word (count c (i + 1))))) halt
+post-at c i e = pick (eqb (count c i) (location-in e)) (op-by (count c (i + operation-place)) c i (with-location e (count c (i + to-place)))) halt
 
 -- by edge g, edges from 0
 unfoldable pub post-words : List ℤ → ℕ → List ℤ → Step (List ℤ)
@@ -119,13 +115,13 @@ post-words c g e = post-at c (edge-at c g) e
 
 -- the word of the location's kind is 1
 unfoldable pub error-row : List ℤ → List ℤ → Bool
-error-row c e = eqZ (getD c (locations-at c + 17 * count e 0) (pos 0)) (pos 1)
+error-row c e = eqZ (word-at c (locations-at c + location-size * location-in e)) (kind-word true)
 
 -- the first of n variables' initial words stands at i
 abbrev pub initial-words : List ℤ → ℕ → ℕ → List ℤ
 initial-words c i zero = []
-initial-words c i (suc n) = getD c i (pos 0) ∷ initial-words c (i + 3) n
+initial-words c i (suc n) = word-at c i ∷ initial-words c (i + variable-size) n
 
--- "start location, each init"; the first init stands at word 5
+-- "start location, each init"
 unfoldable pub initial-row : List ℤ → List ℤ
-initial-row c = pos 0 ∷ initial-words c 5 (count c 0)
+initial-row c = pos 0 ∷ initial-words c (variable-at 0 + init-place) (count c 0)

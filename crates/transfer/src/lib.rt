@@ -4,10 +4,12 @@ use semantics::LocationId;
 ghost use mathlib.Core.Path.{_≡_};
 ghost use Prim.Native.Nat.{_+_, _<_};
 ghost use lib.IntN.{_+ℤ_, _-ℤ_};
-ghost use lib.ListN.{length, set};
+ghost use lib.ListN.{length};
 ghost use Rattle.semantics.specs.Chart.{within};
+ghost use Rattle.semantics.specs.Layout.{operation-place, index-limit};
 ghost use Rattle.semantics.specs.Encoding.{count};
-ghost use Rattle.transfer.specs.Transfer.{step-of, location-word, operand-by, first-at, second-at, set-ranged, set-value, assign-at, set-result, both-at, input-at, holds-by, refine-by, assume-at, op-by, post-at, error-row, initial-row};
+ghost use Rattle.state.specs.Rows.{layout-of, width-of};
+ghost use Rattle.transfer.specs.Transfer.{step-of, operand-by, first-at, second-at, set-ranged, set-value, assign-at, set-result, both-at, input-at, holds-by, refine-by, assume-at, op-by, post-at, error-row, initial-row};
 
 // What a transfer answers, as the rules' `Step`: no successor, document 01's halt among them; a fault, which comes with
 // request 2.1; or a successor, which stands in the row lent.
@@ -37,19 +39,6 @@ fn lies_within(lo: i32, hi: i32, z: i64) -> bool
     (words::wide(lo) <= z) & (z <= words::wide(hi))
 }
 
-// ---- locations
-
-// The word that a row holds for a location.
-fn location_word(l: LocationId) -> i32
-    ensures { λ r. ⌜ r ≡ location-word (l .0) ⌝ }
-{
-    let n = l.0;
-    if n < 2147483648 {
-        return n as i32;
-    }
-    0
-}
-
 // ---- operands
 
 // The word of an operand by its tag and its own word: a number, or a variable's word.
@@ -60,12 +49,12 @@ fn operand(tag: i32, w: i32, row: &[i32]) -> i32
         return w;
     }
     let k = words::magnitude(w);
-    words::word_at(row, k + 1)
+    state::value_at(row, k)
 }
 
 // The words of the two operands of an edge.
 fn first_operand(chart: &[i32], edge: Edge, row: &[i32]) -> i32
-    requires { ⌜ edge .at < 4294967296 ⌝ }
+    requires { ⌜ edge .at < index-limit ⌝ }
     ensures { λ r. ⌜ r ≡ first-at (now (chart .entry)) (edge .at) (now (row .entry)) ⌝ }
 {
     let tag = chart::first_tag(chart, edge);
@@ -74,7 +63,7 @@ fn first_operand(chart: &[i32], edge: Edge, row: &[i32]) -> i32
 }
 
 fn second_operand(chart: &[i32], edge: Edge, row: &[i32]) -> i32
-    requires { ⌜ edge .at < 4294967296 ⌝ }
+    requires { ⌜ edge .at < index-limit ⌝ }
     ensures { λ r. ⌜ r ≡ second-at (now (chart .entry)) (edge .at) (now (row .entry)) ⌝ }
 {
     let tag = chart::second_tag(chart, edge);
@@ -82,20 +71,9 @@ fn second_operand(chart: &[i32], edge: Edge, row: &[i32]) -> i32
     operand(tag, w, row)
 }
 
-// Variable k becomes x.
-fn put(row: &mut [i32], k: usize, x: i32)
-    requires { ⌜ k < 2147483649 ⌝ }
-    ensures { λ _. ⌜ now (row .exit) ≡ set (now (row .entry)) (k + 1) x ⌝ }
-{
-    let i = k + 1;
-    if i < row.len() {
-        row[i] = x;
-    }
-}
-
 // Variable k becomes z where that lies in its range.
 fn put_ranged(chart: &[i32], k: usize, z: i64, row: &mut [i32]) -> Move
-    requires { ⌜ k < 2147483649 ⌝ }
+    requires { ⌜ k < index-limit ⌝ }
     ensures { λ r. ⌜ step-of r (now (row .exit)) ≡ set-ranged (now (chart .entry)) k z (now (row .entry)) ⌝ }
 {
     let lo = chart::variable_low(chart, k);
@@ -104,17 +82,17 @@ fn put_ranged(chart: &[i32], k: usize, z: i64, row: &mut [i32]) -> Move
         return Move::Halt;
     }
     let x = z as i32;
-    put(row, k, x);
+    state::set_value(row, k, x);
     Move::Successor
 }
 
 // Variable k becomes top, or z where that lies in its range.
 fn put_value(chart: &[i32], k: usize, top: bool, z: i64, row: &mut [i32]) -> Move
-    requires { ⌜ k < 2147483649 ⌝ }
+    requires { ⌜ k < index-limit ⌝ }
     ensures { λ r. ⌜ step-of r (now (row .exit)) ≡ set-value (now (chart .entry)) k top z (now (row .entry)) ⌝ }
 {
     if top {
-        put(row, k, words::TOP);
+        state::set_value(row, k, words::TOP);
         return Move::Successor;
     }
     put_ranged(chart, k, z, row)
@@ -123,7 +101,7 @@ fn put_value(chart: &[i32], k: usize, top: bool, z: i64, row: &mut [i32]) -> Mov
 // ---- the operations of an edge, on the row
 
 fn assign(chart: &[i32], edge: Edge, row: &mut [i32]) -> Move
-    requires { ⌜ edge .at < 4294967296 ⌝ }
+    requires { ⌜ edge .at < index-limit ⌝ }
     ensures { λ r. ⌜ step-of r (now (row .exit)) ≡ assign-at (now (chart .entry)) (edge .at) (now (row .entry)) ⌝ }
 {
     let k = chart::edge_target(chart, edge);
@@ -133,7 +111,7 @@ fn assign(chart: &[i32], edge: Edge, row: &mut [i32]) -> Move
 
 // The target becomes z, what an operation makes of a and b, or top where one of them is.
 fn put_result(chart: &[i32], edge: Edge, a: i32, b: i32, z: i64, row: &mut [i32]) -> Move
-    requires { ⌜ edge .at < 4294967296 ⌝ }
+    requires { ⌜ edge .at < index-limit ⌝ }
     ensures { λ r. ⌜ step-of r (now (row .exit)) ≡ set-result (now (chart .entry)) (edge .at) a b z (now (row .entry)) ⌝ }
 {
     let k = chart::edge_target(chart, edge);
@@ -141,7 +119,7 @@ fn put_result(chart: &[i32], edge: Edge, a: i32, b: i32, z: i64, row: &mut [i32]
 }
 
 fn add(chart: &[i32], edge: Edge, row: &mut [i32]) -> Move
-    requires { ⌜ edge .at < 4294967296 ⌝ }
+    requires { ⌜ edge .at < index-limit ⌝ }
     ensures { λ r. ⌜ step-of r (now (row .exit)) ≡ both-at _+ℤ_ (now (chart .entry)) (edge .at) (now (row .entry)) ⌝ }
 {
     let a = first_operand(chart, edge, row);
@@ -150,7 +128,7 @@ fn add(chart: &[i32], edge: Edge, row: &mut [i32]) -> Move
 }
 
 fn sub(chart: &[i32], edge: Edge, row: &mut [i32]) -> Move
-    requires { ⌜ edge .at < 4294967296 ⌝ }
+    requires { ⌜ edge .at < index-limit ⌝ }
     ensures { λ r. ⌜ step-of r (now (row .exit)) ≡ both-at _-ℤ_ (now (chart .entry)) (edge .at) (now (row .entry)) ⌝ }
 {
     let a = first_operand(chart, edge, row);
@@ -160,14 +138,14 @@ fn sub(chart: &[i32], edge: Edge, row: &mut [i32]) -> Move
 
 // A value from p up to q: known only where they are the same.
 fn input(chart: &[i32], edge: Edge, row: &mut [i32]) -> Move
-    requires { ⌜ edge .at < 4294967296 ⌝ }
+    requires { ⌜ edge .at < index-limit ⌝ }
     ensures { λ r. ⌜ step-of r (now (row .exit)) ≡ input-at (now (chart .entry)) (edge .at) (now (row .entry)) ⌝ }
 {
     let k = chart::edge_target(chart, edge);
     let p = chart::first_value(chart, edge);
     let q = chart::second_value(chart, edge);
     let x = state::join_word(p, q);
-    put(row, k, x);
+    state::set_value(row, k, x);
     Move::Successor
 }
 
@@ -187,7 +165,7 @@ fn holds(n: usize, a: i32, b: i32) -> bool
 
 // A side of the relation is variable k, at top, and the other side is x: only `eq` says something of k.
 fn refine(chart: &[i32], n: usize, k: usize, x: i32, row: &mut [i32]) -> Move
-    requires { ⌜ k < 2147483649 ⌝ }
+    requires { ⌜ k < index-limit ⌝ }
     ensures { λ r. ⌜ step-of r (now (row .exit)) ≡ refine-by (now (chart .entry)) n k x (now (row .entry)) ⌝ }
 {
     if (x != words::TOP) & (n == 5) {
@@ -198,11 +176,11 @@ fn refine(chart: &[i32], n: usize, k: usize, x: i32, row: &mut [i32]) -> Move
 
 // The relation of code n between the target and an operand: a test, or what it says of a side at top.
 fn assume(chart: &[i32], n: usize, edge: Edge, row: &mut [i32]) -> Move
-    requires { ⌜ edge .at < 4294967296 ⌝ }
+    requires { ⌜ edge .at < index-limit ⌝ }
     ensures { λ r. ⌜ step-of r (now (row .exit)) ≡ assume-at (now (chart .entry)) n (edge .at) (now (row .entry)) ⌝ }
 {
     let k = chart::edge_target(chart, edge);
-    let x = words::word_at(row, k + 1);
+    let x = state::value_at(row, k);
     let y = first_operand(chart, edge, row);
     if x == words::TOP {
         return refine(chart, n, k, y, row);
@@ -219,8 +197,8 @@ fn assume(chart: &[i32], n: usize, edge: Edge, row: &mut [i32]) -> Move
 
 // The operation of the edge, by its code.
 fn apply(chart: &[i32], edge: Edge, row: &mut [i32]) -> Move
-    requires { ⌜ edge .at < 4294967296 ⌝ }
-    ensures { λ r. ⌜ step-of r (now (row .exit)) ≡ op-by (count (now (chart .entry)) (edge .at + 2)) (now (chart .entry)) (edge .at) (now (row .entry)) ⌝ }
+    requires { ⌜ edge .at < index-limit ⌝ }
+    ensures { λ r. ⌜ step-of r (now (row .exit)) ≡ op-by (count (now (chart .entry)) (edge .at + operation-place)) (now (chart .entry)) (edge .at) (now (row .entry)) ⌝ }
 {
     let n = chart::edge_operation(chart, edge);
     match n {
@@ -237,14 +215,14 @@ fn apply(chart: &[i32], edge: Edge, row: &mut [i32]) -> Move
 
 // The move of the row by the edge, its successor into `out`.
 pub fn successor(chart: &[i32], edge: Edge, row: &[i32], out: &mut [i32]) -> Move
-    requires { ⌜ (0 < length (now row)) × (length (now out) ≡ length (now row)) × (edge .at < 4294967296) ⌝ }
+    requires { ⌜ (0 < length (now row)) × (length (now out) ≡ length (now row)) × (edge .at < index-limit) ⌝ }
     ensures { λ r. ⌜ step-of r (now (out .exit)) ≡ post-at (now (chart .entry)) (edge .at) (now (row .entry)) ⌝ }
 {
     let from = chart::edge_from(chart, edge);
     if semantics::same_location(from, state::location_of(row)) {
         words::copy_words(out, row);
         let to = chart::edge_to(chart, edge);
-        out[0] = location_word(to);
+        state::set_location(out, to);
         return apply(chart, edge, out);
     }
     Move::Halt
@@ -259,15 +237,15 @@ pub fn is_error(chart: &[i32], row: &[i32]) -> bool
 
 // The row of the initial abstract state. The start is location 0.
 pub fn initial(chart: &[i32], out: &mut [i32])
-    requires { ⌜ length (now out) ≡ 1 + count (now chart) 0 ⌝ }
+    requires { ⌜ length (now out) ≡ width-of (layout-of (now chart)) ⌝ }
     ensures { λ _. ⌜ now (out .exit) ≡ initial-row (now (chart .entry)) ⌝ }
 {
     let n = chart::var_count(chart);
-    out[0] = 0;
+    state::set_location(out, LocationId(0));
     let mut k = 0;
     while k < n {
         let x = chart::variable_init(chart, k);
+        state::set_value(out, k, x);
         k += 1;
-        out[k] = x;
     }
 }

@@ -15,7 +15,7 @@ use Rattle.semantics.specs.declared.Order.the-variants.{Old, New}
 use Rattle.semantics.specs.Algorithm.{without, take-last, later}
 use Rattle.words.proofs.Words.{eqZ-sym}
 use Rattle.waitlist.specs.Waits.{Stored, pushed, shifted, others, next-place, kept-at, TakenFrom}
-use Rattle.waitlist.proofs.WaitWords.{held, kept, map-append, front, back}
+use Rattle.waitlist.proofs.WaitWords.{waits-are, kept, map-append, front, back}
 use Rattle.semantics.specs.Lists.{pick}
 
 -- ---- the loops' turns
@@ -84,7 +84,7 @@ pub take-first-held : {l : List ℤ} {n : ℕ} (wa : List ℕ) → Stored l n wa
     → (k : ℕ) × (getD l 0 (pos 0) ≡ pos k) × TakenFrom Old wa k (shifted (take n l) ++ drop n l) (n - 1)
 take-first-held [] p h = absurd (omega (arith, p .count))
 take-first-held {l} {n} (k ∷ ws) p h =
-    (k, ap (λ (x : List ℤ). getD x 0 (pos 0)) (p .words), record { taken = ap (λ (x : List ℕ). some (record { slot = k; rest = x })) (sym (held put)); kept = kept put })
+    (k, ap (λ (x : List ℤ). getD x 0 (pos 0)) (p .words), record { taken = ap (λ (x : List ℕ). some (record { slot = k; rest = x })) (sym (waits-are put)); kept = kept put })
   where
     form : shifted (take n l) ++ drop n l ≡ map pos ws ++ replicate (suc (length l - n)) (pos 0)
     form =
@@ -110,7 +110,7 @@ last-snoc (x ∷ ws) k = ap (later x) (last-snoc ws k)
 pub take-last-held : {l : List ℤ} {n : ℕ} (wa : List ℕ) → Stored l n wa → 0 < n
     → (k : ℕ) × (getD l (n - 1) (pos 0) ≡ pos k) × TakenFrom New wa k (set l (n - 1) (pos 0)) (n - 1)
 take-last-held {l} {n} wa p h =
-    (k, at-last, record { taken = ap take-last split ∙ last-snoc ws k ∙ ap (λ (x : List ℕ). some (record { slot = k; rest = x })) (sym (held put)); kept = kept put })
+    (k, at-last, record { taken = ap take-last split ∙ last-snoc ws k ∙ ap (λ (x : List ℕ). some (record { slot = k; rest = x })) (sym (waits-are put)); kept = kept put })
   where
     ws : List ℕ
     ws = take (n - 1) wa

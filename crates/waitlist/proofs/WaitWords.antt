@@ -31,12 +31,12 @@ module _ {l : List ℤ} {n : ℕ} {wa : List ℕ} (p : Stored l n wa) where
   pub back : drop n l ≡ replicate (length l - n) (pos 0)
   back = ap (drop n) (p .words) ∙ drop-at (map pos wa) (replicate (length l - n) (pos 0)) n count-words
 
-  -- what is held is what is read
-  pub held : waits n l ≡ wa
-  held = ap (map natAbs) front ∙ map-back wa
+  -- the slots that are stored are those that are read
+  pub waits-are : waits n l ≡ wa
+  waits-are = ap (map natAbs) front ∙ map-back wa
 
   pub kept : Stored l n (waits n l)
-  kept = subst (λ (x : List ℕ). Stored l n x) (sym held) p
+  kept = subst (λ (x : List ℕ). Stored l n x) (sym waits-are) p
 
   -- the next word is written
   pub put-last : (k : ℕ) → n < length l → Stored (set l n (pos k)) (n + 1) (wa ++ (k ∷ []))

@@ -1,7 +1,7 @@
 // The waitlist in lent words: its slot numbers, longest waiting first, then zeros. Each function is given the count of
 // slots that wait. A function that puts a slot on the list or takes a named one off returns the count after it; the
 // take of the next slot returns that slot, and leaves one fewer.
-// The bounds of 65,536 only keep a slot's number in a word.
+// The bounds only keep a slot's number in a word: a list of fewer than `index-limit` words names none that does not fit.
 use semantics::Order;
 use semantics::SlotId;
 ghost use mathlib.Core.Path.{_≡_};
@@ -10,6 +10,7 @@ ghost use Prim.Native.Nat.{_+_, _-_, _<_, _≤_};
 ghost use lib.Dec.{eqb};
 ghost use lib.IntN.{pos};
 ghost use lib.ListN.{length, take, drop, replicate};
+ghost use Rattle.semantics.specs.Layout.{index-limit};
 ghost use Rattle.semantics.specs.Chart.{eqZ};
 ghost use Rattle.semantics.specs.Lists.{some-of};
 ghost use Rattle.semantics.specs.declared.Order.the-variants.{Old, New};
@@ -19,7 +20,7 @@ ghost use Rattle.waitlist.specs.Waits.{waits, Stored, pushed, shifted, w
 
 // The word that says a slot.
 fn slot_word(slot: SlotId) -> i32
-    requires { ⌜ slot .0 < 65536 ⌝ }
+    requires { ⌜ slot .0 + 1 < index-limit ⌝ }
     ensures { λ r. ⌜ r ≡ pos (slot .0) ⌝ }
 {
     let n = slot.0;
@@ -28,7 +29,7 @@ fn slot_word(slot: SlotId) -> i32
 
 // Whether the slot is waiting.
 fn contains(list: &[i32], count: usize, slot: SlotId) -> bool
-    requires { ⌜ Stored (now list) count (waits count (now list)) × (slot .0 < 65536) ⌝ }
+    requires { ⌜ Stored (now list) count (waits count (now list)) × (slot .0 + 1 < index-limit) ⌝ }
     ensures { λ r. ⌜ r ≡ some-of (eqb (slot .0)) (waits count (now (list .entry))) ⌝ }
 {
     let k = slot_word(slot);
@@ -37,7 +38,7 @@ fn contains(list: &[i32], count: usize, slot: SlotId) -> bool
 
 // The slot joins the waitlist at its end.
 pub fn append(list: &mut [i32], count: usize, slot: SlotId) -> usize
-    requires { ⌜ Stored (now list) count (waits count (now list)) × (count < length (now list)) × (slot .0 < 65536) ⌝ }
+    requires { ⌜ Stored (now list) count (waits count (now list)) × (count < length (now list)) × (slot .0 + 1 < index-limit) ⌝ }
     ensures { λ r. ⌜ Stored (now (list .exit)) r (waits count (now (list .entry)) ++ (slot .0 ∷ [])) ⌝ }
 {
     list[count] = slot_word(slot);
@@ -46,7 +47,7 @@ pub fn append(list: &mut [i32], count: usize, slot: SlotId) -> usize
 
 // The slot waits: it joins the waitlist unless it is on it.
 fn wait(list: &mut [i32], count: usize, slot: SlotId) -> usize
-    requires { ⌜ Stored (now list) count (waits count (now list)) × (slot .0 < length (now list)) × (length (now list) < 65536) × Queue (length (now list)) (waits count (now list)) ⌝ }
+    requires { ⌜ Stored (now list) count (waits count (now list)) × (slot .0 < length (now list)) × (length (now list) < index-limit) × Queue (length (now list)) (waits count (now list)) ⌝ }
     ensures { λ r. ⌜ Stored (now (list .exit)) r (wait (slot .0) (waits count (now (list .entry)))) ⌝ }
 {
     if contains(list, count, slot) {
@@ -57,7 +58,7 @@ fn wait(list: &mut [i32], count: usize, slot: SlotId) -> usize
 
 // The same, unless the flag says that its abstract state is the same as before.
 pub fn wait_unless(same: bool, list: &mut [i32], count: usize, slot: SlotId) -> usize
-    requires { ⌜ Stored (now list) count (waits count (now list)) × (slot .0 < length (now list)) × (length (now list) < 65536) × Queue (length (now list)) (waits count (now list)) ⌝ }
+    requires { ⌜ Stored (now list) count (waits count (now list)) × (slot .0 < length (now list)) × (length (now list) < index-limit) × Queue (length (now list)) (waits count (now list)) ⌝ }
     ensures { λ r. ⌜ Stored (now (list .exit)) r (wait-unless same (slot .0) (waits count (now (list .entry)))) ⌝ }
 {
     if same {
@@ -158,7 +159,7 @@ pub fn take_slot(order: Order, list: &mut [i32], count: usize) -> SlotId
 
 // Takes the slot out of the waitlist, if it is on it.
 fn remove(list: &mut [i32], count: usize, slot: SlotId) -> usize
-    requires { ⌜ Stored (now list) count (waits count (now list)) × (slot .0 < 65536) ⌝ }
+    requires { ⌜ Stored (now list) count (waits count (now list)) × (slot .0 + 1 < index-limit) ⌝ }
     ensures { λ r. ⌜ Stored (now (list .exit)) r (without (slot .0) (waits count (now (list .entry)))) ⌝ }
 {
     remove_word(list, count, slot_word(slot))
@@ -166,7 +167,7 @@ fn remove(list: &mut [i32], count: usize, slot: SlotId) -> usize
 
 // The slot joins the waitlist at its front.
 fn prepend(list: &mut [i32], count: usize, slot: SlotId) -> usize
-    requires { ⌜ Stored (now list) count (waits count (now list)) × (count < length (now list)) × (slot .0 < 65536) ⌝ }
+    requires { ⌜ Stored (now list) count (waits count (now list)) × (count < length (now list)) × (slot .0 + 1 < index-limit) ⌝ }
     ensures { λ r. ⌜ Stored (now (list .exit)) r (slot .0 ∷ waits count (now (list .entry))) ⌝ }
 {
     push_front(list, slot_word(slot));
@@ -175,12 +176,12 @@ fn prepend(list: &mut [i32], count: usize, slot: SlotId) -> usize
 
 // The slot goes back, or is moved, to the place that is taken next.
 pub fn put_back(order: Order, list: &mut [i32], count: usize, slot: SlotId) -> usize
-    requires { ⌜ Stored (now list) count (waits count (now list)) × (slot .0 < length (now list)) × (length (now list) < 65536) × Queue (length (now list)) (waits count (now list)) ⌝ }
+    requires { ⌜ Stored (now list) count (waits count (now list)) × (slot .0 < length (now list)) × (length (now list) < index-limit) × Queue (length (now list)) (waits count (now list)) ⌝ }
     ensures { λ r. ⌜ Stored (now (list .exit)) r (put-back order (slot .0) (waits count (now (list .entry)))) ⌝ }
 {
-    let left = remove(list, count, slot);
+    let others = remove(list, count, slot);
     match order {
-        Order::Old => prepend(list, left, slot),
-        Order::New => append(list, left, slot),
+        Order::Old => prepend(list, others, slot),
+        Order::New => append(list, others, slot),
     }
 }

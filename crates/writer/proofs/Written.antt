@@ -1,9 +1,9 @@
 -- Writing goes on where it stopped; what fits is written whole. Assumes nothing.
 use mathlib.Core.Path.{_≡_, refl, sym, ap, subst, _∙_}
 use mathlib.Core.List.{List, [], _∷_, _++_}
-use Prim.Native.Nat.{ℕ, zero, suc, _+_, _≤_, _<_, min}
+use Prim.Native.Nat.{ℕ, zero, suc, _+_, _≤_, _<_}
 use native.Mathlib.Nat.{zero-add, suc-add}
-use native.Mathlib.Decide.{decLe}
+use native.Mathlib.Decide.{decLt}
 use native.Mathlib.Omega.{arith}
 use lib.ListN.{length, take, drop, set, length-append}
 use Rattle.writer.specs.Writing.{overwritten, written, limit, Put}
@@ -70,18 +70,19 @@ written-fits (suc at) bs (o ∷ os) h = rw suc-add (ap (λ (l : List ℕ). o ∷
 
 -- ---- `Put`, piece by piece
 
-pub put-none : (at : ℕ) (out : List ℕ) (r : ℕ) → r ≡ min at limit → length out ≤ limit → Put at [] out out r
-put-none at out r e s = record { bytes = sym (written-none at out); place = omega arith; small = s }
+-- before the first piece
+pub put-none : (at : ℕ) (out : List ℕ) → length out < limit → Put at [] out out at
+put-none at out s = record { bytes = sym (written-none at out); place = omega arith; small = s }
 
 pub put-then : {at r r′ : ℕ} {bs cs out out′ out″ : List ℕ} → Put at bs out out′ r → Put r cs out′ out″ r′ → Put at (bs ++ cs) out out″ r′
 put-then {at} {r} {r′} {bs} {cs} {out} {out′} {out″} p q =
     record {
-      bytes = q .bytes ∙ ap (written r cs) (p .bytes) ∙ same (decLe (at + length bs) limit) ∙ written-then at bs cs out;
+      bytes = q .bytes ∙ ap (written r cs) (p .bytes) ∙ same (decLt (at + length bs) limit) ∙ written-then at bs cs out;
       place = rw (length-append bs cs) (omega (arith, p .place, q .place));
       small = p .small;
     }
   where
-    same : Dec (at + length bs ≤ limit) → written r cs (written at bs out) ≡ written (at + length bs) cs (written at bs out)
+    same : Dec (at + length bs < limit) → written r cs (written at bs out) ≡ written (at + length bs) cs (written at bs out)
     same (yes h) = ap (λ (n : ℕ). written n cs (written at bs out)) (omega (arith, p .place))
     same (no h) =
         let l = written-long at bs out in
@@ -90,6 +91,17 @@ put-then {at} {r} {r′} {bs} {cs} {out} {out′} {out″} p q =
 
 pub put-same : {at r : ℕ} {bs cs out out′ : List ℕ} → bs ≡ cs → Put at bs out out′ r → Put at cs out out′ r
 put-same {at} {r} {out = out} {out′ = out′} e p = subst (λ (l : List ℕ). Put at l out out′ r) e p
+
+-- what a loop has put so far: with the rest put after it, the whole is put
+abbrev pub Completes : ℕ → List ℕ → List ℕ → ℕ → List ℕ → List ℕ → Type 0
+Completes at whole out place rest out′ = (out″ : List ℕ) (r : ℕ) → Put place rest out′ out″ r → Put at whole out out″ r
+
+pub one-more : {at place place′ : ℕ} {whole rest piece rest′ out out′ out″ : List ℕ} → Completes at whole out place rest out′ → rest ≡ piece ++ rest′ → Put place piece out′ out″ place′
+    → Completes at whole out place′ rest′ out″
+one-more f e p o r q = f o r (put-same (sym e) (put-then p q))
+
+pub all-put : {at place : ℕ} {whole rest out out′ : List ℕ} → Completes at whole out place rest out′ → rest ≡ [] → length out′ < limit → Put at whole out out′ place
+all-put {place = place} {out′ = out′} f e s = f out′ place (put-same (sym e) (put-none place out′ s))
 
 -- where it fits: the bytes before, what was put, the bytes after
 pub put-fits : {at r : ℕ} {bs out out′ : List ℕ} → Put at bs out out′ r → at + length bs ≤ length out

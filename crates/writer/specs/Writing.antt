@@ -1,7 +1,7 @@
 -- Bytes written over other bytes, as far as those go. Assumes nothing.
 use mathlib.Core.Path.{_≡_}
 use mathlib.Core.List.{List, [], _∷_}
-use Prim.Native.Nat.{ℕ, zero, suc, _+_, _≤_, min}
+use Prim.Native.Nat.{ℕ, zero, suc, _+_, _<_, min}
 use lib.ListN.{length}
 
 -- the bytes over the front of what is there
@@ -20,8 +20,8 @@ written (suc at) bs (o ∷ os) = o ∷ written at bs os
 abbrev pub limit : ℕ
 limit = 9223372036854775808
 
--- bs was written at `at`, and r is the place after it
+-- bs was written at `at`, and r is the place after it; places from the limit on are not told apart
 pub record Put (at : ℕ) (bs out out′ : List ℕ) (r : ℕ) : Type 0 where
   pub bytes : out′ ≡ written at bs out
-  pub place : r ≡ min (at + length bs) limit
-  pub small : length out ≤ limit
+  pub place : min r limit ≡ min (at + length bs) limit
+  pub small : length out < limit

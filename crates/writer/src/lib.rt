@@ -10,24 +10,14 @@ ghost use Rattle.writer.specs.Writing.{Put, limit};
 // No slice is this long: counting stops here, so that no place wraps.
 const LIMIT: usize = 9_223_372_036_854_775_808;
 
-// A place, the limit at most.
-fn cut(at: usize) -> usize
-    ensures { λ r. ⌜ r ≡ min at limit ⌝ }
-{
-    if at < LIMIT {
-        return at;
-    }
-    LIMIT
-}
-
-// The place after it, the limit at most.
+// The place after it; from the limit on, the same.
 fn next(at: usize) -> usize
-    ensures { λ r. ⌜ r ≡ min (at + 1) limit ⌝ }
+    ensures { λ r. ⌜ min r limit ≡ min (at + 1) limit ⌝ }
 {
     if at < LIMIT {
         return at + 1;
     }
-    LIMIT
+    at
 }
 
 pub fn put_byte(out: &mut [u8], at: usize, b: u8) -> usize
@@ -43,7 +33,7 @@ pub fn put_byte(out: &mut [u8], at: usize, b: u8) -> usize
 pub fn put_bytes(out: &mut [u8], at: usize, s: &[u8]) -> usize
     ensures { λ r. ⌜ Put at (now (s .entry)) (now (out .entry)) (now (out .exit)) r ⌝ }
 {
-    let mut place = cut(at);
+    let mut place = at;
     let mut i = 0;
     while i < s.len() {
         place = put_byte(out, place, s[i]);

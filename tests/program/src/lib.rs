@@ -4,8 +4,9 @@ pub mod system;
 
 use std::env;
 use std::io::{ErrorKind, Write};
+use std::os::fd::AsFd;
 use std::path::{Path, PathBuf};
-use std::process::{Child, ChildStdin, Command, Output, Stdio};
+use std::process::{Child, Command, Output, Stdio};
 use std::thread;
 use std::time::{Duration, Instant};
 
@@ -69,7 +70,7 @@ pub fn said(running: Child) -> Output {
 }
 
 /// Waits until the program has read all that was written to it; false where it ended before.
-fn has_read(stdin: &ChildStdin, running: &mut Child) -> bool {
+pub fn has_read(stdin: &impl AsFd, running: &mut Child) -> bool {
     let began = Instant::now();
     while system::unread(stdin) > 0 {
         if running.try_wait().expect("the program can be looked at").is_some() {

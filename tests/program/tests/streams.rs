@@ -10,7 +10,7 @@ use std::sync::OnceLock;
 use std::thread;
 use std::time::Duration;
 
-use program::{command, ended, longest, said, system};
+use program::{command, ended, has_read, longest, said, system};
 use reference::program::respond;
 
 /// Safe as it stands; with `LAST_LINE` an alarm.
@@ -62,7 +62,8 @@ fn a_read_that_would_wait_is_no_end_of_input() {
     let (reader, mut writer) = io::pipe().expect("a pipe");
     system::never_wait(&reader);
     writer.write_all(FIRST_LINES).expect("the pipe holds it");
-    let running = command().stdin(reader).spawn().expect("the program can be started");
+    let mut running = command().stdin(reader).spawn().expect("the program can be started");
+    has_read(&writer, &mut running);
     thread::sleep(Duration::from_millis(300));
     // The program has ended, or reads the rest.
     let _ = writer.write_all(LAST_LINE);

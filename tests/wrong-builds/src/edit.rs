@@ -3,6 +3,8 @@
 
 use std::collections::{BTreeMap, BTreeSet};
 
+use crate::function::{functions, is_of_name, path_of};
+
 /// The texts of a crate by their path in it, `src/lib.rt`.
 pub type Sources = BTreeMap<String, String>;
 
@@ -22,10 +24,20 @@ pub struct Replacement {
 /// What an edit changes.
 #[derive(Clone, Debug, PartialEq, Eq)]
 pub enum Target {
-    /// The bodies of these functions, each named as the prover names it after the crate: `module::function`.
+    /// The bodies of these functions, each named as the prover names it after the crate: `module::function`; or a constant
+    /// that they and no others name.
     Bodies(BTreeSet<String>),
-    /// A definition, a contract, a type or a constant, which any function may rest on.
+    /// A definition, a contract or a type, which any function may rest on.
     Whole,
+}
+
+impl Target {
+    pub fn bodies(&self) -> Option<&BTreeSet<String>> {
+        match self {
+            Target::Bodies(names) => Some(names),
+            Target::Whole => None,
+        }
+    }
 }
 
 impl Edit {
@@ -59,46 +71,42 @@ impl Edit {
 
     /// Makes the replacements one after the other, and says what was changed.
     pub fn apply(&self, sources: &mut Sources) -> Result<Target, String> {
-        let mut bodies = Vec::new();
+        let mut bodies = BTreeSet::new();
+        let mut whole = false;
         for Replacement { file, old, new } in &self.replacements {
-            let text = sources.get_mut(file).ok_or(format!("the crate has no file {file}"))?;
+            let text = sources.get(file).ok_or(format!("the crate has no file {file}"))?;
             let places: Vec<usize> = text.match_indices(old.as_str()).map(|(at, _)| at).collect();
             let [at] = places[..] else {
                 return Err(format!("stands {} times in {file}, not once: {old}", places.len()));
             };
-            bodies.push(body_at(file, text, at));
-            text.replace_range(at..at + old.len(), new);
+            let found = changed_at(sources, file, at);
+            whole |= found.is_empty();
+            bodies.extend(found);
+            let changed = format!("{}{new}{}", &text[..at], &text[at + old.len()..]);
+            sources.insert(file.clone(), changed);
         }
-        let bodies: Option<BTreeSet<String>> = bodies.into_iter().collect();
-        Ok(bodies.map_or(Target::Whole, Target::Bodies))
+        Ok(if whole { Target::Whole } else { Target::Bodies(bodies) })
     }
 }
 
-/// The function whose body the place lies in. In the layout of `rt fmt` a head begins at the margin, a body begins where a
-/// line of the head that is no clause of a contract ends in `{`, and it ends with `}` at the margin.
-fn body_at(file: &str, text: &str, at: usize) -> Option<String> {
-    let module = file.strip_prefix("src/")?.strip_suffix(".rt")?;
-    let (mut name, mut inside) = (None, false);
-    for line in text[..at].lines() {
-        let words = line.trim();
-        let margin = !line.starts_with([' ', '/']);
-        if margin && words == "}" {
-            (name, inside) = (None, false);
-        } else if let (true, Some((_, head))) = (margin, line.split_once("fn ")) {
-            name = head.split(|c: char| !c.is_alphanumeric() && c != '_').next();
-            inside = words.ends_with('{');
-        } else if words.ends_with('{')
-            && !words.starts_with("requires")
-            && !words.starts_with("ensures")
-        {
-            inside = name.is_some();
-        }
+/// The function whose body the place lies in, or those that name the constant which it lies in; none where it is another.
+fn changed_at(sources: &Sources, file: &str, at: usize) -> BTreeSet<String> {
+    let text = &sources[file];
+    if let Some(found) = functions(text).into_iter().find(|one| one.body.contains(&at)) {
+        return path_of(file, found.name).into_iter().collect();
     }
-    let name = name.filter(|_| inside)?;
-    Some(match module {
-        "lib" | "main" => name.to_string(),
-        _ => format!("{}::{name}", module.replace('/', "::")),
-    })
+    let line = text[..at].rfind('\n').map_or(0, |end| end + 1);
+    let words = text[line..].trim_start_matches("pub ");
+    let Some((name, _)) = words.strip_prefix("const ").and_then(|words| words.split_once(':'))
+    else {
+        return BTreeSet::new();
+    };
+    let names_it = |code: &str| code.split(|c| !is_of_name(c)).any(|word| word == name);
+    let each = sources.iter().flat_map(|(file, text)| {
+        let users = functions(text).into_iter().filter(|one| names_it(&text[one.whole.clone()]));
+        users.filter_map(move |one| path_of(file, one.name))
+    });
+    each.collect()
 }
 
 /// Which edits can be tried together: those that change the bodies of different functions.
@@ -216,10 +224,19 @@ enum Kind {
         assert_eq!(target("src/lib.rt", "a < 3"), Ok(bodies(&["first"])));
         assert_eq!(target("src/more.rt", "a += 4"), Ok(bodies(&["more::first"])));
         assert_eq!(target("src/lib.rt", "true"), Ok(bodies(&["second"])));
-        for old in ["64", "a: usize", "a ≡ 1", "r ≡ 2", "Five"] {
+        for old in ["a: usize", "a ≡ 1", "r ≡ 2", "Five"] {
             assert_eq!(target("src/lib.rt", old), Ok(Target::Whole), "{old}");
         }
         assert_eq!(target("specs/Rules.antt", "60000"), Ok(Target::Whole));
+    }
+
+    #[test]
+    fn of_a_constant_the_functions_that_name_it() {
+        assert_eq!(target("src/lib.rt", "64"), Ok(Target::Whole));
+        let mut named = sources();
+        named.insert("src/lib.rt".into(), CODE.replace("true", "MOST < 1 & ALMOST"));
+        let edit = Edit::parse("# c\nfile: src/lib.rt\nold: 64\nnew: 63\n").unwrap();
+        assert_eq!(edit.apply(&mut named), Ok(bodies(&["second"])));
     }
 
     #[test]

@@ -1,6 +1,7 @@
 //! What `rt dev` said of a build, and whether that is a refusal of what was changed.
 
 use crate::edit::Target;
+use crate::function::proved_in;
 
 pub struct Log {
     pub status: Option<i32>,
@@ -34,6 +35,12 @@ impl Log {
         self.status == Some(0) && self.line("logic=proved").is_some()
     }
 
+    /// Whether the prover says of a function that it is proved.
+    pub fn proves(&self, crate_name: &str, name: &str) -> bool {
+        let line = format!("fn {crate_name}::{name}: proved");
+        self.text.lines().any(|said| said == line)
+    }
+
     /// The first own error of what was changed, as one line; or why this log shows no refusal of it.
     pub fn refusal(&self, crate_name: &str, target: &Target) -> Result<String, String> {
         if self.is_proved() {
@@ -55,7 +62,8 @@ impl Log {
 
     /// The first own error of a function: in its proof, or that the checker finds none where no proof is written.
     fn of_function(&self, crate_name: &str, name: &str) -> Result<String, String> {
-        let is_its = |file: &str| proof_of(file) == Some(name.to_string());
+        let is_its =
+            |file: &str| proved_in(file).is_some_and(|names| names.iter().any(|n| n == name));
         let own: Vec<Error> = self.errors(crate_name).filter(|error| is_its(error.file)).collect();
         if let Some(error) = own.iter().find(|error| error.is_of_shape()) {
             return Err(format!("{name} is refused for its shape alone: {}", error.shown()));
@@ -126,12 +134,6 @@ impl Error<'_> {
 
 fn not_found((name, needs): (&str, &str)) -> String {
     format!("{name}: no proof is found of {needs}")
-}
-
-/// The function that a proof file is of: `proofs/module/function/Proof.antt`, `+function` where it calls itself.
-fn proof_of(file: &str) -> Option<String> {
-    let path = file.strip_prefix("proofs/")?.strip_suffix("/Proof.antt")?;
-    Some(path.replace('+', "").replace('/', "::"))
 }
 
 #[cfg(test)]

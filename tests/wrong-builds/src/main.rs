@@ -2,19 +2,23 @@
 //!
 //!     wrong-builds                   every edit; fails unless each is refused
 //!     wrong-builds CRATE[/EDIT]..    these alone (a named edit may stand in must-fail/ too)
+//!     wrong-builds beside FILE       every edit, of each crate once the `rt ci` that runs beside it has proved that crate;
+//!                                    FILE is written when `rt ci` ends, and says its status
 //!     wrong-builds list              each edit of must-fail/ and wrong-builds/ with what it stands for
 //!
-//! It is run in a repository whose target/ was left by `rt ci` or `rt check`, and works on copies of it, in memory where it
-//! has room. Each crate is first checked as it stands, and must be proved: else a refusal would show nothing. Edits of the
-//! bodies of different functions are then tried together; an edit of anything else, or one whose error others hide, is tried
-//! alone. An edit is refused where each function that it changes has an error of its own: not one that follows from
+//! It is run in a repository whose target/ was left by `rt ci` or `rt check` (or, beside `rt ci`, was removed before both
+//! began, so that nothing older is trusted), and works on copies of it, in memory where it has room. Each crate is first checked as it stands, and must be proved: else a refusal would show nothing. Edits of the
+//! bodies of different functions are then tried together, in the part of the crate that these functions stand on; an edit of
+//! anything else, or one whose error others hide, is tried alone. An edit is refused where each function that it changes has an error of its own: not one that follows from
 //! another's, and none for the shape of the code. The whole logs are left in target/wrong-builds/.
 
+mod board;
 mod edit;
+mod function;
 mod log;
 mod scratch;
 
-use std::collections::BTreeMap;
+use std::collections::{BTreeMap, BTreeSet};
 use std::fmt;
 use std::fs;
 use std::io;
@@ -23,7 +27,9 @@ use std::process::ExitCode;
 use std::sync::Mutex;
 use std::time::{Duration, Instant};
 
+use board::{Board, Task};
 use edit::{Edit, Sources, Target};
+use function::Part;
 use log::Log;
 use scratch::{Room, Scratch};
 
@@ -31,7 +37,8 @@ fn main() -> ExitCode {
     let arguments: Vec<String> = std::env::args().skip(1).collect();
     let done = repository().and_then(|root| match &arguments[..] {
         [word] if word == "list" => list(&root),
-        names => try_all(&root, names),
+        [word, file] if word == "beside" => try_all(&root, &[], &Proving::Beside(file.into())),
+        names => try_all(&root, names, &Proving::Done),
     });
     match done {
         Ok(()) => ExitCode::SUCCESS,
@@ -150,16 +157,96 @@ fn plans(root: &Path, names: &[String]) -> Result<Vec<Plan>, String> {
     wanted.into_iter().map(|(name, edits)| Plan::new(root, &name, edits)).collect()
 }
 
-/// Some edits of a plan, tried together.
-struct Try<'a> {
-    plan: &'a Plan,
-    members: Vec<usize>,
+/// The proving that the edits are tried after.
+enum Proving {
+    Done,
+    /// It goes on beside, and this file is written when it ends.
+    Beside(PathBuf),
 }
 
-/// What a try showed of each of its edits.
-type Shown = Vec<Result<String, String>>;
+impl Proving {
+    /// Whether a crate is proved; an error if it never will be.
+    fn has_proved(&self, root: &Path, name: &str) -> Result<bool, String> {
+        let Proving::Beside(ended) = self else { return Ok(true) };
+        // asked first: what is not proved at its end was not proved
+        let status = fs::read_to_string(ended).ok();
+        let word = fs::read_to_string(root.join(format!("target/log/{name}.res")));
+        // a program is built, and counts as proved once it has run
+        let proved = word.is_ok_and(|word| matches!(word.trim(), "proved" | "built"));
+        match status {
+            Some(status) if status.trim() != "0" => Err("rt ci failed".into()),
+            Some(_) if !proved => Err(format!("rt ci ended, and {name} is not proved")),
+            _ => Ok(proved),
+        }
+    }
+}
 
-fn try_all(root: &Path, names: &[String]) -> Result<(), String> {
+/// What was shown of each edit, by its crate and name.
+type Results<'a> = BTreeMap<(&'a str, &'a str), Result<String, String>>;
+
+/// What the workers share.
+struct Work<'a> {
+    root: &'a Path,
+    plans: &'a [Plan],
+    proving: &'a Proving,
+    board: Board,
+    spent: Spent,
+    results: Mutex<Results<'a>>,
+    /// How many checks tried edits, and how many of them one edit again.
+    tries: Mutex<(usize, usize)>,
+}
+
+impl<'a> Work<'a> {
+    /// Does tasks until none is left, or one cannot be done.
+    fn go_on(&self, scratch: &Scratch) -> Result<(), String> {
+        let can_begin = |task: &Task| match task {
+            Task::Control(plan) => self.proving.has_proved(self.root, &self.plans[*plan].name),
+            Task::Edits(..) => Ok(true),
+        };
+        let all = || {
+            while let Some(task) = self.board.take(can_begin)? {
+                self.board.done(self.follow(scratch, task)?);
+            }
+            Ok(())
+        };
+        all().inspect_err(|_| self.board.stop())
+    }
+
+    /// Does one task, and answers those that follow from it.
+    fn follow(&self, scratch: &Scratch, task: Task) -> Result<Vec<Task>, String> {
+        match task {
+            Task::Control(number) => {
+                let plan = &self.plans[number];
+                let control = || scratch.control(&plan.name);
+                let log = self.spent.on(&plan.name, control).map_err(said)?;
+                if !log.is_proved() {
+                    return Err(format!("{} is not proved as it stands:\n{}", plan.name, log.text));
+                }
+                let groups = edit::groups(&plan.targets).into_iter();
+                Ok(groups.map(|members| Task::Edits(number, members)).collect())
+            }
+            Task::Edits(number, members) => {
+                let plan = &self.plans[number];
+                let attempt = || attempt(self.root, scratch, plan, &members);
+                let shown = self.spent.on(&plan.name, attempt)?;
+                let mut alone = Vec::new();
+                for (&member, result) in members.iter().zip(shown) {
+                    if result.is_err() && members.len() > 1 {
+                        alone.push(Task::Edits(number, vec![member]));
+                    } else {
+                        let named = (&plan.name[..], &plan.edits[member].0[..]);
+                        self.results.lock().unwrap().insert(named, result);
+                    }
+                }
+                let mut tries = self.tries.lock().unwrap();
+                *tries = (tries.0 + 1, tries.1 + alone.len());
+                Ok(alone)
+            }
+        }
+    }
+}
+
+fn try_all(root: &Path, names: &[String], proving: &Proving) -> Result<(), String> {
     let began = Instant::now();
     let plans = plans(root, names)?;
     let count = worker_count();
@@ -170,42 +257,22 @@ fn try_all(root: &Path, names: &[String]) -> Result<(), String> {
         .collect::<io::Result<_>>()
         .map_err(said)?;
 
-    let spent = Spent::default();
-    let controls = in_parallel(&workers, &plans, |scratch, plan| {
-        let log = spent.on(&plan.name, || scratch.control(&plan.name)).map_err(said)?;
-        if log.is_proved() {
-            return Ok(());
-        }
-        Err(format!("{} is not proved as it stands:\n{}", plan.name, log.text))
-    });
-    controls.into_iter().collect::<Result<Vec<()>, _>>()?;
+    let work = Work {
+        root,
+        plans: &plans,
+        proving,
+        board: Board::new((0..plans.len()).map(Task::Control).collect()),
+        spent: Spent::default(),
+        results: Mutex::default(),
+        tries: Mutex::default(),
+    };
+    std::thread::scope(|scope| {
+        let each: Vec<_> = workers.iter().map(|one| scope.spawn(|| work.go_on(one))).collect();
+        each.into_iter().map(|one| one.join().unwrap()).collect::<Result<Vec<()>, _>>()
+    })?;
 
-    let together: Vec<Try> = plans
-        .iter()
-        .flat_map(|plan| {
-            edit::groups(&plan.targets).into_iter().map(move |members| Try { plan, members })
-        })
-        .collect();
-    let attempt =
-        |scratch: &Scratch, one: &Try| spent.on(&one.plan.name, || attempt(root, scratch, one));
-    let shown = in_parallel(&workers, &together, attempt);
-    let mut results = BTreeMap::new();
-    let mut alone = Vec::new();
-    for (one, shown) in together.iter().zip(shown) {
-        for (&member, result) in one.members.iter().zip(shown?) {
-            if result.is_err() && one.members.len() > 1 {
-                alone.push(Try { plan: one.plan, members: vec![member] });
-            } else {
-                results.insert((&one.plan.name, &one.plan.edits[member].0), result);
-            }
-        }
-    }
-    let shown = in_parallel(&workers, &alone, attempt);
-    for (one, shown) in alone.iter().zip(shown) {
-        let result = shown?.remove(0);
-        results.insert((&one.plan.name, &one.plan.edits[one.members[0]].0), result);
-    }
-
+    let Work { spent, results, tries, .. } = work;
+    let (results, (tries, again)) = (results.into_inner().unwrap(), tries.into_inner().unwrap());
     for ((name, label), result) in &results {
         match result {
             Ok(error) => println!("{name}/{label}: refused at {error}"),
@@ -214,15 +281,13 @@ fn try_all(root: &Path, names: &[String]) -> Result<(), String> {
     }
     println!("wrong-builds: a worker's seconds on each crate: {spent}");
     let failed = results.values().filter(|result| result.is_err()).count();
-    let tries = together.len() + alone.len();
     println!(
-        "wrong-builds: {} refused, {failed} not, in {} crates, each proved as it stands ({tries} checks, {} alone again; {} s)",
+        "wrong-builds: {} refused, {failed} not, in {} crates, each proved as it stands ({tries} checks, {again} alone again; {} s)",
         results.len() - failed,
         plans.len(),
-        alone.len(),
         began.elapsed().as_secs()
     );
-    if failed == 0 {
+    if failed == 0 && results.len() == plans.iter().map(|plan| plan.edits.len()).sum() {
         return Ok(());
     }
     Err(format!("{failed} wrong builds are not refused as they must be"))
@@ -250,8 +315,13 @@ impl fmt::Display for Spent {
     }
 }
 
-fn attempt(root: &Path, scratch: &Scratch, one: &Try) -> Result<Shown, String> {
-    let Try { plan, members } = one;
+/// Tries some edits of a plan together, and answers what that showed of each.
+fn attempt(
+    root: &Path,
+    scratch: &Scratch,
+    plan: &Plan,
+    members: &[usize],
+) -> Result<Vec<Result<String, String>>, String> {
     let changed = match plan.changed(members) {
         // edits that do not go together are tried alone
         Err(why) if members.len() > 1 => {
@@ -259,9 +329,22 @@ fn attempt(root: &Path, scratch: &Scratch, one: &Try) -> Result<Shown, String> {
         }
         other => other?,
     };
-    let log = scratch.check(&plan.name, &plan.sources, &changed).map_err(said)?;
+    let bodies: Option<Vec<_>> =
+        members.iter().map(|&member| plan.targets[member].bodies()).collect();
+    let Part { sources, below } = match bodies {
+        Some(bodies) => {
+            let names = bodies.into_iter().flatten().cloned().collect();
+            function::part(&plan.sources, &changed, &names)
+        }
+        None => Part { sources: changed, below: BTreeSet::new() },
+    };
+    let log = scratch.check(&plan.name, &plan.sources, &sources).map_err(said)?;
     for &member in members {
         keep(root, &plan.name, &plan.edits[member].0, &log).map_err(said)?;
+    }
+    if let Some(name) = below.iter().find(|name| !log.proves(&plan.name, name)) {
+        let why = format!("{name}, which is as it was, is not proved");
+        return Ok(members.iter().map(|_| Err(why.clone())).collect());
     }
     Ok(members.iter().map(|&member| log.refusal(&plan.name, &plan.targets[member])).collect())
 }
@@ -277,29 +360,6 @@ fn worker_count() -> u64 {
     let asked = std::env::var("RT_JOBS").ok().and_then(|jobs| jobs.parse().ok());
     let processors = || std::thread::available_parallelism().map_or(1, |n| n.get() as u64).min(8);
     asked.unwrap_or_else(processors).max(1)
-}
-
-/// Does each job on one of the workers, the first jobs first, and answers the results in the order of the jobs.
-fn in_parallel<W: Sync, J: Sync, R: Send>(
-    workers: &[W],
-    jobs: &[J],
-    work: impl Fn(&W, &J) -> R + Sync,
-) -> Vec<R> {
-    let next = Mutex::new(jobs.iter().enumerate());
-    let done = Mutex::new(Vec::new());
-    std::thread::scope(|scope| {
-        for worker in workers {
-            let (next, done, work) = (&next, &done, &work);
-            scope.spawn(move || loop {
-                let Some((number, job)) = next.lock().unwrap().next() else { break };
-                let result = work(worker, job);
-                done.lock().unwrap().push((number, result));
-            });
-        }
-    });
-    let mut done = done.into_inner().unwrap();
-    done.sort_by_key(|(number, _)| *number);
-    done.into_iter().map(|(_, result)| result).collect()
 }
 
 fn said(error: io::Error) -> String {

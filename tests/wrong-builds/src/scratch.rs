@@ -1,5 +1,6 @@
 //! A copy of the repository in which wrong builds are tried over the modules that were proved there.
 
+use std::collections::{BTreeMap, BTreeSet};
 use std::fs;
 use std::io;
 use std::path::{Path, PathBuf};
@@ -65,9 +66,10 @@ impl Scratch {
         modules_name: &str,
     ) -> io::Result<Scratch> {
         let home = room.path.join(number.to_string());
-        for part in ["crates", "crates.txt", "target/rlib", "target/stamp", "target/log"] {
+        for part in ["crates", "crates.txt"] {
             copy(&repository.join(part), &home.join(part))?;
         }
+        fs::create_dir_all(home.join("target/stamp"))?;
         Ok(Scratch {
             repository: repository.to_path_buf(),
             room: room.path.clone(),
@@ -78,6 +80,7 @@ impl Scratch {
 
     /// Checks a crate as it stands, over the modules that it was proved with, and keeps its modules for the edits.
     pub fn control(&self, name: &str) -> io::Result<Log> {
+        self.bring_below(name)?;
         let modules = self.modules(name);
         remove(&modules)?;
         let checked = self.repository.join(format!("target/rlib/{name}.rlib/toolchain/checked"));
@@ -91,6 +94,7 @@ impl Scratch {
 
     /// Checks a crate with some of its files changed, over the modules of the control.
     pub fn check(&self, name: &str, sources: &Sources, changed: &Sources) -> io::Result<Log> {
+        self.bring_below(name)?;
         let modules = self.modules(name);
         remove(&modules)?;
         copy(&self.kept(name), &modules)?;
@@ -100,12 +104,28 @@ impl Scratch {
         log
     }
 
-    fn write(&self, name: &str, sources: &Sources) -> io::Result<()> {
-        for (file, text) in sources {
-            let path = self.home.join("crates").join(name).join(file);
-            if fs::read_to_string(&path)? != *text {
-                fs::write(path, text)?;
+    /// Copies the proved crates that a crate stands on, but those that are here already.
+    fn bring_below(&self, name: &str) -> io::Result<()> {
+        for below in crates_below(&self.repository, name)? {
+            let stamp = format!("target/stamp/{below}");
+            if !self.home.join(&stamp).exists() {
+                for part in [format!("target/rlib/{below}.rlib"), stamp] {
+                    copy(&self.repository.join(&part), &self.home.join(&part))?;
+                }
             }
+        }
+        Ok(())
+    }
+
+    /// Makes the files of a crate be these and no others, and leaves those that are so already.
+    fn write(&self, name: &str, files: &Sources) -> io::Result<()> {
+        let home = self.home.join("crates").join(name);
+        let there = sources(&home)?;
+        for file in there.keys().filter(|file| !files.contains_key(*file)) {
+            fs::remove_file(home.join(file))?;
+        }
+        for (file, text) in files.iter().filter(|(file, text)| there.get(*file) != Some(text)) {
+            fs::write(home.join(file), text)?;
         }
         Ok(())
     }
@@ -117,6 +137,19 @@ impl Scratch {
     fn kept(&self, name: &str) -> PathBuf {
         self.room.join("kept").join(name)
     }
+}
+
+/// The crates of the repository that a crate stands on, by crates.txt.
+fn crates_below(repository: &Path, name: &str) -> io::Result<BTreeSet<String>> {
+    let text = fs::read_to_string(repository.join("crates.txt"))?;
+    let lines = text.lines().filter_map(|line| line.split('#').next()?.split_once(':'));
+    let named: BTreeMap<&str, &str> = lines.map(|(name, below)| (name.trim(), below)).collect();
+    let (mut found, mut open) = (BTreeSet::new(), vec![name]);
+    while let Some(line) = open.pop().and_then(|next| named.get(next)) {
+        let fresh = line.split_whitespace().filter(|next| named.contains_key(next));
+        open.extend(fresh.filter(|next| found.insert(next.to_string())));
+    }
+    Ok(found)
 }
 
 /// The files of a crate that an edit can change.

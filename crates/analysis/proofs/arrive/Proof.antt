@@ -1,109 +1,90 @@
 -- `analysis::arrive` meets its contract. Assumes nothing.
-use mathlib.Core.Path.{_≡_, refl, sym, _∙_}
-use mathlib.Core.Bool.{true, false}
-use mathlib.Core.List.{List, [], _∷_, _++_}
-use Prim.Native.Nat.{ℕ, _+_, _≤_, _<_}
+use mathlib.Core.Path.{_≡_, sym, _∙_}
+use mathlib.Core.List.{List}
+use Prim.Native.Nat.{ℕ, _<_}
 use native.Mathlib.Omega.{arith}
 use borrow.Author.Needs.{needs}
 use lib.IntN.{ℤ}
 use lib.ListN.{length}
-use Rattle.semantics.specs.Algorithm.{on, full, arrive}
 use Rattle.semantics.proofs.Tidy.{queue-few}
-use Rattle.state.specs.Rows.{rows-of}
 use Rattle.waitlist.specs.Waits.{waits}
-use Rattle.waitlist.proofs.WaitWords.{held}
-use Rattle.reached.specs.Reached.{Kept}
-use Rattle.reached.proofs.Table.{rows-length, rows-sized, rows-stored}
-use Rattle.reached.proofs.Forms.{in-table, next-row, kept-stored}
-use Rattle.analysis.specs.Loaded.{rows-only}
+use Rattle.waitlist.proofs.WaitWords.{waits-are}
+use Rattle.reached.proofs.Table.{rows-stored}
+use Rattle.reached.proofs.Forms.{laid, next-slot-in, kept-stored}
+use Rattle.analysis.specs.Loaded.{Merged}
 use Rattle.analysis.proofs.Arrival.{arrive-drop, arrive-store, arrive-full}
 use Rattle.analysis.proofs.arrive.Statement.{statement}
 use Rattle.analysis.proofs.arrive.Tie as tie
 
--- what is known once the cover test is made
-module _ (c : tie.After-covered) where
-  abbrev at-start : tie.Start
-  at-start = c .before .before .before .before .before .before .before
-
-  abbrev e : List ℤ
-  e = at-start .args .e .now
-
-  abbrev en : List (List ℤ)
-  en = rows-of (length e) (at-start .args .used) (at-start .args .table .now)
-
-  abbrev wa : List ℕ
-  wa = waits (at-start .args .waiting) (at-start .args .list .now)
+-- what is known once the slots are merged
+module _ (c : tie.After-merge-by) where
+  abbrev start : tie.Start
+  start = c .before .before .before
 
   abbrev table : List ℤ
-  table = c .before .before .before .before .merge-by .last .1 .1 .0
+  table = c .merge-by .last .1 .1 .1 .0
 
   abbrev list : List ℤ
-  list = c .before .before .before .before .merge-by .last .1 .1 .1 .1 .1 .0
+  list = c .merge-by .last .1 .1 .1 .1 .0
 
   abbrev count : ℕ
-  count = c .before .before .before .before .merge-by .result
+  count = c .merge-by .result
 
-  form : Kept (length e) (at-start .args .capacity) table list (at-start .args .used) count
-  form = c .before .before .before .before .merge-by .ensures .1 .1
+  after : Merged (start .args .layout) (start .args .a) (start .args .e .now) (start .args .table .now) (start .args .list .now) table list count
+  after = c .merge-by .ensures
 
-  dropped : c .covered .result ≡ true → on (rows-of (length e) (at-start .args .used) table) (waits count list) ≡ arrive rows-only (at-start .args .settings) (at-start .args .capacity) e en wa
-  dropped h =
-      let m = c .before .before .before .before .merge-by in
-      arrive-drop (at-start .args .settings) (at-start .args .capacity) e en wa (at-start .pre .1) (form .wide)
-      (rows-sized (length e) (at-start .args .used) (at-start .args .table .now) (in-table (at-start .pre .0)))
-      (rows-of (length e) (at-start .args .used) table) (waits count list) (m .ensures .0) (m .ensures .1 .0) (sym (c .covered .ensures) ∙ h)
-
-  kept-on : c .covered .result ≡ false → at-start .args .used < at-start .args .capacity
-      → on (rows-of (length e) (at-start .args .used) table ++ (e ∷ [])) (waits count list ++ (at-start .args .used ∷ [])) ≡ arrive rows-only (at-start .args .settings) (at-start .args .capacity) e en wa
-  kept-on h l =
-      let m = c .before .before .before .before .merge-by in
-      let n = rows-length (length e) (at-start .args .used) table in
-      rw n at (arrive-store (at-start .args .settings) (at-start .args .capacity) e en wa (at-start .pre .1) (form .wide)
-      (rows-sized (length e) (at-start .args .used) (at-start .args .table .now) (in-table (at-start .pre .0)))
-      (rows-of (length e) (at-start .args .used) table) (waits count list) (m .ensures .0) (m .ensures .1 .0) (sym (c .covered .ensures) ∙ h) (omega (arith, n, l)))
-
-  filled : c .covered .result ≡ false → at-start .args .capacity ≤ at-start .args .used
-      → full (rows-of (length e) (at-start .args .used) table) (waits count list) ≡ arrive rows-only (at-start .args .settings) (at-start .args .capacity) e en wa
-  filled h l =
-      let m = c .before .before .before .before .merge-by in
-      let n = rows-length (length e) (at-start .args .used) table in
-      arrive-full (at-start .args .settings) (at-start .args .capacity) e en wa (at-start .pre .1) (form .wide)
-      (rows-sized (length e) (at-start .args .used) (at-start .args .table .now) (in-table (at-start .pre .0)))
-      (rows-of (length e) (at-start .args .used) table) (waits count list) (m .ensures .0) (m .ensures .1 .0) (sym (c .covered .ensures) ∙ h) (omega (arith, n, l))
+  -- the list has as many words as before
+  size : length list ≡ length (start .args .list .now)
+  size = c .merge-by .kept .1 .1 .1 .1 .0
 
 covered-requires : tie.Need-covered-requires
-covered-requires c κs = let k = c .before .before .before .merge-by .ensures .1 .1 in (k .wide, in-table k)
+covered-requires c κs = let d = c .before .before .before in laid (after d .kept) _ (start d .pre .row)
 
 returns : tie.Need-returns
-returns c = rw (c .went-on .ensures) (record { out = dropped (c .before .before) (c .before .if1 .taken); kept = form (c .before .before) })
+returns c =
+    let v = c .before .before in
+    let d = v .before .before .before .before in
+    rw (c .went-on .ensures) (record { out = arrive-drop (start d .pre) (after d) (sym (v .covered .ensures) ∙ c .before .if1 .taken); kept = after d .kept })
 
 put-row-requires : tie.Need-put-row-requires
-put-row-requires c κs = next-row (form (c .before .before .before)) (c .before .if2 .taken)
+put-row-requires c κs =
+    let d = c .before .before .before .before .before .before .before in
+    omega (arith, next-slot-in (after d .kept) (c .before .if2 .taken), start d .pre .row, after d .kept .apart)
 
 append-requires : tie.Need-append-requires
 append-requires c κs =
-    let d = c .before .before .before .before .before .before in
-    let k = form d in
-    let q = queue-few (at-start d .args .used) (waits (count d) (list d)) (k .queue) in
-    let l : at-start d .args .used < at-start d .args .capacity = c .before .before .before .before .if2 .taken in
-    (k .slots, omega (arith, q, k .slots .count, k .list, l), omega (arith, l, k .small))
+    let d = c .before .before .before .before .before .before .before .before .before .before in
+    let k = after d .kept in
+    let u : start d .args .a .used < length (list d) = c .before .before .before .before .if2 .taken in
+    (k .slots, omega (arith, queue-few (start d .args .a .used) (waits (count d) (list d)) (k .queue), k .slots .count, u), omega (arith, u, k .small))
 
 returns-2 : tie.Need-returns-2
 returns-2 c =
-    let b = c .before in
-    let d = b .before .before .before .before .before .before .before .before in
-    let k = form d in
-    let l : at-start d .args .used < at-start d .args .capacity = b .before .before .before .before .before .before .if2 .taken in
-    let put = b .before .before .before .before .put-row in
-    let app = b .before .append in
-    let w = length (e d) in
-    rw (c .went-on2 .ensures, put .ensures) (record {
-      out = rw (rows-stored w (at-start d .args .used) (table d) (e d) (next-row k l) refl, held (app .ensures)) (kept-on d (b .before .before .before .before .before .before .before .if1 .left) l);
-      kept = kept-stored k l (e d) refl (app .ensures) (app .kept .0);
+    let app = c .before .before .append in
+    let put = c .before .before .before .before .before .put-row in
+    let i = c .before .before .before .before .before .before .before in
+    let v = i .before .before in
+    let d = v .before .before .before .before in
+    let k = after d .kept in
+    let a = start d .args .a in
+    let e = start d .args .e .now in
+    let u : a .used < length (list d) = i .if2 .taken in
+    let row = start d .pre .row in
+    rw (c .went-on2 .ensures, put .ensures, row) (record {
+      out = rw (rows-stored (start d .args .layout) (a .used) (table d) e (next-slot-in k u) (k .apart) row, waits-are (app .ensures))
+          (arrive-store (start d .pre) (after d) (sym (v .covered .ensures) ∙ i .before .if1 .left) (omega (arith, u, size d)));
+      kept = kept-stored k u e row (app .ensures) (app .kept .0);
     })
 
 returns-3 : tie.Need-returns-3
-returns-3 c = record { out = filled (c .before .before) (c .before .if1 .left) (c .if2 .left); kept = form (c .before .before) }
+returns-3 c =
+    let i = c .before in
+    let v = i .before .before in
+    let d = v .before .before .before .before in
+    rw (c .filled .ensures) (record {
+      out = arrive-full (start d .pre) (after d) (sym (v .covered .ensures) ∙ i .before .if1 .left) (omega (arith, i .if2 .left, size d));
+      kept = after d .kept;
+    })
 
 pub arrive-spec : {M : Type 1} → statement M
 arrive-spec =
@@ -122,6 +103,7 @@ arrive-spec =
     (λ c. search needs)
     (λ c. search needs)
     returns-2
+    (λ c κs. search needs)
     (λ c. search needs)
     (λ c. search needs)
     returns-3)

@@ -1,110 +1,125 @@
 -- `analysis::iteration_with` meets its contract. Assumes nothing.
-use mathlib.Core.Path.{_≡_, sym, _∙_}
+use mathlib.Core.Path.{_≡_, ap, _∙_}
 use mathlib.Core.List.{List}
-use Prim.Native.Nat.{ℕ, _-_, _*_}
+use Prim.Native.Nat.{ℕ, _-_, _*_, _<_}
 use native.Mathlib.Omega.{arith}
 use borrow.Author.Needs.{needs}
 use lib.IntN.{ℤ}
 use lib.ListN.{length, take, drop}
+use Rattle.semantics.specs.declared.Analysis.{Analysis}
 use Rattle.semantics.specs.Algorithm.{leave}
+use Rattle.semantics.specs.Tidy.{Queue}
 use Rattle.semantics.proofs.Tidy.{more}
 use Rattle.words.proofs.Rows.{row-in}
-use Rattle.state.specs.Rows.{rows-of}
-use Rattle.waitlist.specs.Waits.{waits, TakenFrom}
+use Rattle.state.specs.declared.Layout.{Layout}
+use Rattle.state.specs.Rows.{width-of, rows-of}
+use Rattle.waitlist.specs.Waits.{waits}
 use Rattle.reached.specs.Reached.{Kept}
 use Rattle.reached.proofs.Forms.{in-table}
 use Rattle.transfer.specs.Transfer.{edges-from}
 use Rattle.analysis.specs.Loaded.{domain-of, Progressed}
-use Rattle.analysis.proofs.Iterations.{taken-left, kept-taken, iteration-held, played-at}
+use Rattle.analysis.proofs.Iterations.{taken-from, kept-taken, play-of, iteration-held}
 use Rattle.analysis.proofs.iteration_with.Statement.{statement}
 use Rattle.analysis.proofs.iteration_with.Tie as tie
 
--- what is known once the slot is copied
-module _ (c : tie.After-copy) where
-  abbrev at-start : tie.Start
-  at-start = c .before .before .before .before .before .before .before .before .before .before .before
+-- what is known once a slot is taken
+module _ (c : tie.After-take-slot) where
+  abbrev start : tie.Start
+  start = c .before .before .before .before .before .before
 
-  abbrev w : ℕ
-  w = length (at-start .args .copy .now)
+  abbrev y : Layout
+  y = start .args .outline .layout
+
+  abbrev a : Analysis
+  a = start .args .a
 
   abbrev slot : ℕ
-  slot = c .before .before .before .before .before .take-slot .result .0
+  slot = c .take-slot .result .0
 
   abbrev rest : List ℤ
-  rest = c .before .before .before .before .before .take-slot .last .1 .0
+  rest = c .take-slot .last .1 .0
 
-  abbrev row : List ℤ
-  row = c .before .get-row .last .1 .1 .0
+  same-list : length rest ≡ length (start .args .list .now)
+  same-list = c .take-slot .kept .1 .0
 
-  taken : TakenFrom (at-start .args .a .settings .order) (waits (at-start .args .a .waiting) (at-start .args .list .now)) slot rest (at-start .args .a .waiting - 1)
-  taken = c .before .before .before .before .before .take-slot .ensures
+  taken : Queue (a .used) (waits (a .waiting - 1) rest) × (slot < a .used)
+  taken = taken-from y (start .args .outline .edges) a (start .args .table .now) (start .args .list .now) (start .pre .0) slot rest (c .take-slot .ensures)
 
-  form : Kept w (at-start .args .a .capacity) (at-start .args .table .now) rest (at-start .args .a .used) (at-start .args .a .waiting - 1)
-  form = kept-taken w (at-start .args .edges) (at-start .args .a) (at-start .args .table .now) (at-start .args .list .now) (at-start .pre .0) slot rest taken (c .before .before .before .before .before .take-slot .kept .1 .0)
-
-  row-length : length row ≡ w
-  row-length = c .before .get-row .kept .1 .1 .0
-
-  row-is : row ≡ take w (drop (slot * w) (at-start .args .table .now))
-  row-is = c .before .get-row .ensures
+  form : Kept y (start .args .table .now) rest (a .used) (a .waiting - 1)
+  form = kept-taken y (start .args .outline .edges) a (start .args .table .now) (start .args .list .now) (start .pre .0) slot rest (c .take-slot .ensures) same-list
 
 get-row-requires : tie.Need-get-row-requires
 get-row-requires c κs =
     let d = c .before .before .before in
-    let s = d .before .before .before .before .before .before in
-    let h = s .pre .0 in
-    let k = taken-left (length (s .args .copy .now)) (s .args .edges) (s .args .a) (s .args .table .now) (s .args .list .now) h (d .take-slot .result .0) (d .take-slot .last .1 .0) (d .take-slot .ensures) .1 in
-    omega (arith, row-in (d .take-slot .result .0) (s .args .a .used) (length (s .args .copy .now)) k, in-table (h .kept))
+    omega (arith, row-in (slot d) (a d .used) (y d .stride) (taken d .1), in-table (form d), form d .apart, start d .pre .3)
 
-played : (c : tie.After-leave) →
-    let d = c .before .before .before .before .before in
-    let s = at-start d in
-    Progressed (w d) (s .args .a .capacity) (c .leave .last .1 .1 .1 .1 .1 .1 .1 .0) (c .leave .last .1 .1 .1 .1 .1 .1 .1 .1 .1 .1 .1 .0) (c .leave .result)
-    (leave (domain-of (s .args .chart .now)) (s .args .a .settings) (s .args .a .capacity) (take (w d) (drop (slot d * w d) (s .args .table .now))) (edges-from 0 (s .args .edges)) (rows-of (w d) (s .args .a .used) (s .args .table .now)) (waits (s .args .a .waiting - 1) (rest d)))
-played c =
-    let d = c .before .before .before .before .before in
-    let s = at-start d in
-    played-at (s .args .chart .now) (row d) (take (w d) (drop (slot d * w d) (s .args .table .now))) (w d) (s .args .a .capacity) (s .args .a .settings) (edges-from 0 (s .args .edges)) (s .args .a .used) (s .args .table .now) (c .leave .last .1 .1 .1 .1 .1 .1 .1 .0) (c .leave .last .1 .1 .1 .1 .1 .1 .1 .1 .1 .1 .1 .0) (waits (s .args .a .waiting - 1) (rest d)) (c .leave .result) (row-length d) (row-is d) (c .leave .ensures)
+-- the row of the slot, and what is known once its edges are played
+module _ (c : tie.After-copy) where
+  abbrev d : tie.After-take-slot
+  d = c .before .before .before .before .before
+
+  row-is : c .before .get-row .last .1 .1 .1 .0 ≡ take (width-of (y d)) (drop (slot d * y d .stride) (start d .args .table .now))
+  row-is = c .before .get-row .ensures ∙ ap (λ (w : ℕ). take w (drop (slot d * y d .stride) (start d .args .table .now))) (start d .pre .3)
 
 leave-requires : tie.Need-leave-requires
 leave-requires c κs =
-    let d = c .before .before .before .before in
-    let s = at-start d in
-    (rw (row-length d) (form d), s .pre .0 .allowed, s .pre .3 ∙ sym (row-length d), s .pre .4)
+    let p = c .before .before .before .before .before in
+    let d = d p in
+    rw (c .before .before .before .with-counts .ensures) (record { kept = form d; allowed = start d .pre .0 .allowed; row = p .before .get-row .kept .1 .1 .1 .0 ∙ start d .pre .3 }, start d .pre .4)
+
+module _ (c : tie.After-leave) where
+  abbrev p : tie.After-copy
+  p = c .before .before .before .before .before .before
+
+  abbrev table : List ℤ
+  table = c .leave .last .1 .1 .1 .1 .1 .1 .0
+
+  abbrev list : List ℤ
+  list = c .leave .last .1 .1 .1 .1 .1 .1 .1 .0
+
+  size : length list ≡ length (start (d p) .args .list .now)
+  size = c .leave .kept .1 .1 .1 .1 .1 .1 .1 .0 ∙ same-list (d p)
+
+  played : Progressed (y (d p)) table list (c .leave .result)
+      (play-of (y (d p)) (start (d p) .args .outline .edges) (a (d p)) (start (d p) .args .table .now) (start (d p) .args .list .now) (start (d p) .pre .0) (slot (d p)) (rest (d p)) (d p .take-slot .ensures) (start (d p) .args .chart .now) (edges-from 0 (start (d p) .args .outline .edges)))
+  played =
+      let s = start (d p) in
+      let w = c .before .before .before .before .with-counts .ensures in
+      let r = same-list (d p) ∙ s .pre .0 .capacity in
+      record {
+        out = c .leave .ensures .out ∙ (λ i. leave (domain-of (s .args .chart .now)) (w i .settings) (r i) (row-is p i) (edges-from 0 (s .args .outline .edges)) (rows-of (y (d p)) (w i .used) (s .args .table .now)) (waits (w i .waiting) (rest (d p))));
+        kept = c .leave .ensures .kept;
+      }
 
 finish-requires : tie.Need-finish-requires
 finish-requires c κs =
-    let v = c .before .before .before .before in
-    let d = v .before .before .before .before .before in
-    let s = at-start d in
-    let y = played v in
-    let k = y .kept in
-    let q = taken-left (w d) (s .args .edges) (s .args .a) (s .args .table .now) (s .args .list .now) (s .pre .0) (slot d) (rest d) (taken d) in
-    (k .slots, omega (arith, q .1, s .pre .0 .kept .capacity, k .list), omega (arith, k .small, k .list), more (v .leave .result .used) (length (v .leave .last .1 .1 .1 .1 .1 .1 .1 .1 .1 .1 .1 .0)) _ (omega (arith, k .capacity, k .list)) (k .queue), s .pre .1)
+    let v = c .before .before .before in
+    let d = d (p v) in
+    let k = played v .kept in
+    (k .slots, omega (arith, taken d .1, start d .pre .0 .kept .capacity, size v), k .small, more (v .leave .result .used) (length (list v)) _ (k .capacity) (k .queue), start d .pre .1)
 
-same-length-2 : tie.Need-same-length-2
-same-length-2 c = c .before .finish .kept .1 .1 .1 .0 ∙ c .before .before .before .before .before .before .leave .kept .1 .1 .1 .1 .1 .1 .1 .1 .1 .1 .1 .0 ∙ c .before .before .before .before .before .before .before .before .before .before .before .before .before .before .before .before .take-slot .kept .1 .0
+same-length-3 : tie.Need-same-length-3
+same-length-3 c = c .before .finish .kept .1 .1 .1 .0 ∙ size (c .before .before .before .before .before)
 
 returns : tie.Need-returns
 returns c =
     let f = c .before .finish in
-    let v = c .before .before .before .before .before .before in
-    let d = v .before .before .before .before .before in
-    let s = at-start d in
-    (iteration-held (w d) (s .args .edges) (s .args .a) (s .args .table .now) (s .args .list .now) (s .pre .0) (slot d) (rest d) (taken d) (s .args .chart .now) (v .leave .result) (v .leave .last .1 .1 .1 .1 .1 .1 .1 .0) (v .leave .last .1 .1 .1 .1 .1 .1 .1 .1 .1 .1 .1 .0) (played v) (f .result) (f .last .1 .1 .1 .0) (f .kept .1 .1 .1 .0) (f .ensures), f .ensures .iterations)
+    let v = c .before .before .before .before .before in
+    let d = d (p v) in
+    let s = start d in
+    (iteration-held (y d) (s .args .outline .edges) (a d) (s .args .table .now) (s .args .list .now) (s .pre .0) (slot d) (rest d) (d .take-slot .ensures) (s .args .chart .now) (v .leave .result) (table v) (list v) (size v) (played v) (f .result) (f .last .1 .1 .1 .0) (f .kept .1 .1 .1 .0) (f .ensures), f .ensures .iterations)
 
 pub iteration-with-spec : {M : Type 1} → statement M
 iteration-with-spec =
     tie.close
     (tie.spec
-    (λ c. search needs)
-    (λ c κs. search needs)
+    (λ c κs. (c .before .before .before .before .before .pre .0 .kept .slots, c .before .before .before .before .before .pre .2))
     get-row-requires
     (λ c. search needs)
+    (λ c κs. search needs)
     leave-requires
     finish-requires
     (λ c. search needs)
-    same-length-2
     (λ c. search needs)
-    (λ c. search needs)
+    same-length-3
     returns)

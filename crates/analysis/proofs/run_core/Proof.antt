@@ -15,13 +15,12 @@ play-requires c κs =
     let f = k .before .before .before in
     let s = f .before in (
       s .pre .0,
-      omega (arith, s .pre .1, l .iterations-left .ensures),
-      s .pre .2,
-      record { first = record { id = f .first-edge .ensures .0; at = omega (arith, f .first-edge .ensures .1) }; small = s .pre .3; chained = k .chain .ensures },
+      omega (arith, s .pre .1, l .iterations-allowed .ensures),
+      record { first = record { id = f .first-edge .ensures .0; at = omega (arith, f .first-edge .ensures .1) }; small = s .pre .3; narrow = s .pre .2; chained = k .chain .ensures },
     )
 
 returns : tie.Need-returns
-returns c = rw (c .before .before .before .before .before .before .before .iterations-left .ensures) at (c .before .before .play .ensures)
+returns c = rw (c .before .before .before .before .before .before .before .iterations-allowed .ensures) at (c .before .before .play .ensures)
 
 pub run-core-spec : {M : Type 1} → statement M
 run-core-spec =

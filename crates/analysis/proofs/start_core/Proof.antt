@@ -1,13 +1,13 @@
 -- `analysis::start_core` meets its contract. Assumes nothing.
-use mathlib.Core.Path.{refl, sym, ap, _∙_}
+use mathlib.Core.Path.{_≡_, refl, sym, ap, _∙_}
 use mathlib.Core.List.{List}
-use Prim.Native.Nat.{ℕ}
+use Prim.Native.Nat.{ℕ, _*_, _<_}
 use native.Mathlib.Omega.{arith}
 use borrow.Author.Needs.{needs}
 use lib.IntN.{ℤ, pos}
 use lib.ListN.{length, replicate}
 use Rattle.reached.specs.Reached.{Kept}
-use Rattle.reached.proofs.Forms.{empty-kept, next-row}
+use Rattle.reached.proofs.Forms.{empty-kept, next-slot-in}
 use Rattle.analysis.proofs.Begin.{begun}
 use Rattle.analysis.proofs.start_core.Statement.{statement}
 use Rattle.analysis.proofs.start_core.Tie as tie
@@ -23,19 +23,25 @@ module _ (c : tie.After-list) where
   abbrev list : List ℤ
   list = c .before .fill-zero2 .last .0
 
-  form : Kept (length (at-start .args .row .now)) (at-start .args .capacity) table list 0 0
+  size : length list ≡ at-start .args .capacity
+  size = c .before .fill-zero2 .kept .0 ∙ at-start .pre .6
+
+  form : Kept (at-start .args .layout) table list 0 0
   form =
-      let s = at-start in
+      let p = at-start .pre in
       let lt = c .before .before .before .before .fill-zero .kept .0 in
       let ll = c .before .fill-zero2 .kept .0 in
-      empty-kept (length (s .args .row .now)) (s .args .capacity) table list (s .pre .0) (s .pre .2) (lt ∙ s .pre .3) (ll ∙ s .pre .4)
+      empty-kept (at-start .args .layout) table list (omega (arith, p .0, p .1)) (p .2) (omega (arith, p .4, size)) (lt ∙ p .5 ∙ ap (λ (n : ℕ). n * at-start .args .layout .stride) (sym size))
       (c .before .before .before .before .fill-zero .ensures ∙ ap (λ (n : ℕ). replicate n (pos 0)) (sym lt)) (c .before .fill-zero2 .ensures ∙ ap (λ (n : ℕ). replicate n (pos 0)) (sym ll))
 
+  some : 0 < length list
+  some = omega (arith, size, at-start .pre .3)
+
 put-row-requires : tie.Need-put-row-requires
-put-row-requires c κs = let d = c .before in next-row (form d) (at-start d .pre .1)
+put-row-requires c κs = let d = c .before in omega (arith, next-slot-in (form d) (some d), at-start d .pre .1, at-start d .pre .2)
 
 append-requires : tie.Need-append-requires
-append-requires c κs = let d = c .before .before .before .before in (form d .slots, omega (arith, form d .list, at-start d .pre .1), omega arith)
+append-requires c κs = let d = c .before .before .before .before in (form d .slots, some d, omega arith)
 
 returns : tie.Need-returns
 returns c =
@@ -44,7 +50,7 @@ returns c =
     let put = c .before .before .before .before .before .before .put-row in
     let app = c .before .before .before .append in
     let v = rw (c .before .is-error .ensures) at (c .first-verdict .ensures) in
-    λ last. rw (put .ensures) (begun (length (s .args .row .now)) (s .args .capacity) (table d) (list d) (form d) (s .pre .1) (s .args .row .now) refl last (s .args .chart .now) _ (app .last .0) (app .ensures) (app .kept .0) (s .pre .5) refl refl refl refl v)
+    λ last. rw (put .ensures, s .pre .1) (begun (s .args .layout) (table d) (list d) (form d) (some d) (s .args .row .now) (s .pre .1) last (s .args .chart .now) _ (app .last .0) (app .ensures) (app .kept .0) (s .pre .7) (size d) refl refl refl v)
 
 pub start-core-spec : {M : Type 1} → statement M
 start-core-spec =

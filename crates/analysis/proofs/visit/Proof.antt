@@ -2,6 +2,7 @@
 use mathlib.Core.Path.{_≡_, sym, ap, _∙_}
 use mathlib.Core.Bool.{true, false}
 use mathlib.Core.List.{List}
+use native.Mathlib.Omega.{arith}
 use borrow.Author.Needs.{needs}
 use lib.IntN.{ℤ}
 use lib.ListN.{length}
@@ -23,14 +24,14 @@ module _ (d : tie.After-successor) where
   moved m e = sym (d .successor .ensures) ∙ ap (λ (m : Move). step-of m row) e
 
   row-length : length row ≡ length (start .args .copy .now)
-  row-length = d .successor .kept .1 .1 .1 .0 ∙ start .pre .2
+  row-length = d .successor .kept .1 .1 .1 .0 ∙ start .pre .1
 
 returns : tie.Need-returns
 returns c =
     let i = c .before .before in
     let d = i .before .before .before .before .before in
     let b : error-row (start d .args .chart .now) (row d) ≡ true = sym (i .is-error .ensures) ∙ c .before .if1 .taken in
-    rw (c .alarm-by2 .ensures) (record { out = rw (moved d Successor (i .before .before .enum-told3 .given .1), b); kept = start d .pre .0 })
+    rw (c .alarm-by2 .ensures) (record { out = rw (moved d Successor (i .before .before .enum-told3 .given .1), b); kept = start d .pre .0 .kept })
 
 returns-4 : tie.Need-returns-4
 returns-4 c =
@@ -39,13 +40,19 @@ returns-4 c =
     let i = f .before in
     let d = i .before .before .before .before .before in
     let b : error-row (start d .args .chart .now) (row d) ≡ false = sym (i .is-error .ensures) ∙ f .if1 .left in
-    rw (moved d Successor (i .before .before .enum-told3 .given .1), b) (rw (row-length d) at (r .arrive .ensures))
+    rw (moved d Successor (i .before .before .enum-told3 .given .1), b) (r .arrive .ensures)
+
+arrive-requires : tie.Need-arrive-requires
+arrive-requires c κs =
+    let d = c .before .before .before .before .before .before .before .before .before in
+    let g = start d .pre .0 in
+    record { kept = g .kept; allowed = g .allowed; row = row-length d ∙ g .row }
 
 pub visit-spec : {M : Type 1} → statement M
 visit-spec =
     tie.close
     (tie.spec
-    (λ c κs. let s = c .before in (s .pre .0 .wide, s .pre .2, s .pre .3))
+    (λ c κs. let s = c .before in (omega (arith, s .pre .0 .row, s .pre .0 .kept .wide), s .pre .1, s .pre .2))
     (λ c. search needs)
     (λ c κs. search needs)
     (λ c. search needs)
@@ -55,11 +62,11 @@ visit-spec =
     (λ c κs. search needs)
     (λ c. search needs)
     returns
-    (λ c κs. let d = c .before .before .before .before .before .before .before .before .before in rw (row-length d) (start d .pre .0, start d .pre .1))
+    arrive-requires
     (λ c. search needs)
-    (λ c. let d = c .before .before .before .before in rw (c .went-on .ensures) (record { out = rw (moved d Halt (c .before .enum-told .given .1)); kept = start d .pre .0 }))
+    (λ c. let d = c .before .before .before .before in rw (c .went-on .ensures) (record { out = rw (moved d Halt (c .before .enum-told .given .1)); kept = start d .pre .0 .kept }))
     (λ c. search needs)
-    (λ c. let d = c .before .before .before .before in rw (c .alarm-by .ensures) (record { out = rw (moved d Fault (c .before .enum-told2 .given .1)); kept = start d .pre .0 }))
+    (λ c. let d = c .before .before .before .before in rw (c .alarm-by .ensures) (record { out = rw (moved d Fault (c .before .enum-told2 .given .1)); kept = start d .pre .0 .kept }))
     (λ c. search needs)
     (λ c. search needs)
     (λ c. search needs)

@@ -1,31 +1,31 @@
 -- `calls::begin` meets its contract: a part of a local row is lent. Assumes nothing.
-use mathlib.Core.Path.{sym}
+use mathlib.Core.Path.{_≡_, sym, _∙_}
+use Prim.Native.Nat.{_≤_}
+use native.Mathlib.Omega.{arith}
 use borrow.Author.Needs.{needs}
+use lib.IntN.{pos}
+use lib.ListN.{length, take, replicate}
 use lib.Seq.{length-take-le}
+use Rattle.state.specs.Rows.{most-width}
 use Rattle.calls.proofs.begin.Statement.{statement}
 use Rattle.calls.proofs.begin.Tie as tie
 
-array-borrow-prefix-row : tie.Need-array-borrow-prefix-row
-array-borrow-prefix-row c = c .before .before .pre .1
+-- the words of the row
+module _ (c : tie.After-width) where
+  narrow : c .width .result ≤ most-width
+  narrow = omega (arith, c .width .ensures, c .before .pre .1)
 
-slice-aggregate-begin-with : tie.Need-slice-aggregate-begin-with
-slice-aggregate-begin-with c = sym (length-take-le (c .before .before .before .args .width) _ (c .before .before .before .pre .1))
-
-begin-with-requires : tie.Need-begin-with-requires
-begin-with-requires c κs = rw (length-take-le (c .before .before .before .args .width) _ (c .before .before .before .pre .1)) (c .before .before .before .pre .0)
-
-returns : tie.Need-returns
-returns c =
-    let s = c .before .before .before .before .before .before .before in
-    λ last. rw (length-take-le (s .args .width) _ (s .pre .1)) at (c .before .before .before .begin-with .ensures last)
+  row-length : length (take (c .width .result) (replicate most-width (pos 0))) ≡ c .width .result
+  row-length = length-take-le (c .width .result) (replicate most-width (pos 0)) narrow
 
 pub begin-spec : {M : Type 1} → statement M
 begin-spec =
     tie.close
     (tie.spec
-    array-borrow-prefix-row
-    slice-aggregate-begin-with
-    begin-with-requires
+    (λ c κs. omega (arith, c .pre .1))
+    (λ c. narrow (c .before .before))
+    (λ c. sym (row-length (c .before .before .before)))
+    (λ c κs. let w = c .before .before .before in (w .before .pre .0, row-length w ∙ w .width .ensures))
     (λ c. search needs)
     (λ c. search needs)
-    returns)
+    (λ c. c .before .before .before .begin-with .ensures))

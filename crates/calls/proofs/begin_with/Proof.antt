@@ -1,10 +1,11 @@
 -- `calls::begin_with` meets its contract: the row lent is the initial state's, of the same length. Assumes nothing.
 use mathlib.Core.Path.{_≡_, sym, ap, _∙_}
-use Prim.Native.Nat.{ℕ, _*_}
 use native.Mathlib.Omega.{arith}
 use borrow.Author.Needs.{needs}
 use denote.Ref.{now}
 use lib.ListN.{length}
+use Rattle.state.specs.Rows.{width-of}
+use Rattle.state.proofs.Layouts.{is-layout}
 use Rattle.calls.proofs.begin_with.Statement.{statement}
 use Rattle.calls.proofs.begin_with.Tie as tie
 
@@ -12,17 +13,23 @@ start-core-requires : tie.Need-start-core-requires
 start-core-requires c κs =
     let i = c .before .before .before .before .initial in
     let s = c .before .before .before .before .before .before in
-    let p = s .pre in
-    let l : length (i .last .1 .0) ≡ length (now (s .args .row)) = i .kept .1 .0 in
-    (omega (arith, l, p .wide), omega (arith, p .some), omega (arith, p .few), p .table ∙ ap (λ (n : ℕ). s .args .capacity * n) (sym l), p .list, p .allowed)
+    let b = s .pre .0 in
+    let o = is-layout (now (s .args .chart)) (s .args .layout) (b .layout) in
+    let l : length (i .last .1 .0) ≡ width-of (s .args .layout) = i .kept .1 .0 ∙ s .pre .1 in
+    (omega (arith, l, o .wide), l, omega (arith, o .wide, o .stride), b .some, omega (arith, b .few), b .table, b .list, b .allowed)
 
 returns : tie.Need-returns
 returns c =
-    let k = c .before .before .start-core in
     let i = c .before .before .before .before .before .before .before .initial in
-    λ last. rw (sym (i .kept .1 .0), sym (i .ensures)) (k .ensures last)
+    λ last. rw (sym (i .ensures)) (c .before .before .start-core .ensures last)
 
 pub begin-with-spec : {M : Type 1} → statement M
 begin-with-spec =
     tie.close
-    (tie.spec (λ c κs. search needs) start-core-requires (λ c. search needs) (λ c. search needs) (λ c. search needs) returns)
+    (tie.spec
+    (λ c κs. let s = c .before in s .pre .1 ∙ ap width-of (s .pre .0 .layout))
+    start-core-requires
+    (λ c. search needs)
+    (λ c. search needs)
+    (λ c. search needs)
+    returns)

@@ -1,7 +1,7 @@
 -- `calls::run` meets its contract: a walk of its MIR, by hand. The borrow of the record is opened, and the record is
--- copied out of its cell; it goes to `advance` with the chart, the table and the list, at the slices' own lifetimes,
--- shares and names; the record that `advance` answered is stored over the old one, and the borrow is closed there.
--- All that the proof knows of `advance` is that it meets its contract. Assumes nothing.
+-- copied out of its cell; it goes to `run_by_value` with the chart, the table and the list, at the slices' own lifetimes,
+-- shares and names; the record that `run_by_value` answered is stored over the old one, and the borrow is closed there.
+-- All that the proof knows of `run_by_value` is that it meets its contract. Assumes nothing.
 use mathlib.Core.Path.{_≡_, refl, ap}
 use Prim.Native.Nat.{ℕ}
 use mathlib.Core.List.{[], _∷_, List}
@@ -24,7 +24,7 @@ use types.Run.{look, look-raw, init, store-raw, forget, stop, hop, fld, from, lo
 use types.Part.{agg, whole, sub, look-in}
 use types.SemTy.{Body}
 use sound.WpLaws.{FmC, fmOf, WpFn-mono}
-use denote.RattleType.{owns}
+use denote.RattleType.{RattleType, owns}
 use denote.Memory.{mem}
 use denote.Laws.{Is, shows}
 use denote.Signed.{sint-makes, sint-vals, sint-tells, sint-lawful}
@@ -54,22 +54,28 @@ use Rattle.calls.specs.Calls.{Ends-called}
 use Rattle.calls.specs.declared.Called.{Called}
 use Rattle.calls.proofs.Called as N
 use Rattle.calls.proofs.Called.Laws as N′
-use Rattle.calls.proofs.Record.{R, mach}
-use Rattle.calls.proofs.advance as advance
-use Rattle.calls.proofs.advance.Symbol as advance-def
-use Rattle.calls.proofs.advance.Symbol.{name as #calls·advance}
-use Rattle.calls.proofs.advance.Met as advance-thm
+use Rattle.calls.proofs.run_by_value as by-value
+use Rattle.calls.proofs.run_by_value.Symbol as by-value-def
+use Rattle.calls.proofs.run_by_value.Symbol.{name as #calls·run-by-value}
+use Rattle.calls.proofs.run_by_value.Met as by-value-thm
 use Rattle.calls.proofs.run.Key.{name as #calls·run}
 use Rattle.calls.proofs.run as run
 use Rattle.calls.proofs.run.Statement as stated
 use Rattle.calls.proofs.run.Code as code
 
+-- the record as the machine holds it
+abbrev R : RattleType
+R = T.the-row
+
+abbrev mach : Analysis → Val
+mach h = LL.val T.the-type T′.the-laws h
+
 abbrev stayed : Stays (run.ended .signature .params) (run.ended .kept)
 stayed = (stay-none-slice (0 ∷ []) tt (plain (λ _. i32)) yes, (stay-none (λ _. i32) yes, (stay-ref (1 ∷ []) tt (plain (λ _. T.the-row)), (gave-slice (2 ∷ []) tt (plain (λ _. i32)), (gave-slice (3 ∷ []) tt (plain (λ _. i32)), tt)))))
 
 -- the contract that the proof cites
-abbrev Advance : {M : Type 1} (𝓤 : URA M) (H : Heap 𝓤) (A : Atoms 𝓤) (mem : Memory → SProp 𝓤) (run : Routine → Fun 𝓤) → Contract 𝓤
-Advance 𝓤 H A mem run = tripleOf 𝓤 H A advance.signature (advance.spec 𝓤 H A mem run)
+abbrev ByValue : {M : Type 1} (𝓤 : URA M) (H : Heap 𝓤) (A : Atoms 𝓤) (mem : Memory → SProp 𝓤) (run : Routine → Fun 𝓤) → Contract 𝓤
+ByValue 𝓤 H A mem run = tripleOf 𝓤 H A by-value.signature (by-value.spec 𝓤 H A mem run)
 
 module _ {M : Type 1} (𝓤 : URA M) (H : Heap 𝓤) (A : Atoms 𝓤) (W : Given 𝓤 H A) (at-mem : Memory → SProp 𝓤) (at-run : Routine → Fun 𝓤)
     (κ₀ κ₁ κ₂ κ₃ : Lft) (q₀ q₁ q₂ q₃ : Share) (c : RefT (List ℤ)) (n : ℤ) (b o : ℕ) (γ : GName) (h : Analysis) (t l : RefT (List ℤ)) where
@@ -113,8 +119,8 @@ module _ {M : Type 1} (𝓤 : URA M) (H : Heap 𝓤) (A : Atoms 𝓤) (W : Given
   abbrev vA : Vs
   vA = (vc ∷ [], (vn ∷ [], (mach h ∷ [], (vt ∷ [], (vl ∷ [], tt)))))
 
-  -- what `advance`'s triple binds outside: the slices' own lifetimes, shares and values
-  abbrev to : Advance 𝓤 H A at-mem at-run .Ghost
+  -- what `run_by_value`'s triple binds outside: the slices' own lifetimes, shares and values
+  abbrev to : ByValue 𝓤 H A at-mem at-run .Ghost
   to = (((κ₀, (κ₂, (κ₃, tt))), (q₀, (q₂, (q₃, tt))), tt, aA, vA), tt)
 
   abbrev OwnC : Fml
@@ -129,7 +135,7 @@ module _ {M : Type 1} (𝓤 : URA M) (H : Heap 𝓤) (A : Atoms 𝓤) (W : Given
   abbrev Passed : Item 𝓤
   Passed = ‵ (owns (ShrSlice (named 0) κ₀ i32 ∷ i32 ∷ R ∷ MutSlice (named 1) κ₂ i32 ∷ MutSlice (named 2) κ₃ i32 ∷ []) aA vA)
 
-  asked : ent 𝓤 (onEntry 𝓤 H A advance.signature (κ₀, (κ₂, (κ₃, tt))) (q₀, (q₂, (q₃, tt))) aA vA) (Advance 𝓤 H A at-mem at-run .pre to)
+  asked : ent 𝓤 (onEntry 𝓤 H A by-value.signature (κ₀, (κ₂, (κ₃, tt))) (q₀, (q₂, (q₃, tt))) aA vA) (ByValue 𝓤 H A at-mem at-run .pre to)
   asked = qed W (Toks ∷ Passed ∷ []) ∵ join ! $ frame ! $ done !
 
   -- what the new record and the answer owe
@@ -152,7 +158,7 @@ module _ {M : Type 1} (𝓤 : URA M) (H : Heap 𝓤) (A : Atoms 𝓤) (W : Given
       nothing ! $ move ! (4 ∷ 0 ∷ []) $ fjoin ! $ move ! (3 ∷ 0 ∷ []) $ fjoin ! $ move ! (1 ∷ 0 ∷ []) $ fjoin ! $ owned ! i32 (Is i32) (sint-makes 𝓤 H A W w32) n _ n-is $ fjoin ! $ move ! (1 ∷ 0 ∷ []) $ fjoin ! $ frame ! $
       owned ! S.the-row (Is S.the-row) (LL.makes S.the-type S′.the-plain 𝓤 H A) (r .answer) _ (answer-is r u g) $ done !
 
-  module _ (C : Calls 𝓤 H) (Λ : Loops 𝓤 H) (fm : FmC 𝓤 H (W .laws) C) (known : Triple 𝓤 (C #calls·advance) (Advance 𝓤 H A at-mem at-run)) where
+  module _ (C : Calls 𝓤 H) (Λ : Loops 𝓤 H) (fm : FmC 𝓤 H (W .laws) C) (known : Triple 𝓤 (C #calls·run-by-value) (ByValue 𝓤 H A at-mem at-run)) where
     walk : Room i32 (length (c .now)) → Is i32 n (vn ∷ []) → Room i32 (length (t .now)) → Room i32 (length (l .now))
         → ent 𝓤 (onEntry 𝓤 H A run.signature (κ₀, (κ₁, (κ₂, (κ₃, tt)))) (q₀, (q₁, (q₂, (q₃, tt)))) a vals) (WpFn 𝓤 H C Λ code.function (vc ∷ vn ∷ vptr b o ∷ vt ∷ vl ∷ []) Post)
     walk rc n-is rt rl =
@@ -171,16 +177,16 @@ module _ {M : Type 1} (𝓤 : URA M) (H : Heap 𝓤) (A : Atoms 𝓤) (W : Given
         assigns ! (agg ! (and-then ! (load ! (from ! (stop !)) (look ! 15 refl)) (and-then ! (load ! (from ! (fld ! refl (stop !))) (look-in ! 23 (sub ! 1 refl (whole !)))) (no-more !)))) (from ! (stop !)) (init ! 13 refl (tt, (tt, (record { fits = rt .0 }, tt)))) $
         assigns ! (addr ! (from ! (fld ! refl (hop ! (look-in ! 21 (sub ! 0 refl (whole !))) (stop !))))) (from ! (stop !)) (init ! 11 refl (tt, tt)) $
         assigns ! (agg ! (and-then ! (load ! (from ! (stop !)) (look ! 11 refl)) (and-then ! (load ! (from ! (fld ! refl (stop !))) (look-in ! 21 (sub ! 1 refl (whole !)))) (no-more !)))) (from ! (stop !)) (init ! 9 refl (tt, (tt, (record { fits = rl .0 }, tt)))) $
-        -- the chart's borrow is had twice, and what `advance` asks is put together
+        -- the chart's borrow is had twice, and what `run_by_value` asks is put together
         move ! (8 ∷ []) $ use1 W (‵ OwnC ⊛ ‵ OwnC) (shr-slice-copy 𝓤 H A W (named 0) κ₀ i32 .twice c (vc ∷ [])) $ split ! $ move ! (9 ∷ []) $ fsplit ! $ move ! (1 ∷ []) $ fsplit ! $ move ! (1 ∷ []) $ drop ! $
         -- [what l owns; t's; c's; c's; the cell; what a record owns; the open borrow; obs; auth; the tokens of κ₂ and
         -- κ₃; that of κ₀; the locals]
         nothing ! $ move ! (1 ∷ 0 ∷ []) $ fjoin ! $ move ! (1 ∷ 0 ∷ []) $ fjoin ! $ move ! (4 ∷ 0 ∷ []) $ fjoin ! $ owned ! i32 (Is i32) (sint-makes 𝓤 H A W w32) n _ n-is $ fjoin ! $ move ! (1 ∷ 0 ∷ []) $ fjoin ! $
-        move ! (7 ∷ 6 ∷ []) $ join ! $ use2 W (raw (Advance 𝓤 H A at-mem at-run .pre to)) asked $
-        -- [what `advance` asks; c's; the cell; the open borrow; obs; auth; _11; …; _0; …]
-        calls-at ! fm (Advance 𝓤 H A at-mem at-run) known to (and-then ! (load ! (from ! (stop !)) (look ! 26 refl)) (and-then ! (load ! (from ! (stop !)) (look ! 24 refl)) (and-then ! (load ! (from ! (stop !)) (look ! 14 refl)) (and-then ! (load ! (from ! (stop !)) (look ! 10 refl)) (and-then ! (load ! (from ! (stop !)) (look ! 6 refl)) (no-more !)))))) (λ u.
-        use1 W (later (some (λ (r : Called). (Toks ⊛ ‵ (N.the-row .own r (u ∷ []))) ⊛ raw (ensured 𝓤 H A advance.ended (advance.clauses 𝓤 H A at-mem at-run) (κ₀, (κ₂, (κ₃, tt))) aA tt r)))) (id⊢ 𝓤 _) $ await ! tt $ pick ! (λ r.
-        split ! $ move ! (1 ∷ []) $ use1 W (some (λ (zs : Lasts). ‵ (lasts advance.ended (κ₀, (κ₂, (κ₃, tt))) aA zs) ⊛ raw (fact 𝓤 (Ends-called out r (zs .1 .1 .1 .0) (zs .1 .1 .1 .1 .0))))) (id⊢ 𝓤 _) $ pick ! (λ zs.
+        move ! (7 ∷ 6 ∷ []) $ join ! $ use2 W (raw (ByValue 𝓤 H A at-mem at-run .pre to)) asked $
+        -- [what `run_by_value` asks; c's; the cell; the open borrow; obs; auth; _11; …; _0; …]
+        calls-at ! fm (ByValue 𝓤 H A at-mem at-run) known to (and-then ! (load ! (from ! (stop !)) (look ! 26 refl)) (and-then ! (load ! (from ! (stop !)) (look ! 24 refl)) (and-then ! (load ! (from ! (stop !)) (look ! 14 refl)) (and-then ! (load ! (from ! (stop !)) (look ! 10 refl)) (and-then ! (load ! (from ! (stop !)) (look ! 6 refl)) (no-more !)))))) (λ u.
+        use1 W (later (some (λ (r : Called). (Toks ⊛ ‵ (N.the-row .own r (u ∷ []))) ⊛ raw (ensured 𝓤 H A by-value.ended (by-value.clauses 𝓤 H A at-mem at-run) (κ₀, (κ₂, (κ₃, tt))) aA tt r)))) (id⊢ 𝓤 _) $ await ! tt $ pick ! (λ r.
+        split ! $ move ! (1 ∷ []) $ use1 W (some (λ (zs : Lasts). ‵ (lasts by-value.ended (κ₀, (κ₂, (κ₃, tt))) aA zs) ⊛ raw (fact 𝓤 (Ends-called out r (zs .1 .1 .1 .0) (zs .1 .1 .1 .1 .0))))) (id⊢ 𝓤 _) $ pick ! (λ zs.
         split ! $ move ! (1 ∷ []) $ heard ! (Ends-called out r (zs .1 .1 .1 .0) (zs .1 .1 .1 .1 .0)) (λ e. fsplit ! $ drop ! $ fsplit ! $ drop ! $ fsplit ! $ drop ! $ fsplit ! $ fsplit ! $ move ! (1 ∷ []) $ feqL ! (λ lt. move ! (1 ∷ []) $ fsplit ! $ fsplit ! $ move ! (1 ∷ []) $ feqL ! (λ ll. move ! (1 ∷ []) $ drop ! $
         -- [the last list of l; of t; the tokens and the result; c's; the cell; the open borrow; obs; auth; the locals]
         move ! (2 ∷ []) $ split ! $ move ! (1 ∷ []) $ peeks ! N.the-row (Is N.the-row) (shows 𝓤 H A N.the-row) r (u ∷ []) (λ is.
@@ -195,7 +201,7 @@ module _ {M : Type 1} (𝓤 : URA M) (H : Heap 𝓤) (A : Atoms 𝓤) (W : Given
         keep ! (0 ∷ 1 ∷ 2 ∷ 3 ∷ 6 ∷ 5 ∷ 4 ∷ []) $ by ! (exits r u is n-is (zs .1 .1 .1 .0) (zs .1 .1 .1 .1 .0) e lt ll))))))))))))))))))))))
 
 module _ {M : Type 1} (𝓤 : URA M) (H : Heap 𝓤) (A : Atoms 𝓤) (W : Given 𝓤 H A) (mem : Memory → SProp 𝓤) (at-run : Routine → Fun 𝓤) where
-  run-walks : (C : Calls 𝓤 H) (Λ : Loops 𝓤 H) → FmC 𝓤 H (W .laws) C → Triple 𝓤 (C #calls·advance) (Advance 𝓤 H A mem at-run) → Walks 𝓤 H A run.ended stayed (WpFn 𝓤 H C Λ code.function) (run.clauses 𝓤 H A mem at-run)
+  run-walks : (C : Calls 𝓤 H) (Λ : Loops 𝓤 H) → FmC 𝓤 H (W .laws) C → Triple 𝓤 (C #calls·run-by-value) (ByValue 𝓤 H A mem at-run) → Walks 𝓤 H A run.ended stayed (WpFn 𝓤 H C Λ code.function) (run.clauses 𝓤 H A mem at-run)
   run-walks C Λ fm known = walked 𝓤 H A run.ended stayed (run.clauses 𝓤 H A mem at-run) (WpFn 𝓤 H C Λ code.function)
       (λ κs. (slice-vals, (sint-vals w32, (ptr-vals, (slice-vals, (slice-vals, tt))))))
       (λ κs. (shr-slice-tells (named 0) (κs .0) i32, (sint-tells w32, (mut-tells (named 1) (κs .1 .0) T.the-row, (mut-slice-tells (named 2) (κs .1 .1 .0) i32, (mut-slice-tells (named 3) (κs .1 .1 .1 .0) i32, tt))))))
@@ -205,7 +211,7 @@ module _ {M : Type 1} (𝓤 : URA M) (H : Heap 𝓤) (A : Atoms 𝓤) (W : Given
   goes : AllGo 𝓤 H A W 4 (run.signature .params) (run.ended .kept) stayed
   goes = (goes-none-slice 𝓤 H A W 4 (0 ∷ []) tt (plain (λ _. i32)) yes, (goes-none 𝓤 H A W 4 (λ _. i32) yes (λ κs x f. refl), (goes-ref 𝓤 H A W 4 1 tt (plain (λ _. T.the-row)), (goes-gave-slice 𝓤 H A W 4 2 tt (plain (λ _. i32)), (goes-gave-slice 𝓤 H A W 4 3 tt (plain (λ _. i32)), tt)))))
 
-run-meets : {M : Type 1} (𝓤 : URA M) (H : Heap 𝓤) (A : Atoms 𝓤) → Given 𝓤 H A → (mem : Memory → SProp 𝓤) (at-run : Routine → Fun 𝓤) (𝓣 : Tables 𝓤 H) → Triple 𝓤 (𝓣 .C #calls·advance) (Advance 𝓤 H A mem at-run)
+run-meets : {M : Type 1} (𝓤 : URA M) (H : Heap 𝓤) (A : Atoms 𝓤) → Given 𝓤 H A → (mem : Memory → SProp 𝓤) (at-run : Routine → Fun 𝓤) (𝓣 : Tables 𝓤 H) → Triple 𝓤 (𝓣 .C #calls·run-by-value) (ByValue 𝓤 H A mem at-run)
     → Meets 𝓤 H A run.signature (WpFn 𝓤 H (𝓣 .C) (𝓣 .Λ) code.function) (run.spec 𝓤 H A mem at-run)
 run-meets 𝓤 H A W mem at-run 𝓣 known =
     walk-meets 𝓤 H A run.ended stayed W (goes 𝓤 H A W mem at-run) (run.clauses 𝓤 H A mem at-run)
@@ -217,4 +223,4 @@ run-spec 𝓤 H 𝓜 𝓖 𝓡 =
     entered 𝓤 H (tripleOf 𝓤 H (𝓖 .A) run.signature (run.spec 𝓤 H (𝓖 .A) (𝓜 .mem) (𝓡 .run)))
     (tables 𝓤 H 𝓜 𝓡 code.env .C) (tables 𝓤 H 𝓜 𝓡 code.env .Λ) #calls·run code.function (code.unfolded 𝓤 H 𝓜 𝓡)
     (run-meets 𝓤 H (𝓖 .A) (givenOf 𝓤 H 𝓜 𝓖) (𝓜 .mem) (𝓡 .run) (tablesOf 𝓤 H 𝓜 (tables 𝓤 H 𝓜 𝓡 code.env))
-    (cited 𝓤 H (Advance 𝓤 H (𝓖 .A) (𝓜 .mem) (𝓡 .run)) 𝓜 𝓡 code.env #calls·advance advance-def.routine code.calls-calls·advance (advance-thm.met 𝓤 H 𝓜 𝓖 𝓡)))
+    (cited 𝓤 H (ByValue 𝓤 H (𝓖 .A) (𝓜 .mem) (𝓡 .run)) 𝓜 𝓡 code.env #calls·run-by-value by-value-def.routine code.calls-calls·run-by-value (by-value-thm.met 𝓤 H 𝓜 𝓖 𝓡)))

@@ -58,12 +58,4 @@ returns-5 c = let o = c .before .before in last (o .before .before) (sym (o .bef
 pub run-refusal-spec : {M : Type 1} → statement M
 run-refusal-spec =
     tie.close
-    (tie.spec
-    (λ c κs. search needs)
-    returns
-    (λ c κs. search needs)
-    returns-2
-    (λ c κs. search needs)
-    returns-3
-    returns-4
-    returns-5)
+    (tie.spec (λ c κs. search needs) returns (λ c κs. search needs) returns-2 (λ c κs. search needs) returns-3 returns-4 returns-5)

@@ -1,6 +1,6 @@
 -- `calls::start` meets its contract: refused, nothing has changed; else the start is put into the words lent.
 -- Assumes nothing.
-use mathlib.Core.Path.{_≡_, refl, sym, ap, _∙_}
+use mathlib.Core.Path.{_≡_, sym, ap, _∙_}
 use mathlib.Core.List.{[]}
 use native.Mathlib.Omega.{arith}
 use borrow.Author.Needs.{needs}
@@ -30,7 +30,7 @@ returns c =
     let s = c .before .before .before in
     ends-refused (k .result) _ (lent (now (s .args .table)) (now (s .args .list)) (s .args .a)) [] _ _
     (k .ensures ∙ ap (λ z. refusal (start-cases (s .args .settings) z (size-of (now (s .args .chart)) (natAbs z) (length (now (s .args .table))) (length (now (s .args .list)))))) (toZ-ofZ w32 (s .args .capacity) (s .fits .capacity)))
-    (c .before .if1 .taken) (c .refused .ensures) refl
+    (c .before .if1 .taken) (c .refuse .ensures)
 
 cast-start-through : tie.Need-cast-start-through
 cast-start-through c =
@@ -54,7 +54,7 @@ returns-2 c =
     let k = c .before .before .before .start-through in
     let m = lent (now (s .args .table)) (now (s .args .list)) (s .args .a) in
     ends-through _ m (lent (k .last .1 .1 .1 .0) (k .last .1 .1 .1 .1 .0) (k .result)) [] _ _ (none f)
-    (rw (toZ-ofZ w32 (s .args .capacity) (s .fits .capacity)) at (k .ensures (s .args .a))) (c .gone-through .ensures) refl
+    (rw (toZ-ofZ w32 (s .args .capacity) (s .fits .capacity)) at (k .ensures (s .args .a))) (c .go-through .ensures)
 
 pub start-spec : {M : Type 1} → statement M
 start-spec =

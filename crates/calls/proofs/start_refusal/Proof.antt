@@ -44,11 +44,4 @@ returns-3 c =
 pub start-refusal-spec : {M : Type 1} → statement M
 start-refusal-spec =
     tie.close
-    (tie.spec
-    (λ c κs. search needs)
-    returns
-    (λ c κs. search needs)
-    returns-2
-    cast-size-refusal
-    (λ c κs. search needs)
-    returns-3)
+    (tie.spec (λ c κs. search needs) returns (λ c κs. search needs) returns-2 cast-size-refusal (λ c κs. search needs) returns-3)

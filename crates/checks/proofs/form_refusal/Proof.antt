@@ -10,6 +10,7 @@ use Rattle.semantics.specs.Memory.{analysis-ok}
 use Rattle.semantics.specs.Outcomes.{Case, case, refusal, size-of, form-of}
 use Rattle.semantics.proofs.FirstCase.{NoneHolds, none-holds, enough, later, sooner}
 use Rattle.checks.specs.Form.{lent}
+use Rattle.checks.proofs.FormTests.{stride-is}
 use Rattle.checks.proofs.form_refusal.Statement.{statement}
 use Rattle.checks.proofs.form_refusal.Tie as tie
 
@@ -39,14 +40,15 @@ returns c = let s = c .before .before in sooner (size s) (rest s) _ (c .before .
 
 analysis-ok-requires : tie.Need-analysis-ok-requires
 analysis-ok-requires c κs =
-    let s = start c .args in
-    enough (decode (s .chart .now)) (s .a .capacity) (length (s .table .now)) (length (s .list .now)) (none c .1 .0)
+    let s = start (c .before) .args in
+    let h = enough (decode (s .chart .now)) (s .a .capacity) (length (s .table .now)) (length (s .list .now)) (none (c .before) .1 .0) in
+    record { layout = c .layout-of .ensures; table = rw (stride-is (s .chart .now) (c .layout-of .ensures)) (h .0); list = h .1 }
 
 returns-2 : tie.Need-returns-2
-returns-2 c = last (c .before .before) (sym (c .before .analysis-ok .ensures) ∙ not-true _ (c .if2 .taken))
+returns-2 c = last (c .before .before .before) (sym (c .before .analysis-ok .ensures) ∙ not-true _ (c .if2 .taken))
 
 returns-3 : tie.Need-returns-3
-returns-3 c = last (c .before .before) (sym (c .before .analysis-ok .ensures) ∙ not-false _ (c .if2 .left))
+returns-3 c = last (c .before .before .before) (sym (c .before .analysis-ok .ensures) ∙ not-false _ (c .if2 .left))
 
 pub form-refusal-spec : {M : Type 1} → statement M
-form-refusal-spec = tie.close (tie.spec (λ c κs. search needs) returns analysis-ok-requires returns-2 returns-3)
+form-refusal-spec = tie.close (tie.spec (λ c κs. search needs) returns (λ c κs. search needs) analysis-ok-requires returns-2 returns-3)

@@ -1,6 +1,6 @@
 -- `checks::rows_ok` meets its contract. The invariant: `from` is the first word of slot s, and the slots in use pass
 -- exactly when those from s on do. Assumes nothing.
-use mathlib.Core.Path.{_≡_, sym, ap, subst, _∙_}
+use mathlib.Core.Path.{_≡_, sym, ap, _∙_}
 use mathlib.Core.Bool.{Bool, true, false, _&&_}
 use mathlib.Core.List.{List}
 use Prim.Native.Nat.{ℕ, suc, _+_, _-_, _*_, _≤_}
@@ -10,43 +10,52 @@ use native.Mathlib.Omega.{arith}
 use borrow.Author.Needs.{needs}
 use borrow.Author.Tests.{not-true, not-false}
 use lib.IntN.{ℤ}
-use lib.ListN.{length, take, drop}
+use lib.ListN.{length, drop}
 use Rattle.semantics.specs.Encoding.{decode}
-use Rattle.semantics.specs.Memory.{width, row-ok, rows-ok}
+use Rattle.semantics.specs.Memory.{width, rows-ok}
 use Rattle.words.proofs.Rows.{span, part-length, row-in}
-use Rattle.semantics.proofs.Decoded.{width-is}
-use Rattle.checks.proofs.FormTests.{rows-turn}
+use Rattle.checks.proofs.FormTests.{width-is, stride-is, rows-turn}
 use Rattle.checks.proofs.rows_ok.Statement.{statement}
 use Rattle.checks.proofs.rows_ok.Tie as tie
 
 abbrev Inv-loop : tie.InvT-loop
-Inv-loop chart table used w from₀ s₀ from s =
-    (s ≤ used) × (from ≡ s * w) × (rows-ok (decode chart) used table ≡ rows-ok (decode chart) (used - s) (drop from table))
+Inv-loop chart table used w stride from₀ s₀ from s =
+    (s ≤ used) × (from ≡ s * stride) × (rows-ok (decode chart) used table ≡ rows-ok (decode chart) (used - s) (drop from table))
 
 abbrev μ-loop : tie.MeasureT-loop
-μ-loop chart table used w from₀ s₀ from s = used - s
+μ-loop chart table used w stride from₀ s₀ from s = used - s
 
 loop-holds : tie.Need-loop-holds Inv-loop μ-loop
-loop-holds c = (omega arith, sym (zero-mul (c .width .result)), rw (sub-zero (c .before .args .used)))
+loop-holds c = (omega arith, sym (zero-mul (c .before .args .layout .stride)), rw (sub-zero (c .before .args .used)))
 
 -- the row at `from` is in the table
 module _ (c : tie.In-loop Inv-loop μ-loop) where
+  abbrev start : tie.Start Inv-loop μ-loop
+  start = c .before .before .before
+
+  abbrev chart : List ℤ
+  chart = start .args .chart .now
+
+  abbrev table : List ℤ
+  table = start .args .table .now
+
+  abbrev used : ℕ
+  used = start .args .used
+
   abbrev w : ℕ
   w = c .before .before .width .result
 
-  abbrev used : ℕ
-  used = c .before .before .before .args .used
+  abbrev stride : ℕ
+  stride = start .args .layout .stride
 
-  abbrev table : List ℤ
-  table = c .before .before .before .args .table .now
+  wide : w ≡ width (decode chart)
+  wide = c .before .before .width .ensures ∙ width-is chart (start .pre .0)
 
-  wide : w ≡ width (decode (c .before .before .before .args .chart .now))
-  wide = c .before .before .width .ensures .0 ∙ width-is (c .before .before .before .args .chart .now)
+  next : c .before .loop .from + stride ≤ length table
+  next = omega (arith, start .pre .1, c .before .loop .inv .1, row-in (c .before .loop .s) used stride (c .loop-test .taken))
 
   room : c .before .loop .from + w ≤ length table
-  room =
-      let all : used * w ≤ length table = subst (λ (n : ℕ). used * n ≤ length table) (sym wide) (c .before .before .before .pre) in
-      omega (arith, all, c .before .loop .inv .1, row-in (c .before .loop .s) used w (c .loop-test .taken))
+  room = omega (arith, next, wide, stride-is chart (start .pre .0))
 
 row-ok-requires : tie.Need-row-ok-requires Inv-loop μ-loop
 row-ok-requires c κs =
@@ -55,24 +64,22 @@ row-ok-requires c κs =
 
 turn : (c : tie.After-row-ok Inv-loop μ-loop) (b : Bool) → c .row-ok .result ≡ b →
     let p = c .before .before in
-    let d = decode (p .before .before .before .args .chart .now) in
-    rows-ok d (used p) (table p) ≡ b && rows-ok d (used p - (p .before .loop .s + 1)) (drop (p .before .loop .from + w p) (table p))
+    let d = decode (chart p) in
+    rows-ok d (used p) (table p) ≡ b && rows-ok d (used p - (p .before .loop .s + 1)) (drop (p .before .loop .from + stride p) (table p))
 turn c b h =
     let p = c .before .before in
     let l = p .before .loop in
-    let chart = p .before .before .before .args .chart .now in
     let n : used p - l .s ≡ suc (used p - (l .s + 1)) = omega (arith, p .loop-test .taken) in
-    let q : row-ok (decode chart) (take (w p) (drop (l .from) (table p))) ≡ b = sym (rw span at (c .row-ok .ensures)) ∙ h in
-    l .inv .2 ∙ ap (λ (n : ℕ). rows-ok (decode chart) n (drop (l .from) (table p))) n
-    ∙ rows-turn chart (table p) (l .from) (w p) (used p - (l .s + 1)) (wide p) b q
+    l .inv .2 ∙ ap (λ (n : ℕ). rows-ok (decode (chart p)) n (drop (l .from) (table p))) n
+    ∙ rows-turn (chart p) (table p) (l .from) (w p) (stride p) (used p - (l .s + 1)) (wide p) (stride-is (chart p) (start p .pre .0)) b (sym (rw span at (c .row-ok .ensures)) ∙ h)
 
 returns : tie.Need-returns Inv-loop μ-loop
 returns c = sym (turn (c .before) false (not-true (c .before .row-ok .result) (c .if1 .taken)))
 
 loop-again : tie.Need-loop-again Inv-loop μ-loop
 loop-again c =
-    let l = c .before .before .before .before .loop in
-    (omega (arith, c .before .before .before .loop-test .taken), rw (add-one, suc-mul, l .inv .1), turn (c .before) true (not-false (c .before .row-ok .result) (c .if1 .left)))
+    let p = c .before .before .before in
+    (omega (arith, p .loop-test .taken), rw (add-one, suc-mul, p .before .loop .inv .1), turn (c .before) true (not-false (c .before .row-ok .result) (c .if1 .left)))
 
 returns-2 : tie.Need-returns-2 Inv-loop μ-loop
 returns-2 c =
@@ -86,7 +93,7 @@ rows-ok-spec =
     (tie.spec
     Inv-loop
     μ-loop
-    (λ c κs. search needs)
+    (λ c κs. c .pre .0 .1)
     loop-holds
     (λ c. omega (arith, room c))
     (λ c. omega (arith, room c))
@@ -95,6 +102,7 @@ rows-ok-spec =
     (λ c. room c)
     row-ok-requires
     returns
+    (λ c. omega (arith, next (c .before .before .before)))
     (λ c. search needs)
     (λ c. search needs)
     loop-again

@@ -1,16 +1,20 @@
 -- `checks::size_refusal` meets its contract. Assumes nothing.
 use mathlib.Core.Path.{_≡_, refl, sym, _∙_}
-use mathlib.Core.Bool.{Bool, true, not}
+use mathlib.Core.Bool.{Bool, true, _||_, not}
 use mathlib.Core.List.{[], _∷_}
+use Prim.Native.Nat.{_*_}
+use native.Mathlib.Omega.{arith}
+use lib.Dec.{ltb}
 use borrow.Author.Needs.{needs}
 use borrow.Author.Tests.{not-true, not-false}
 use Rattle.semantics.specs.Encoding.{decode, well-formed}
-use Rattle.semantics.specs.Outcomes.{case, refusal, short, size-of}
+use Rattle.semantics.specs.Outcomes.{case, refusal, too-few, size-of}
+use Rattle.checks.proofs.FormTests.{width-is, stride-is}
 use Rattle.checks.proofs.size_refusal.Statement.{statement}
 use Rattle.checks.proofs.size_refusal.Tie as tie
 
 -- by what the tests say
-by-tests : (s : tie.Start) {f b : Bool} → well-formed (s .args .chart .now) ≡ f → short (decode (s .args .chart .now)) (s .args .capacity) (s .args .table) (s .args .list) ≡ b
+by-tests : (s : tie.Start) {f b : Bool} → well-formed (s .args .chart .now) ≡ f → too-few (decode (s .args .chart .now)) (s .args .capacity) (s .args .table) (s .args .list) ≡ b
     → refusal (case 20 (not f) ∷ case 14 b ∷ []) ≡ refusal (size-of (s .args .chart .now) (s .args .capacity) (s .args .table) (s .args .list))
 by-tests s p q = sym (λ j. refusal (case 20 (not (p j)) ∷ case 14 (q j) ∷ []))
 
@@ -20,11 +24,21 @@ formed c = sym (c .before .well-formed .ensures) ∙ not-false _ (c .if1 .left)
 returns : tie.Need-returns
 returns c = by-tests (c .before .before) (sym (c .before .well-formed .ensures) ∙ not-true _ (c .if1 .taken)) refl
 
+-- 14, by the layout
+few : (c : tie.After-too-few) → let s = c .before .before .before .before .args in c .too-few .result ≡ too-few (decode (s .chart .now)) (s .capacity) (s .table) (s .list)
+few c =
+    let y = c .before .layout-of in
+    let s = c .before .before .before .before .args in
+    c .too-few .ensures ∙ λ j. ltb (s .table) (s .capacity * stride-is (s .chart .now) (y .ensures) j) || ltb (s .list) (s .capacity)
+
 returns-2 : tie.Need-returns-2
-returns-2 c = let f = c .before .before in by-tests (f .before .before) (formed f) (sym (c .before .is-short .ensures) ∙ c .if2 .taken)
+returns-2 c = let f = c .before .before .before in by-tests (f .before .before) (formed f) (sym (few (c .before)) ∙ c .if2 .taken)
 
 returns-3 : tie.Need-returns-3
-returns-3 c = let f = c .before .before in by-tests (f .before .before) (formed f) (sym (c .before .is-short .ensures) ∙ c .if2 .left)
+returns-3 c = let f = c .before .before .before in by-tests (f .before .before) (formed f) (sym (few (c .before)) ∙ c .if2 .left)
+
+too-few-requires : tie.Need-too-few-requires
+too-few-requires c κs = let ws = c .before .before .before .args .chart .now in omega (arith, c .layout-of .ensures .1, stride-is ws (c .layout-of .ensures), width-is ws (c .layout-of .ensures))
 
 pub size-refusal-spec : {M : Type 1} → statement M
-size-refusal-spec = tie.close (tie.spec (λ c κs. search needs) returns (λ c κs. search needs) returns-2 returns-3)
+size-refusal-spec = tie.close (tie.spec (λ c κs. search needs) returns (λ c κs. search needs) too-few-requires returns-2 returns-3)

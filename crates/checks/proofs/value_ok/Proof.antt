@@ -1,9 +1,9 @@
 -- `checks::value_ok` meets its contract. Assumes nothing.
-use lib.IntN.{pos}
 use borrow.Author.Needs.{needs}
 use mir.Syntax.{w32}
 use mir.Facts.{sfits-lit}
 use mir.ValLaws.{toZ-ofZ}
+use Rattle.semantics.specs.Layout.{top-word}
 use Rattle.words.proofs.Words.{bits-eqb}
 use Rattle.checks.proofs.value_ok.Statement.{statement}
 use Rattle.checks.proofs.value_ok.Tie as tie
@@ -13,7 +13,7 @@ returns c =
     let s = c .before in
     rw (
       c .lies-within .ensures,
-      bits-eqb w32 {b = pos 32768} (s .fits .x) (sfits-lit tt),
+      bits-eqb w32 {b = top-word} (s .fits .x) (sfits-lit tt),
       toZ-ofZ w32 (s .args .x) (s .fits .x),
       toZ-ofZ w32 (s .args .lo) (s .fits .lo),
       toZ-ofZ w32 (s .args .hi) (s .fits .hi),

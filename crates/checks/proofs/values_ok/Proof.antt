@@ -3,18 +3,19 @@
 use mathlib.Core.Path.{_≡_, sym, ap, _∙_}
 use mathlib.Core.Bool.{Bool, true, false, _&&_, _||_}
 use mathlib.Core.List.{List}
-use Prim.Native.Nat.{ℕ, suc, _+_, _-_, _*_, _≤_}
+use Prim.Native.Nat.{ℕ, suc, _+_, _-_, _≤_}
 use native.Mathlib.Nat.{sub-zero}
 use native.Mathlib.Omega.{arith}
 use borrow.Author.Needs.{needs, sfits-of}
 use borrow.Author.Tests.{not-true, not-false}
-use lib.IntN.{ℤ, pos}
-use lib.ListN.{length, drop, getD, drop-of-length-le}
+use lib.IntN.{ℤ}
+use lib.ListN.{length, drop, drop-of-length-le}
 use mir.Syntax.{w32}
 use mir.ValLaws.{toZ-ofZ}
 use Rattle.semantics.specs.Lists.{all-pairs}
 use Rattle.semantics.specs.Chart.{eqZ, within}
-use Rattle.semantics.specs.Encoding.{several, var-in}
+use Rattle.semantics.specs.Layout.{top-word, counts-size, variable-size, variable-at, high-place}
+use Rattle.semantics.specs.Encoding.{several, var-in, word-at}
 use Rattle.semantics.specs.Memory.{value-ok}
 use Rattle.checks.proofs.FormTests.{values-turn}
 use Rattle.checks.proofs.values_ok.Statement.{statement}
@@ -23,7 +24,7 @@ use Rattle.checks.proofs.values_ok.Tie as tie
 abbrev Inv-loop : tie.InvT-loop
 Inv-loop chart values i₀ i =
     (i ≤ length values)
-    × (all-pairs value-ok (several var-in 3 (length values) (drop 3 chart)) values ≡ all-pairs value-ok (several var-in 3 (length values - i) (drop (3 + 3 * i) chart)) (drop i values))
+    × (all-pairs value-ok (several var-in variable-size (length values) (drop counts-size chart)) values ≡ all-pairs value-ok (several var-in variable-size (length values - i) (drop (variable-at i) chart)) (drop i values))
 
 abbrev μ-loop : tie.MeasureT-loop
 μ-loop chart values i₀ i = length values - i
@@ -39,31 +40,31 @@ module _ (c : tie.After-value-ok Inv-loop μ-loop) where
   i = c .before .before .before .before .before .loop .i
 
   abbrev at : ℕ
-  at = 3 + 3 * i
+  at = variable-at i
 
   abbrev x : ℤ
-  x = getD values i (pos 0)
+  x = word-at values i
 
-  tested : c .value-ok .result ≡ (eqZ x (pos 32768) || within (getD chart at (pos 0)) (getD chart (at + 1) (pos 0)) x)
+  tested : c .value-ok .result ≡ (eqZ x top-word || within (word-at chart at) (word-at chart (at + high-place)) x)
   tested =
       let p = c .before .before .before .variable-low in
       let q = c .before .before .variable-high in
       let lo = toZ-ofZ w32 (p .result) (sfits-of {z = p .result} (p .ok)) ∙ p .ensures in
       let hi = toZ-ofZ w32 (q .result) (sfits-of {z = q .result} (q .ok)) ∙ q .ensures in
       let y = toZ-ofZ w32 x (sfits-of {z = x} (c .before .x .given)) in
-      c .value-ok .ensures ∙ (λ j. eqZ (y j) (pos 32768) || within (lo j) (hi j) (y j))
+      c .value-ok .ensures ∙ (λ j. eqZ (y j) top-word || within (lo j) (hi j) (y j))
 
   turn : (b : Bool) → c .value-ok .result ≡ b →
-      all-pairs value-ok (several var-in 3 (length values) (drop 3 chart)) values
-      ≡ b && all-pairs value-ok (several var-in 3 (length values - (i + 1)) (drop (3 + 3 * (i + 1)) chart)) (drop (i + 1) values)
+      all-pairs value-ok (several var-in variable-size (length values) (drop counts-size chart)) values
+      ≡ b && all-pairs value-ok (several var-in variable-size (length values - (i + 1)) (drop (variable-at (i + 1)) chart)) (drop (i + 1) values)
   turn b e =
       let h = c .before .before .before .before .loop-test .taken in
       let n : length values - i ≡ suc (length values - (i + 1)) = omega (arith, h) in
-      let next : 3 + 3 * i + 3 ≡ 3 + 3 * (i + 1) = omega arith in
+      let next : at + variable-size ≡ variable-at (i + 1) = omega arith in
       c .before .before .before .before .before .loop .inv .1
-      ∙ ap (λ (n : ℕ). all-pairs value-ok (several var-in 3 n (drop at chart)) (drop i values)) n
+      ∙ ap (λ (n : ℕ). all-pairs value-ok (several var-in variable-size n (drop at chart)) (drop i values)) n
       ∙ values-turn values i h b chart at (length values - (i + 1)) (sym tested ∙ e)
-      ∙ ap (λ (n : ℕ). b && all-pairs value-ok (several var-in 3 (length values - (i + 1)) (drop n chart)) (drop (i + 1) values)) next
+      ∙ ap (λ (n : ℕ). b && all-pairs value-ok (several var-in variable-size (length values - (i + 1)) (drop n chart)) (drop (i + 1) values)) next
 
 returns : tie.Need-returns Inv-loop μ-loop
 returns c = sym (turn (c .before) false (not-true (c .before .value-ok .result) (c .if1 .taken)))

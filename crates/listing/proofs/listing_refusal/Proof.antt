@@ -81,10 +81,4 @@ returns-4 c =
 pub listing-refusal-spec : {M : Type 1} → statement M
 listing-refusal-spec =
     tie.close
-    (tie.spec
-    (λ c κs. search needs)
-    returns
-    returns-2
-    listing-length-requires
-    returns-3
-    returns-4)
+    (tie.spec (λ c κs. search needs) returns returns-2 listing-length-requires returns-3 returns-4)

@@ -7,15 +7,12 @@ use Rattle.listing.proofs.put_counts.Tie as tie
 
 returns : tie.Need-returns
 unfolding counts-text
-returns c = put-then (c .before .before .before .before .before .before .before .before .before .before .put-number .ensures) (put-then (c .before .before .before .before .before .before .put-number2 .ensures) (c .before .before .put-number3 .ensures))
+returns c =
+    let third = c .before .before in
+    let second = third .before .before .before .before in
+    put-then (second .before .before .before .before .put-number .ensures) (put-then (second .put-number2 .ensures) (third .put-number3 .ensures))
 
 pub put-counts-spec : {M : Type 1} → statement M
 put-counts-spec =
     tie.close
-    (tie.spec
-    (λ c. search needs)
-    (λ c κs. search needs)
-    (λ c κs. search needs)
-    (λ c κs. search needs)
-    (λ c. search needs)
-    returns)
+    (tie.spec (λ c. search needs) (λ c κs. search needs) (λ c κs. search needs) (λ c κs. search needs) (λ c. search needs) returns)

@@ -6,16 +6,13 @@ use Rattle.listing.proofs.put_header.Statement.{statement}
 use Rattle.listing.proofs.put_header.Tie as tie
 
 returns : tie.Need-returns
-returns c = put-same (header-is _) (put-then (c .before .before .before .before .before .before .before .before .before .before .before .before .before .before .put-bytes .ensures) (put-then (c .before .before .before .before .before .before .before .before .before .before .put-words .ensures) (put-then (c .before .before .before .before .before .before .put-counts .ensures) (c .before .before .put-byte .ensures))))
+returns c =
+    let end = c .before .before in
+    let counts = end .before .before .before .before in
+    let words = counts .before .before .before .before in
+    put-same (header-is _) (put-then (words .before .before .before .before .put-bytes .ensures) (put-then (words .put-words .ensures) (put-then (counts .put-counts .ensures) (end .put-byte .ensures))))
 
 pub put-header-spec : {M : Type 1} → statement M
 put-header-spec =
     tie.close
-    (tie.spec
-    (λ c. search needs)
-    (λ c κs. search needs)
-    (λ c κs. search needs)
-    (λ c κs. search needs)
-    (λ c κs. search needs)
-    (λ c. search needs)
-    returns)
+    (tie.spec (λ c. search needs) (λ c κs. search needs) (λ c κs. search needs) (λ c κs. search needs) (λ c κs. search needs) (λ c. search needs) returns)

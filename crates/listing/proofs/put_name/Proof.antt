@@ -1,4 +1,4 @@
--- `listing::put_name` meets its contract. The invariant: the bytes passed are written after the tab.
+-- `listing::put_name` meets its contract. The invariant: with the bytes left, the name is written after the tab.
 -- Assumes nothing.
 use mathlib.Core.Path.{_≡_, refl, sym, ap, _∙_}
 use mathlib.Core.List.{List, map}
@@ -7,59 +7,57 @@ use native.Mathlib.Numerals.{add-one}
 use native.Mathlib.Omega.{arith}
 use borrow.Author.Needs.{needs, sfits-of}
 use lib.IntN.{pos, natAbs}
-use lib.ListN.{length, take, getD, length-map, List·getD-map}
-use lib.Seq.{take-suc, take-all}
+use lib.ListN.{length, getD, length-map, List·getD-map, drop-of-length-le, drop}
+use lib.Seq.{drop-cons}
 use mir.Syntax.{w32}
 use mir.ValLaws.{toZ-ofZ}
 use Rattle.chart.specs.Encoded.{byte-of}
 use Rattle.chart.proofs.NameBytes.{names-are-bytes}
-use Rattle.writer.specs.Writing.{Put}
-use Rattle.writer.proofs.Written.{put-then, put-same}
+use Rattle.writer.proofs.Written.{put-then, put-same, Completes, one-more, all-put}
 use Rattle.listing.specs.Pieces.{tabbed}
-use Rattle.listing.proofs.TextPieces.{put-start}
 use Rattle.listing.proofs.put_name.Statement.{statement}
 use Rattle.listing.proofs.put_name.Tie as tie
 
 abbrev Inv-loop : tie.InvT-loop
-Inv-loop out₀ at chart name place₀ i₀ out place i = (i ≤ length name) × (length out ≡ length out₀) × Put place₀ (take i (map natAbs name)) out₀ out place
+Inv-loop out₀ at chart name place₀ i₀ out place i = (i ≤ length name) × (length out ≡ length out₀) × Completes place₀ (map natAbs name) out₀ place (drop i (map natAbs name)) out
 
 abbrev μ-loop : tie.MeasureT-loop
 μ-loop out₀ at chart name place₀ i₀ out place i = length name - i
 
-loop-holds : tie.Need-loop-holds Inv-loop μ-loop
-loop-holds c = (omega arith, refl, put-start (c .before .before .put-byte .ensures))
-
 -- the byte is the name's
 module _ (c : tie.After-name-byte Inv-loop μ-loop) where
+  abbrev turn : tie.At-loop Inv-loop μ-loop
+  turn = c .before .before .before
+
+  abbrev named : tie.After-name Inv-loop μ-loop
+  named = turn .before .before .before .before .before
+
   abbrev bytes : List ℕ
-  bytes = map natAbs (c .before .before .before .before .before .before .before .before .name .result .now)
+  bytes = map natAbs (named .name .result .now)
 
-  abbrev place : ℕ
-  place = c .before .before .before .loop .i
-
-  byte : c .name-byte .result ≡ getD bytes place 0
+  byte : c .name-byte .result ≡ getD bytes (turn .loop .i) 0
   byte =
-      let n = c .before .before .before .before .before .before .before .before .name in
-      let s = c .before .before .before .before .before .before .before .before .before .before in
+      let s = named .before .before in
       let w = rw (toZ-ofZ w32 _ (sfits-of (c .before .name-byte-arg .given))) at (c .name-byte .ensures) in
-      w ∙ ap byte-of (sym (List·getD-map natAbs (n .result .now) place (pos 0)))
-      ∙ rw (n .ensures) (names-are-bytes (s .args .chart .now) (s .pre) (s .args .l .0) place)
+      w ∙ ap byte-of (sym (List·getD-map natAbs (named .name .result .now) (turn .loop .i) (pos 0)))
+      ∙ rw (named .name .ensures) (names-are-bytes (s .args .chart .now) (s .pre) (s .args .l .0) (turn .loop .i))
 
 loop-again : tie.Need-loop-again Inv-loop μ-loop
 loop-again c =
-    let b = c .before .before .before .before in
-    let l = b .before .before .before .loop in (
+    let p = c .before .before in
+    let b = p .before .before in
+    let l = turn b .loop in (
       omega arith,
-      c .before .before .put-byte2 .kept .0 ∙ l .inv .1,
-      rw (add-one, take-suc (bytes b) (l .i) 0 (rw length-map (b .before .before .loop-test .taken)), ← byte b) (put-then (l .inv .2) (c .before .before .put-byte2 .ensures)),
+      p .put-byte2 .kept .0 ∙ l .inv .1,
+      one-more (l .inv .2) (rw (add-one, drop-cons (bytes b) (l .i) 0 (rw length-map (b .before .before .loop-test .taken)), ← byte b)) (p .put-byte2 .ensures),
     )
 
 returns : tie.Need-returns Inv-loop μ-loop
 returns c =
-    let l = c .before .loop in
-    let n = c .before .before .before .before .before .before .name in
-    let e : take (l .i) (map natAbs (n .result .now)) ≡ map natAbs (n .result .now) = take-all (l .i) (map natAbs (n .result .now)) (rw length-map (omega arith)) in
-    put-same (ap tabbed (e ∙ n .ensures)) (put-then (c .before .before .before .before .put-byte .ensures) (l .inv .2))
+    let p = c .before .before .before .before in
+    let n = p .before .before .name in
+    let e : length (map natAbs (n .result .now)) ≤ c .before .loop .i = rw length-map (c .loop-test .left) in
+    put-same (ap tabbed (n .ensures)) (put-then (p .put-byte .ensures) (all-put (c .before .loop .inv .2) (drop-of-length-le _ e) (omega arith)))
 
 pub put-name-spec : {M : Type 1} → statement M
 put-name-spec =
@@ -69,7 +67,7 @@ put-name-spec =
     μ-loop
     (λ c κs. search needs)
     (λ c κs. search needs)
-    loop-holds
+    (λ c. (omega arith, refl, λ _ _ p. p))
     (λ c. search needs)
     (λ c. search needs)
     (λ c κs. search needs)

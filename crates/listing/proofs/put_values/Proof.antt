@@ -1,42 +1,34 @@
--- `listing::put_values` meets its contract. The invariant: the values passed are written after what stood first.
--- Assumes nothing.
-use mathlib.Core.Path.{_≡_, refl, ap, _∙_}
+-- `listing::put_values` meets its contract. The invariant: with the values left, all are written. Assumes nothing.
+use mathlib.Core.Path.{_≡_, refl, _∙_}
 use Prim.Native.Nat.{_-_, _≤_}
 use native.Mathlib.Omega.{arith}
 use borrow.Author.Needs.{needs, sfits-of}
-use denote.Ref.{now}
-use lib.ListN.{length, take}
-use lib.Seq.{take-all}
+use lib.ListN.{length, drop, drop-of-length-le}
 use mir.Syntax.{w32}
 use mir.ValLaws.{toZ-ofZ}
-use Rattle.writer.specs.Writing.{Put}
-use Rattle.writer.proofs.Written.{put-then, put-same}
+use Rattle.writer.proofs.Written.{Completes, one-more, all-put}
 use Rattle.listing.specs.Pieces.{values-text}
-use Rattle.listing.proofs.TextPieces.{values-turn, put-start}
+use Rattle.listing.proofs.TextPieces.{values-turn}
 use Rattle.listing.proofs.put_values.Statement.{statement}
 use Rattle.listing.proofs.put_values.Tie as tie
 
 abbrev Inv-loop : tie.InvT-loop
-Inv-loop out₀ at values place₀ i₀ out place i = (i ≤ length values) × (length out ≡ length out₀) × Put place₀ (values-text (take i values)) out₀ out place
+Inv-loop out₀ at values place₀ i₀ out place i = (i ≤ length values) × (length out ≡ length out₀) × Completes at (values-text values) out₀ place (values-text (drop i values)) out
 
 abbrev μ-loop : tie.MeasureT-loop
 μ-loop out₀ at values place₀ i₀ out place i = length values - i
 
-loop-holds : tie.Need-loop-holds Inv-loop μ-loop
-unfolding values-text
-loop-holds c = (omega arith, refl, put-start (c .before .before .put-bytes .ensures))
-
 loop-again : tie.Need-loop-again Inv-loop μ-loop
 loop-again c =
-    let t = c .before .before .before .before .before in
-    let vs = now (t .before .before .before .before .before .before .before .before .args .values) in (
-      omega arith,
-      c .before .before .put-value .kept .0 ∙ t .before .loop .inv .1,
-      rw (values-turn vs (t .before .loop .i) (t .loop-test .taken)) (put-then (t .before .loop .inv .2) (rw (toZ-ofZ w32 _ (sfits-of (c .before .before .before .before .w .given))) at (c .before .before .put-value .ensures))),
-    )
+    let p = c .before .before in
+    let w = p .before .before in
+    let l = w .before .before in
+    let put = rw (toZ-ofZ w32 _ (sfits-of (w .w .given))) at (p .put-value .ensures) in
+    (omega arith, p .put-value .kept .0 ∙ l .loop .inv .1, one-more (l .loop .inv .2) (values-turn _ (l .loop .i) (w .before .loop-test .taken)) put)
 
 returns : tie.Need-returns Inv-loop μ-loop
-returns c = put-same (ap values-text (take-all _ _ (c .loop-test .left))) (put-then (c .before .before .before .before .put-bytes .ensures) (c .before .loop .inv .2))
+unfolding values-text
+returns c = all-put (c .before .loop .inv .2) (rw (drop-of-length-le _ (c .loop-test .left))) (omega arith)
 
 pub put-values-spec : {M : Type 1} → statement M
 put-values-spec =
@@ -44,9 +36,7 @@ put-values-spec =
     (tie.spec
     Inv-loop
     μ-loop
-    (λ c. search needs)
-    (λ c κs. search needs)
-    loop-holds
+    (λ c. (omega arith, refl, λ _ _ p. p))
     (λ c. search needs)
     (λ c. search needs)
     (λ c κs. search needs)

@@ -32,8 +32,9 @@ put-slots-requires c κs =
 
 returns : tie.Need-returns
 returns c =
-    let a = c .before .before .before .before .before .before .before .before .before .before .args in
-    put-same (listing-is (decode (a .chart .now)) (a .table .now) (a .list .now) (a .a)) (put-then (c .before .before .before .before .before .before .before .put-header .ensures) (c .before .before .put-slots .ensures))
+    let h = c .before .before .before .before .before .before .before in
+    let a = h .before .before .before .args in
+    put-same (listing-is (decode (a .chart .now)) (a .table .now) (a .list .now) (a .a)) (put-then (h .put-header .ensures) (c .before .before .put-slots .ensures))
 
 pub write-listing-spec : {M : Type 1} → statement M
 write-listing-spec =

@@ -1,42 +1,56 @@
 -- `program::put_chart` meets its contract. Assumes nothing.
-use mathlib.Core.Path.{refl}
-use Prim.Native.Nat.{_≤_}
+use mathlib.Core.Path.{_≡_, refl}
+use mathlib.Core.List.{List}
+use Prim.Native.Nat.{ℕ, _≤_}
 use native.Mathlib.Omega.{arith}
 use borrow.Author.Needs.{needs}
-use denote.Ref.{now}
+use lib.Dec.{T}
 use lib.ListN.{length}
-use Rattle.semantics.specs.Reading.{read}
+use Rattle.semantics.specs.Encoding.{decode, well-formed}
+use Rattle.semantics.specs.Reading.{refused, accepted, read}
 use Rattle.semantics.specs.Program.{print-read}
 use Rattle.semantics.proofs.Input.{go-fine}
 use Rattle.semantics.proofs.OutputShort.{read-short}
-use Rattle.program.specs.Responded.{asking}
+use Rattle.program.specs.Asked.{asking}
 use Rattle.program.proofs.Charted.{read-refused, read-accepted, put-printed}
 use Rattle.program.proofs.put_chart.Statement.{statement}
 use Rattle.program.proofs.put_chart.Tie as tie
 
+-- what reading answered
+module _ (k : tie.After-read) where
+  abbrev start : tie.Start
+  start = k .before .before .before .before
+
+  abbrev chart : List ℕ
+  chart = start .args .chart .now
+
+  refuses : (k .read .result .number ≡ 0 → ⊥) → read chart ≡ refused (k .read .result .number) (k .read .result .line)
+  refuses = read-refused chart _ _ (k .read .result) refl (k .read .ensures .0) (k .read .ensures .1)
+
+  accepts : k .read .result .number ≡ 0 → T (well-formed (k .read .last .1 .0)) × (read chart ≡ accepted (decode (k .read .last .1 .0)))
+  accepts = read-accepted chart _ _ (k .read .result) refl (k .read .ensures .0) (k .read .ensures .1)
+
 returns : tie.Need-returns
 returns c =
-    let s = c .before .before .before .before .before .before .before .before .before .before .before in
-    let a = s .args in
-    let k = c .before .before .before .before .before .before .before .read in
-    let e = read-refused (now (a .chart)) _ _ (k .result) refl (k .ensures .0) (k .ensures .1) (c .before .before .before .before .if1 .taken) in
-    let l : length (print-read (asking (a .go)) (read (now (a .chart)))) ≤ length (now (a .out))
-    = omega (arith, s .pre .0, read-short (asking (a .go)) (go-fine (s .pre .1 .input) (asking (a .go)) (s .pre .1 .is)) (now (a .chart))) in
+    let i = c .before .before .before .before in
+    let k = i .before .before .before in
+    let s = start k in
+    let g = asking (s .args .go) in
+    let e = refuses k (i .if1 .taken) in
+    let l : length (print-read g (read (chart k))) ≤ length (s .args .out .now)
+    = omega (arith, s .pre .0, read-short g (go-fine (s .pre .1 .input) g (s .pre .1 .is)) (chart k)) in
     rw e (put-printed (c .before .before .put-refusal .ensures) (rw e at l))
 
 put-listing-requires : tie.Need-put-listing-requires
 put-listing-requires c κs =
-    let s = c .before .before .before .before .before .before .before .before .before in
-    let a = s .args in
-    let k = c .before .before .before .before .before .read in
-    (read-accepted (now (a .chart)) _ _ (k .result) refl (k .ensures .0) (k .ensures .1) (c .before .before .if1 .left) .0, s .pre .0, s .pre .1)
+    let i = c .before .before in
+    let k = i .before .before .before in
+    (accepts k (i .if1 .left) .0, start k .pre .0, start k .pre .1)
 
 returns-2 : tie.Need-returns-2
 returns-2 c =
-    let s = c .before .before .before .before .before .before .before .before .before .before .before .before in
-    let a = s .args in
-    let k = c .before .before .before .before .before .before .before .before .read in
-    rw (read-accepted (now (a .chart)) _ _ (k .result) refl (k .ensures .0) (k .ensures .1) (c .before .before .before .before .before .if1 .left) .1) (c .before .before .put-listing .ensures)
+    let i = c .before .before .before .before .before in
+    rw (accepts (i .before .before .before) (i .if1 .left) .1) (c .before .before .put-listing .ensures)
 
 pub put-chart-spec : {M : Type 1} → statement M
 put-chart-spec =

@@ -12,7 +12,7 @@ use Rattle.program.proofs.respond.Statement.{statement}
 use Rattle.program.proofs.respond.Tie as tie
 
 -- what the go line asks
-asks : (c : tie.After-go) → Asks (now (c .before .before .before .before .args .input)) (c .go .given .0 .0)
+asks : (c : tie.After-go) → Asks (now (c .before .before .before .before .args .input)) (c .go .given .0 .0) (c .go .given .0 .1 .0)
 asks c = subst (λ (x : GoLine). GoRead (now (c .before .before .before .before .args .input)) x) (c .go .given .1) (c .before .before .read .ensures)
 
 sub-put-chart : tie.Need-sub-put-chart
@@ -38,7 +38,7 @@ returns c =
 returns-2 : tie.Need-returns-2
 returns-2 c =
     let m = c .before .before .before .before in
-    printed-is (charted-output (now (m .before .before .before .before .args .input)) (m .go .given .0 .0) (asks m)) (c .put-chart .ensures)
+    printed-is (charted-output (now (m .before .before .before .before .args .input)) (m .go .given .0 .0) (m .go .given .0 .1 .0) (asks m)) (c .put-chart .ensures)
 
 pub respond-spec : {M : Type 1} → statement M
 respond-spec =

@@ -2,7 +2,7 @@
 use borrow.Author.Needs.{needs}
 use mir.Syntax.{w32}
 use mir.ValLaws.{toZ-ofZ}
-use Rattle.tarknotter.proofs.Left.{left}
+use Rattle.tarknotter.proofs.ByCodes.{by-codes}
 use Rattle.tarknotter.proofs.tarknotter_run.Statement.{statement}
 use Rattle.tarknotter.proofs.tarknotter_run.Tie as tie
 
@@ -11,7 +11,7 @@ returns c =
     let k = c .before .before .before in
     let i = k .before .before .before in
     let s = i .before in
-    left (rw (toZ-ofZ w32 (s .args .budget) (s .fits .budget), i .analysis-in .ensures) at (k .run-by-value .ensures)) (c .answered .ensures)
+    by-codes (rw (toZ-ofZ w32 (s .args .budget) (s .fits .budget), i .analysis-in .ensures) at (k .run-by-value .ensures)) (c .answered .ensures)
 
 pub tarknotter-run-spec : {M : Type 1} → statement M
 tarknotter-run-spec =

@@ -9,7 +9,7 @@ use mir.ValLaws.{toZ-ofZ}
 use Rattle.semantics.specs.Memory.{Memory}
 use Rattle.checks.specs.Form.{lent}
 use Rattle.tarknotter.specs.Records.{analysis-in}
-use Rattle.tarknotter.proofs.Left.{left, start-named, start-unnamed}
+use Rattle.tarknotter.proofs.ByCodes.{by-codes, start-named, start-unnamed}
 use Rattle.tarknotter.proofs.tarknotter_start.Statement.{statement}
 use Rattle.tarknotter.proofs.tarknotter_start.Tie as tie
 
@@ -36,7 +36,7 @@ returns-2 c =
     start-named (now (s .args .chart)) (s .args .merge) (s .args .stop) (s .args .order) (s .args .capacity) (memory s)
     (sym (n .settings-named .ensures) ∙ not-false (n .settings-named .result) (z .before .if1 .left))
     in
-    left (rw (toZ-ofZ w32 (s .args .capacity) (s .fits .capacity), i .analysis-in .ensures, z .settings-in .ensures, named) at (k .start .ensures)) (c .answered .ensures)
+    by-codes (rw (toZ-ofZ w32 (s .args .capacity) (s .fits .capacity), i .analysis-in .ensures, z .settings-in .ensures, named) at (k .start .ensures)) (c .answered .ensures)
 
 pub tarknotter-start-spec : {M : Type 1} → statement M
 tarknotter-start-spec =

@@ -3,6 +3,7 @@ use mathlib.Core.Path.{_≡_, sym, ap, _∙_}
 use Prim.Native.Nat.{ℕ, _+_}
 use borrow.Author.Needs.{needs}
 use borrow.Author.Tests.{ne-eqb}
+use Rattle.semantics.specs.Layout.{operation-place, skip-code, set-code, add-code, sub-code, in-code}
 use Rattle.semantics.specs.Encoding.{count}
 use Rattle.transfer.specs.Transfer.{assume-at, op-by}
 use Rattle.transfer.proofs.apply.Statement.{statement}
@@ -11,7 +12,7 @@ use Rattle.transfer.proofs.apply.Tie as tie
 -- the operation's code, as the chart has it
 module _ (c : tie.After-edge-operation) where
   abbrev op : ℕ
-  op = count (c .before .args .chart .now) (c .before .args .edge .at + 2)
+  op = count (c .before .args .chart .now) (c .before .args .edge .at + operation-place)
 
   code : (n : ℕ) → c .edge-operation .result ≡ n → op ≡ n
   code n e = sym (c .edge-operation .ensures .0) ∙ e
@@ -21,23 +22,23 @@ module _ (c : tie.After-edge-operation) where
 
 returns : tie.Need-returns
 unfolding op-by
-returns c = rw (code (c .before) 0 (c .match .keys1))
+returns c = rw (code (c .before) skip-code (c .match .keys1))
 
 returns-2 : tie.Need-returns-2
 unfolding op-by
-returns-2 c = let m = c .before .before .before in rw (code (m .before) 1 (m .match .keys2)) (c .before .assign .ensures)
+returns-2 c = let m = c .before .before .before in rw (code (m .before) set-code (m .match .keys2)) (c .before .assign .ensures)
 
 returns-3 : tie.Need-returns-3
 unfolding op-by
-returns-3 c = let m = c .before .before .before in rw (code (m .before) 2 (m .match .keys3)) (c .before .add .ensures)
+returns-3 c = let m = c .before .before .before in rw (code (m .before) add-code (m .match .keys3)) (c .before .add .ensures)
 
 returns-4 : tie.Need-returns-4
 unfolding op-by
-returns-4 c = let m = c .before .before .before in rw (code (m .before) 3 (m .match .keys4)) (c .before .sub .ensures)
+returns-4 c = let m = c .before .before .before in rw (code (m .before) sub-code (m .match .keys4)) (c .before .sub .ensures)
 
 returns-5 : tie.Need-returns-5
 unfolding op-by
-returns-5 c = let m = c .before .before .before in rw (code (m .before) 4 (m .match .keys5)) (c .before .input .ensures)
+returns-5 c = let m = c .before .before .before in rw (code (m .before) in-code (m .match .keys5)) (c .before .input .ensures)
 
 returns-6 : tie.Need-returns-6
 unfolding op-by
@@ -46,11 +47,11 @@ returns-6 c =
     let r = m .match .rest in
     let p = m .before in
     rw (
-      ne-eqb (op p) 0 (not-code p 0 (r .0 .0 .0 .0 .1)),
-      ne-eqb (op p) 1 (not-code p 1 (r .0 .0 .0 .1)),
-      ne-eqb (op p) 2 (not-code p 2 (r .0 .0 .1)),
-      ne-eqb (op p) 3 (not-code p 3 (r .0 .1)),
-      ne-eqb (op p) 4 (not-code p 4 (r .1)),
+      ne-eqb (op p) skip-code (not-code p skip-code (r .0 .0 .0 .0 .1)),
+      ne-eqb (op p) set-code (not-code p set-code (r .0 .0 .0 .1)),
+      ne-eqb (op p) add-code (not-code p add-code (r .0 .0 .1)),
+      ne-eqb (op p) sub-code (not-code p sub-code (r .0 .1)),
+      ne-eqb (op p) in-code (not-code p in-code (r .1)),
     )
     (c .before .assume .ensures ∙ ap (λ (n : ℕ). assume-at (p .before .args .chart .now) n (p .before .args .edge .at) (p .before .args .row .now)) (p .edge-operation .ensures .0))
 

@@ -1,10 +1,10 @@
 -- `transfer::assign` meets its contract. Assumes nothing.
 use mathlib.Core.Path.{_∙_}
 use borrow.Author.Needs.{needs, sfits-of}
-use lib.IntN.{pos}
 use mir.Syntax.{w32, w64}
 use mir.Facts.{sfits-lit}
 use mir.ValLaws.{toZ-ofZ}
+use Rattle.semantics.specs.Layout.{top-word}
 use Rattle.words.proofs.Words.{bits-eqb}
 use Rattle.transfer.specs.Transfer.{assign-at}
 use Rattle.transfer.proofs.assign.Statement.{statement}
@@ -19,7 +19,7 @@ returns c =
     let w = c .before .before .before .wide .result in
     c .before .put-value .ensures
     ∙ rw (
-      bits-eqb w32 {a = a} {b = pos 32768} fa (sfits-lit tt),
+      bits-eqb w32 {a = a} {b = top-word} fa (sfits-lit tt),
       toZ-ofZ w64 w (sfits-of {z = w} (c .before .before .before .wide .ok)),
       c .before .before .before .wide .ensures,
       toZ-ofZ w32 a fa,

@@ -6,6 +6,7 @@ use borrow.Author.Tests.{ne-eqb}
 use mir.Syntax.{w32}
 use mir.Val.{toZ, ofZ}
 use mir.ValLaws.{toZ-ofZ}
+use Rattle.semantics.specs.Layout.{eq-code, ne-code, lt-code, le-code, gt-code}
 use Rattle.words.proofs.Words.{bits-eqb}
 use Rattle.transfer.specs.Transfer.{holds-by}
 use Rattle.transfer.proofs.holds.Statement.{statement}
@@ -21,23 +22,23 @@ module _ (s : tie.Start) (n : ℕ) (e : s .args .n ≡ n) where
 
 returns : tie.Need-returns
 unfolding holds-by
-returns c = let s = c .before in bits-eqb w32 (s .fits .a) (s .fits .b) ∙ coded s 5 (c .match .keys1)
+returns c = let s = c .before in bits-eqb w32 (s .fits .a) (s .fits .b) ∙ coded s eq-code (c .match .keys1)
 
 returns-2 : tie.Need-returns-2
 unfolding holds-by
-returns-2 c = let s = c .before in ap not (bits-eqb w32 (s .fits .a) (s .fits .b)) ∙ coded s 6 (c .match .keys2)
+returns-2 c = let s = c .before in ap not (bits-eqb w32 (s .fits .a) (s .fits .b)) ∙ coded s ne-code (c .match .keys2)
 
 returns-3 : tie.Need-returns-3
 unfolding holds-by
-returns-3 c = read (c .before) 7 (c .match .keys3)
+returns-3 c = read (c .before) lt-code (c .match .keys3)
 
 returns-4 : tie.Need-returns-4
 unfolding holds-by
-returns-4 c = read (c .before) 8 (c .match .keys4)
+returns-4 c = read (c .before) le-code (c .match .keys4)
 
 returns-5 : tie.Need-returns-5
 unfolding holds-by
-returns-5 c = read (c .before) 9 (c .match .keys5)
+returns-5 c = read (c .before) gt-code (c .match .keys5)
 
 returns-6 : tie.Need-returns-6
 unfolding holds-by
@@ -45,11 +46,11 @@ returns-6 c =
     let s = c .before in
     let r = c .match .rest in
     rw (
-      ne-eqb (s .args .n) 5 (r .0 .0 .0 .0 .1),
-      ne-eqb (s .args .n) 6 (r .0 .0 .0 .1),
-      ne-eqb (s .args .n) 7 (r .0 .0 .1),
-      ne-eqb (s .args .n) 8 (r .0 .1),
-      ne-eqb (s .args .n) 9 (r .1),
+      ne-eqb (s .args .n) eq-code (r .0 .0 .0 .0 .1),
+      ne-eqb (s .args .n) ne-code (r .0 .0 .0 .1),
+      ne-eqb (s .args .n) lt-code (r .0 .0 .1),
+      ne-eqb (s .args .n) le-code (r .0 .1),
+      ne-eqb (s .args .n) gt-code (r .1),
       toZ-ofZ w32 (s .args .a) (s .fits .a),
       toZ-ofZ w32 (s .args .b) (s .fits .b),
     )

@@ -1,13 +1,14 @@
 -- `transfer::initial` meets its contract. Assumes nothing.
-use mathlib.Core.Path.{_≡_, sym, ap, _∙_}
+use mathlib.Core.Path.{_≡_, sym, _∙_}
 use mathlib.Core.List.{_++_}
-use Prim.Native.Nat.{ℕ, _+_, _-_, _*_, _<_, _≤_}
+use Prim.Native.Nat.{_+_, _-_, _<_, _≤_}
 use native.Mathlib.Omega.{arith}
 use borrow.Author.Needs.{needs, sfits-of}
-use lib.ListN.{length, take, set, length-set}
+use lib.ListN.{length, take}
 use mir.Syntax.{w32}
-use mir.Val.{toZ, ofZ}
 use mir.ValLaws.{toZ-ofZ}
+use Rattle.semantics.specs.Layout.{variable-size, variable-at, init-place}
+use Rattle.state.proofs.Layouts.{id-fits}
 use Rattle.transfer.specs.Transfer.{initial-row, initial-words}
 use Rattle.transfer.proofs.TransferTests.{initial-start, initial-turn, initial-end}
 use Rattle.transfer.proofs.initial.Statement.{statement}
@@ -15,49 +16,54 @@ use Rattle.transfer.proofs.initial.Tie as tie
 
 abbrev Inv-loop : tie.InvT-loop
 Inv-loop chart out₀ n k₀ out k =
-    (k ≤ n) × (length out ≡ n + 1) × (initial-row chart ≡ take (k + 1) out ++ initial-words chart (3 + 3 * k + 2) (n + 1 - (k + 1)))
+    (k ≤ n) × (length out ≡ n + 1) × (initial-row chart ≡ take (k + 1) out ++ initial-words chart (variable-at k + init-place) (n + 1 - (k + 1)))
 
 abbrev μ-loop : tie.MeasureT-loop
 μ-loop chart out₀ n k₀ out k = n - k
 
 loop-holds : tie.Need-loop-holds Inv-loop μ-loop
 loop-holds c =
-    let o = c .before .args .out .now in
+    let l = c .before in
+    let v = l .before .before .var-count in
+    let a = l .before .before .before .args in
+    let o = a .out .now in
     let h : 0 < length o = omega arith in
-    (omega arith, simp length-set (omega (arith, c .var-count .ensures .0)), initial-start (c .before .args .chart .now) o (c .var-count .result) h (c .var-count .ensures .0))
+    (omega arith, omega (arith, l .set-location .kept .0, v .ensures .0), rw (l .set-location .ensures, id-fits 0 (omega arith)) (initial-start (a .chart .now) o (v .result) h (v .ensures .0)))
 
 loop-again : tie.Need-loop-again Inv-loop μ-loop
 loop-again c =
-    let b = c .before .before in
-    let ws = b .before .before .args .chart .now in
+    let s = c .before .set-value in
+    let i = c .before .before .before .variable-init in
+    let b = c .before .before .before .before .before in
+    let p = b .before .before .before .before in
+    let ws = p .before .args .chart .now in
     let o = b .loop .out in
     let k = b .loop .k in
-    let n = b .before .var-count .result in
-    let x = c .variable-init .result in
-    let y = toZ w32 (ofZ w32 x) in
-    let v = toZ-ofZ w32 x (sfits-of {z = x} (c .variable-init .ok)) ∙ c .variable-init .ensures in
+    let n = p .var-count .result in
+    let x = i .result in
     let h : k + 1 < length o = omega arith in
     let l : k + 1 ≤ n = omega arith in
-    let next : 3 + 3 * k + 2 + 3 ≡ 3 + 3 * (k + 1) + 2 = omega arith in (
+    let next : variable-at k + init-place + variable-size ≡ variable-at (k + 1) + init-place = omega arith in (
       omega arith,
-      simp length-set (b .loop .inv .1),
-      b .loop .inv .2 ∙ initial-turn ws o (k + 1) (3 + 3 * k + 2) n y v h l
-          ∙ ap (λ (at : ℕ). take (k + 1 + 1) (set o (k + 1) y) ++ initial-words ws at (n + 1 - (k + 1 + 1))) next,
+      s .kept .0 ∙ b .loop .inv .1,
+      b .loop .inv .2 ∙ initial-turn ws o (k + 1) (variable-at k + init-place) n x (i .ensures) h l
+          ∙ rw (next, s .ensures, toZ-ofZ w32 x (sfits-of {z = x} (i .ok))),
     )
 
 same-length : tie.Need-same-length Inv-loop μ-loop
 same-length c =
     let b = c .before in
-    omega (arith, b .loop .inv .1, b .before .var-count .ensures .0)
+    omega (arith, b .loop .inv .1, b .before .before .before .before .var-count .ensures .0)
 
 returns : tie.Need-returns Inv-loop μ-loop
 returns c =
     let b = c .before in
+    let p = b .before .before .before .before in
     let k = b .loop .k in
-    let n = b .before .var-count .result in
+    let n = p .var-count .result in
     let h : length (b .loop .out) ≤ k + 1 = omega arith in
     let l : n < k + 1 = omega arith in
-    sym (b .loop .inv .2 ∙ initial-end (b .before .before .args .chart .now) (b .loop .out) (k + 1) (3 + 3 * k + 2) n h l)
+    sym (b .loop .inv .2 ∙ initial-end (p .before .args .chart .now) (b .loop .out) (k + 1) (variable-at k + init-place) n h l)
 
 pub initial-spec : {M : Type 1} → statement M
 initial-spec =
@@ -66,12 +72,11 @@ initial-spec =
     Inv-loop
     μ-loop
     (λ c κs. search needs)
-    (λ c. omega arith)
+    (λ c κs. omega arith)
     loop-holds
-    (λ c κs. omega (arith, c .before .before .var-count .ensures .1))
-    (λ c. omega arith)
-    (λ c. omega arith)
-    (λ c. omega arith)
+    (λ c κs. omega (arith, c .before .before .before .before .before .var-count .ensures .1))
+    (λ c κs. omega (arith, c .before .before .before .before .before .before .before .var-count .ensures .1))
+    (λ c. omega (arith, c .before .before .before .before .before .before .before .before .before .var-count .ensures .1))
     (λ c. omega arith)
     loop-again
     same-length

@@ -16,7 +16,7 @@ returns c =
     let a = p .first-value .result in
     let b = q .second-value .result in
     rw (
-      c .before .put .ensures,
+      c .before .set-value .ensures,
       toZ-ofZ w32 x (sfits-of {z = x} (j .join-word .ok)),
       j .join-word .ensures,
       toZ-ofZ w32 a (sfits-of {z = a} (p .first-value .ok)),

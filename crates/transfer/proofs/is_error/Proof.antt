@@ -1,11 +1,12 @@
 -- `transfer::is_error` meets its contract. Assumes nothing.
 use mathlib.Core.Path.{ap, _∙_}
+use mathlib.Core.Bool.{true}
 use Prim.Native.Nat.{ℕ, _+_, _*_}
 use borrow.Author.Needs.{needs}
-use lib.IntN.{pos}
-use lib.ListN.{getD}
 use Rattle.semantics.specs.Chart.{eqZ}
-use Rattle.semantics.specs.Encoding.{count}
+use Rattle.semantics.specs.Layout.{location-size}
+use Rattle.semantics.specs.Encoding.{word-at, kind-word}
+use Rattle.chart.specs.Encoded.{locations-at}
 use Rattle.transfer.specs.Transfer.{error-row}
 use Rattle.transfer.proofs.is_error.Statement.{statement}
 use Rattle.transfer.proofs.is_error.Tie as tie
@@ -15,7 +16,7 @@ unfolding error-row
 returns c =
     let l = c .before in
     let ws = l .before .args .chart .now in
-    c .is-error-location .ensures ∙ ap (λ (n : ℕ). eqZ (getD ws (3 + 3 * count ws 0 + 17 * n) (pos 0)) (pos 1)) (l .location-of .ensures .0)
+    c .is-error-location .ensures ∙ ap (λ (n : ℕ). eqZ (word-at ws (locations-at ws + location-size * n)) (kind-word true)) (l .location-of .ensures .0)
 
 pub is-error-spec : {M : Type 1} → statement M
 is-error-spec = tie.close (tie.spec (λ c κs. search needs) (λ c κs. search needs) returns)

@@ -17,14 +17,14 @@ returns-2 : tie.Need-returns-2
 returns-2 c =
     let m = c .before in
     let s = m .before .before in
-    let r = c .word-at .result in
+    let r = c .value-at .result in
     rw (
       bits-ne w32 {a = s .args .tag} {b = pos 0} (s .fits .tag) (sfits-lit tt) (m .before .if1 .left),
-      toZ-ofZ w32 r (sfits-of {z = r} (c .word-at .ok)),
-      c .word-at .ensures,
+      toZ-ofZ w32 r (sfits-of {z = r} (c .value-at .ok)),
+      c .value-at .ensures,
       m .magnitude .ensures .0,
       toZ-ofZ w32 (s .args .w) (s .fits .w),
     )
 
 pub operand-spec : {M : Type 1} → statement M
-operand-spec = tie.close (tie.spec returns (λ c κs. search needs) (λ c. search needs) (λ c κs. search needs) returns-2)
+operand-spec = tie.close (tie.spec returns (λ c κs. search needs) (λ c κs. search needs) returns-2)

@@ -1,14 +1,15 @@
 -- `transfer::put_ranged` meets its contract. Assumes nothing.
 use mathlib.Core.Path.{_≡_, sym, _∙_}
-use Prim.Native.Nat.{_+_, _*_}
+use Prim.Native.Nat.{_+_}
 use borrow.Author.Needs.{needs, sfits-of}
 use borrow.Author.Tests.{not-true, not-false}
-use lib.IntN.{ℤ, pos}
-use lib.ListN.{getD}
+use lib.IntN.{ℤ}
 use mir.Syntax.{w32, w64}
 use mir.Val.{SFits}
 use mir.ValLaws.{toZ-ofZ}
+use Rattle.semantics.specs.Layout.{variable-at, high-place}
 use Rattle.semantics.specs.Chart.{within}
+use Rattle.semantics.specs.Encoding.{word-at}
 use Rattle.transfer.specs.Transfer.{set-ranged}
 use Rattle.transfer.proofs.TransferTests.{within-fits}
 use Rattle.transfer.proofs.put_ranged.Statement.{statement}
@@ -33,7 +34,7 @@ module _ (c : tie.After-lies-within) where
         toZ-ofZ w64 (start .args .z) (start .fits .z),
       )
 
-  in-range : c .lies-within .result ≡ within (getD (start .args .chart .now) (3 + 3 * start .args .k) (pos 0)) (getD (start .args .chart .now) (3 + 3 * start .args .k + 1) (pos 0)) (start .args .z)
+  in-range : c .lies-within .result ≡ within (word-at (start .args .chart .now) (variable-at (start .args .k))) (word-at (start .args .chart .now) (variable-at (start .args .k) + high-place)) (start .args .z)
   in-range =
       let p = c .before .before .variable-low .ensures in
       let q = c .before .variable-high .ensures in
@@ -59,7 +60,7 @@ returns-2 c =
     let h = c .before .before .before in
     let s = h .before .before .before .before in
     let z = s .args .z in
-    rw (sym (in-range (h .before)) ∙ not-false _ (h .if1 .left), c .before .put .ensures, toZ-ofZ w64 z (s .fits .z), toZ-ofZ w32 z (fits h))
+    rw (sym (in-range (h .before)) ∙ not-false _ (h .if1 .left), c .before .set-value .ensures, toZ-ofZ w64 z (s .fits .z), toZ-ofZ w32 z (fits h))
 
 pub put-ranged-spec : {M : Type 1} → statement M
 put-ranged-spec =

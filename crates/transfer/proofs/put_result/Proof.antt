@@ -1,10 +1,10 @@
 -- `transfer::put_result` meets its contract. Assumes nothing.
 use mathlib.Core.Path.{_∙_}
 use borrow.Author.Needs.{needs}
-use lib.IntN.{pos}
 use mir.Syntax.{w32, w64}
 use mir.Facts.{sfits-lit}
 use mir.ValLaws.{toZ-ofZ}
+use Rattle.semantics.specs.Layout.{top-word}
 use Rattle.words.proofs.Words.{bits-eqb}
 use Rattle.transfer.specs.Transfer.{set-result}
 use Rattle.transfer.proofs.put_result.Statement.{statement}
@@ -17,8 +17,8 @@ returns c =
     let s = t .before in
     c .before .put-value .ensures
     ∙ rw (
-      bits-eqb w32 {b = pos 32768} (s .fits .a) (sfits-lit tt),
-      bits-eqb w32 {b = pos 32768} (s .fits .b) (sfits-lit tt),
+      bits-eqb w32 {b = top-word} (s .fits .a) (sfits-lit tt),
+      bits-eqb w32 {b = top-word} (s .fits .b) (sfits-lit tt),
       toZ-ofZ w64 (s .args .z) (s .fits .z),
       t .edge-target .ensures .0,
     )

@@ -9,7 +9,7 @@ use Rattle.transfer.proofs.put_value.Tie as tie
 
 returns : tie.Need-returns
 unfolding set-value
-returns c = rw (c .before .before .before .if1 .taken, c .before .put .ensures)
+returns c = rw (c .before .before .before .if1 .taken, c .before .set-value .ensures)
 
 returns-2 : tie.Need-returns-2
 unfolding set-value

@@ -3,11 +3,11 @@ use mathlib.Core.Path.{_≡_, sym, ap, _∙_}
 use mathlib.Core.Bool.{Bool, _&&_, not}
 use borrow.Author.Needs.{needs, sfits-of}
 use lib.Dec.{eqb}
-use lib.IntN.{pos}
 use mir.Syntax.{w32, w64}
 use mir.Facts.{sfits-lit}
 use mir.Val.{ofZ}
 use mir.ValLaws.{toZ-ofZ}
+use Rattle.semantics.specs.Layout.{top-word, eq-code}
 use Rattle.semantics.specs.Chart.{eqZ}
 use Rattle.words.proofs.Words.{bits-eqb}
 use Rattle.transfer.specs.Transfer.{refine-by}
@@ -15,8 +15,8 @@ use Rattle.transfer.proofs.refine.Statement.{statement}
 use Rattle.transfer.proofs.refine.Tie as tie
 
 -- the test, of the word and of its bits
-tested : (s : tie.Start) → (not (eqZ (s .args .x) (pos 32768)) && eqb (s .args .n) 5) ≡ (not (eqb (ofZ w32 (s .args .x)) (ofZ w32 (pos 32768))) && eqb (s .args .n) 5)
-tested s = ap (λ (b : Bool). not b && eqb (s .args .n) 5) (sym (bits-eqb w32 {b = pos 32768} (s .fits .x) (sfits-lit tt)))
+tested : (s : tie.Start) → (not (eqZ (s .args .x) top-word) && eqb (s .args .n) eq-code) ≡ (not (eqb (ofZ w32 (s .args .x)) (ofZ w32 top-word)) && eqb (s .args .n) eq-code)
+tested s = ap (λ (b : Bool). not b && eqb (s .args .n) eq-code) (sym (bits-eqb w32 {b = top-word} (s .fits .x) (sfits-lit tt)))
 
 returns : tie.Need-returns
 unfolding refine-by

@@ -1,34 +1,31 @@
 -- `transfer::successor` meets its contract. Assumes nothing.
 use mathlib.Core.Path.{_≡_, sym, _∙_}
-use borrow.Author.Needs.{needs, sfits-of}
+use borrow.Author.Needs.{needs}
 use lib.Dec.{eqb}
-use lib.ListN.{length-set}
-use mir.Syntax.{w32}
-use mir.ValLaws.{toZ-ofZ}
 use Rattle.semantics.specs.Encoding.{count}
+use Rattle.state.specs.Rows.{location-in}
 use Rattle.transfer.specs.Transfer.{post-at}
 use Rattle.transfer.proofs.successor.Statement.{statement}
 use Rattle.transfer.proofs.successor.Tie as tie
 
 -- the test that the edge leaves the row's location
 module _ (c : tie.After-same-location) where
-  leaves : c .same-location .result ≡ eqb (count (c .before .before .before .args .chart .now) (c .before .before .before .args .edge .at)) (count (c .before .before .before .args .row .now) 0)
+  leaves : c .same-location .result ≡ eqb (count (c .before .before .before .args .chart .now) (c .before .before .before .args .edge .at)) (location-in (c .before .before .before .args .row .now))
   leaves = c .same-location .ensures ∙ rw (c .before .before .edge-from .ensures .0, c .before .location-of .ensures .0)
 
 same-length : tie.Need-same-length
 same-length c =
-    let w = c .before .before .before .before .before .before in
-    c .before .apply .kept .1 .1 .0 ∙ length-set (w .copy-words .last .0) 0 _ ∙ w .copy-words .kept .0
+    let l = c .before .before .before .before in
+    c .before .apply .kept .1 .1 .0 ∙ l .set-location .kept .0 ∙ l .before .before .before .before .copy-words .kept .0
 
 returns : tie.Need-returns
 unfolding post-at
 returns c =
-    let l = c .before .before .before in
-    let k = l .before .before .before in
+    let l = c .before .before .before .before in
+    let k = l .before .before .before .before in
     let i = k .before .before in
-    let w = l .location-word .result in
     rw (sym (leaves (i .before)) ∙ i .if1 .taken)
-    (c .before .apply .ensures ∙ rw (toZ-ofZ w32 w (sfits-of {z = w} (l .location-word .ok)), l .location-word .ensures, l .before .edge-to .ensures .0, k .copy-words .ensures))
+    (c .before .apply .ensures ∙ rw (l .set-location .ensures, l .before .before .edge-to .ensures .0, k .copy-words .ensures))
 
 returns-2 : tie.Need-returns-2
 unfolding post-at
@@ -44,7 +41,6 @@ successor-spec =
     (λ c κs. search needs)
     (λ c κs. search needs)
     (λ c κs. search needs)
-    (λ c. search needs)
     (λ c κs. search needs)
     same-length
     returns

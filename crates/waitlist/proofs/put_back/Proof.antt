@@ -1,15 +1,16 @@
 -- `waitlist::put_back` meets its contract. Assumes nothing.
-use Prim.Native.Nat.{_<_}
+use Prim.Native.Nat.{_+_, _<_}
 use native.Mathlib.Omega.{arith}
 use lib.ListN.{length}
 use borrow.Author.Needs.{needs}
+use Rattle.semantics.specs.Layout.{index-limit}
 use Rattle.waitlist.specs.Waits.{waits, Stored}
-use Rattle.waitlist.proofs.WaitWords.{held, kept, back-room}
+use Rattle.waitlist.proofs.WaitWords.{waits-are, kept, back-room}
 use Rattle.waitlist.proofs.put_back.Statement.{statement}
 use Rattle.waitlist.proofs.put_back.Tie as tie
 
 -- the slot, taken out, finds a place
-ready : (r : tie.After-remove) → Stored (r .remove .last .0) (r .remove .result) (waits (r .remove .result) (r .remove .last .0)) × (r .remove .result < length (r .remove .last .0)) × (r .before .before .args .slot .0 < 65536)
+ready : (r : tie.After-remove) → Stored (r .remove .last .0) (r .remove .result) (waits (r .remove .result) (r .remove .last .0)) × (r .remove .result < length (r .remove .last .0)) × (r .before .before .args .slot .0 + 1 < index-limit)
 ready r =
     let s = r .before .before in
     let m = back-room (length (s .args .list .now)) (s .args .slot .0) (waits (s .args .count) (s .args .list .now)) (s .pre .3) (s .pre .1) in
@@ -18,12 +19,12 @@ ready r =
 returns : tie.Need-returns
 returns c =
     let r = c .before .before .before .before .before .before in
-    rw (c .before .before .before .enum-told .given .1, ← held (r .remove .ensures)) (c .before .prepend .ensures)
+    rw (c .before .before .before .enum-told .given .1, ← waits-are (r .remove .ensures)) (c .before .prepend .ensures)
 
 returns-2 : tie.Need-returns-2
 returns-2 c =
     let r = c .before .before .before .before .before .before in
-    rw (c .before .before .before .enum-told2 .given .1, ← held (r .remove .ensures)) (c .before .append .ensures)
+    rw (c .before .before .before .enum-told2 .given .1, ← waits-are (r .remove .ensures)) (c .before .append .ensures)
 
 pub put-back-spec : {M : Type 1} → statement M
 put-back-spec =

@@ -44,9 +44,11 @@ put-decimal-requires t c κs = (omega (arith, c .before .before .before .pre .0,
 
 returns-2 : (t : ℕ) → put-decimal-lts.Need-returns-2 (cited t) (here t) put-decimal.Post
 returns-2 t c =
-    let s = c .before .before .before .before .before .before .before .before .before .before .before in
-    let d = put-same (ap (λ (k : ℕ). k ∷ []) (c .before .before .before .last-digit2 .ensures)) (c .before .before .put-byte2 .ensures) in
-    put-same (sym (decimal-more (s .args .n) (c .before .before .before .before .before .before .before .before .before .if1 .left))) (put-then (c .before .before .before .before .before .before .before .put-decimal .ensures) d)
+    let l = c .before .before .before in
+    let p = l .before .before .before .before in
+    let i = p .before .before in
+    let d = put-same (ap (λ (k : ℕ). k ∷ []) (l .last-digit2 .ensures)) (c .before .before .put-byte2 .ensures) in
+    put-same (sym (decimal-more (i .before .before .args .n) (i .if1 .left))) (put-then (p .put-decimal .ensures) d)
 
 pub +put-decimal-spec : {M : Type 1} → statement M
 +put-decimal-spec =

@@ -1,51 +1,36 @@
--- `writer::put_bytes` meets its contract: the bytes passed are put. Assumes nothing.
+-- `writer::put_bytes` meets its contract: with the bytes left, all are put. Assumes nothing.
 use borrow.Author.Needs.{needs}
 use native.Mathlib.Omega.{arith}
 use mathlib.Core.Path.{_≡_, refl, _∙_}
 use Prim.Native.Nat.{_-_, _≤_}
 use native.Mathlib.Numerals.{add-one}
-use denote.Ref.{now}
-use lib.ListN.{length, take}
-use lib.Seq.{take-suc, take-all}
-use Rattle.writer.specs.Writing.{Put}
-use Rattle.writer.proofs.Written.{put-none, put-then, put-same}
+use lib.ListN.{length, drop, drop-of-length-le}
+use lib.Seq.{drop-cons}
+use Rattle.writer.proofs.Written.{Completes, one-more, all-put}
 use Rattle.writer.proofs.put_bytes.Statement.{statement}
 use Rattle.writer.proofs.put_bytes.Tie as tie
 
 abbrev Inv-loop : tie.InvT-loop
-Inv-loop out₀ at s place₀ i₀ out place i = (i ≤ length s) × (length out ≡ length out₀) × Put at (take i s) out₀ out place
+Inv-loop out₀ at s place₀ i₀ out place i = (i ≤ length s) × (length out ≡ length out₀) × Completes at s out₀ place (drop i s) out
 
 abbrev μ-loop : tie.MeasureT-loop
 μ-loop out₀ at s place₀ i₀ out place i = length s - i
 
 loop-holds : tie.Need-loop-holds Inv-loop μ-loop
-loop-holds c = (omega arith, refl, put-none _ _ _ (c .cut .ensures) (omega arith))
+loop-holds c = (omega arith, refl, λ _ _ p. p)
 
 loop-again : tie.Need-loop-again Inv-loop μ-loop
 loop-again c =
     let p = c .before .before .put-byte in
     let t = c .before .before .before .before .before in
-    let s = now (t .before .before .before .before .before .args .s) in (
-      omega arith,
-      p .kept .0 ∙ t .before .loop .inv .1,
-      rw (add-one, take-suc s (t .before .loop .i) 0 (t .loop-test .taken)) (put-then (t .before .loop .inv .2) (p .ensures)),
-    )
+    let l = t .before .loop in
+    let s = t .before .before .before .before .args .s .now in
+    (omega arith, p .kept .0 ∙ l .inv .1, one-more (l .inv .2) (rw (add-one, drop-cons s (l .i) 0 (t .loop-test .taken))) (p .ensures))
 
 returns : tie.Need-returns Inv-loop μ-loop
-returns c = put-same (take-all _ _ (c .loop-test .left)) (c .before .loop .inv .2)
+returns c = all-put (c .before .loop .inv .2) (drop-of-length-le _ (c .loop-test .left)) (omega arith)
 
 pub put-bytes-spec : {M : Type 1} → statement M
 put-bytes-spec =
     tie.close
-    (tie.spec
-    Inv-loop
-    μ-loop
-    (λ c κs. search needs)
-    loop-holds
-    (λ c. search needs)
-    (λ c κs. search needs)
-    (λ c. search needs)
-    (λ c. search needs)
-    loop-again
-    (λ c. search needs)
-    returns)
+    (tie.spec Inv-loop μ-loop loop-holds (λ c. search needs) (λ c κs. search needs) (λ c. search needs) (λ c. search needs) loop-again (λ c. search needs) returns)

@@ -36,14 +36,4 @@ returns-2 c = sym (c .before .loop .inv .1 ∙ all-end _ _ _ (c .loop-test .left
 pub bytes-ok-spec : {M : Type 1} → statement M
 bytes-ok-spec =
     tie.close
-    (tie.spec
-    Inv-loop
-    μ-loop
-    loop-holds
-    (λ c. search needs)
-    (λ c κs. search needs)
-    returns
-    (λ c. search needs)
-    (λ c. search needs)
-    loop-again
-    returns-2)
+    (tie.spec Inv-loop μ-loop loop-holds (λ c. search needs) (λ c κs. search needs) returns (λ c. search needs) (λ c. search needs) loop-again returns-2)

@@ -1,37 +1,49 @@
--- `program::go_line::judged` meets its contract. Assumes nothing.
+-- `program::go_line::judged` meets its contract: the tests cannot tell a cut number from the number. Assumes nothing.
 use borrow.Author.Needs.{needs}
 use mathlib.Core.Path.{_≡_, sym, ap, _∙_}
 use mathlib.Core.List.{List}
-use mathlib.Core.Bool.{true, _&&_}
+use mathlib.Core.Bool.{true}
 use Prim.Native.Nat.{ℕ}
-use lib.Dec.{eqb}
-use lib.ListN.{length}
 use borrow.Author.Tests.{not-true, not-false}
-use denote.Ref.{now}
 use Rattle.semantics.specs.Text.{bytes, same-bytes, fields}
-use Rattle.semantics.specs.Reading.{check, nth, none-empty}
-use Rattle.program.specs.Asked.{asked-res, line-fields}
+use Rattle.semantics.specs.Reading.{check, if-ok, nth, filled}
+use Rattle.program.specs.Asked.{settings-res, asked-res}
+use Rattle.program.proofs.Cut.{counts-cut}
 use Rattle.program.proofs.go_line.judged.Statement.{statement}
 use Rattle.program.proofs.go_line.judged.Tie as tie
 
 -- what the tests say
-fields-passed : (c : tie.Else1) → (eqb (length (fields (now (c .before .before .before .args .line)))) 6 && none-empty (fields (now (c .before .before .before .args .line)))) ≡ true
+fields-passed : (c : tie.Else1) → filled 6 (fields (c .before .before .before .args .line .now)) ≡ true
 fields-passed c = sym (c .before .filled .ensures) ∙ not-false (c .before .filled .result) (c .if1 .left)
 
-word-said : (c : tie.After-same-bytes) → same-bytes (nth (fields (now (c .before .before .before .before .before .before .args .line))) 0) (bytes "go") ≡ c .same-bytes .result
+word-said : (c : tie.After-same-bytes) → same-bytes (nth (fields (c .before .before .before .before .before .before .args .line .now)) 0) (bytes "go") ≡ c .same-bytes .result
 word-said c = ap (λ (f : List ℕ). same-bytes f (bytes "go")) (sym (c .before .before .field .ensures)) ∙ sym (c .same-bytes .ensures)
 
+word-passed : (c : tie.Else2) → same-bytes (nth (fields (c .before .before .before .before .before .before .before .args .line .now)) 0) (bytes "go") ≡ true
+word-passed c = word-said (c .before) ∙ not-false (c .before .same-bytes .result) (c .if2 .left)
+
 returns : tie.Need-returns
-unfolding asked-res line-fields check
+unfolding asked-res check
 returns c = rw (sym (c .before .filled .ensures) ∙ not-true (c .before .filled .result) (c .if1 .taken))
 
 returns-2 : tie.Need-returns-2
-unfolding asked-res line-fields check
+unfolding asked-res check
 returns-2 c = rw (fields-passed (c .before .before .before .before), word-said (c .before) ∙ not-true (c .before .same-bytes .result) (c .if2 .taken))
 
 returns-3 : tie.Need-returns-3
-unfolding line-fields check
-returns-3 c = c .from-merge .ensures ∙ rw (fields-passed (c .before .before .before .before .before), word-said (c .before .before) ∙ not-false (c .before .before .same-bytes .result) (c .before .if2 .left))
+unfolding asked-res settings-res check if-ok
+returns-3 c =
+    let s = c .before .before in
+    rw (fields-passed (s .before .before .before .before .before), word-passed (s .before), sym (s .settings-fields .ensures) ∙ ap settings-res (c .enum-told .given .1))
+
+returns-4 : tie.Need-returns-4
+unfolding settings-res check if-ok
+returns-4 c =
+    let n = c .before .before .before in
+    let g = n .before .before .before in
+    let s = g .before .before in
+    rw (fields-passed (s .before .before .before .before .before), word-passed (s .before), sym (s .settings-fields .ensures) ∙ ap settings-res (g .settings .given .1))
+    (c .count-fields .ensures ∙ rw (c .before .number2 .ensures, n .number .ensures, c .before .before .field3 .ensures, n .before .field2 .ensures) (counts-cut (g .settings .given .0 .0) _ _))
 
 pub judged-spec : {M : Type 1} → statement M
 judged-spec =
@@ -44,4 +56,12 @@ judged-spec =
     (λ c κs. search needs)
     returns-2
     (λ c κs. search needs)
-    returns-3)
+    (λ c. search needs)
+    (λ c. search needs)
+    returns-3
+    (λ c κs. search needs)
+    (λ c κs. search needs)
+    (λ c κs. search needs)
+    (λ c κs. search needs)
+    (λ c κs. search needs)
+    returns-4)

@@ -1,0 +1,63 @@
+-- `program::go_line::settings_fields` meets its contract: each field that was read leaves the next. Assumes nothing.
+use borrow.Author.Needs.{needs}
+use mathlib.Core.Path.{_≡_}
+use Rattle.semantics.specs.Text.{fields}
+use Rattle.semantics.specs.Reading.{ok, if-ok, nth}
+use Rattle.semantics.specs.Program.{mode-field, order-field}
+use Rattle.program.specs.Asked.{mode-res, order-res, settings-res}
+use Rattle.program.proofs.OneField.{field-said}
+use Rattle.program.proofs.go_line.settings_fields.Statement.{statement}
+use Rattle.program.proofs.go_line.settings_fields.Tie as tie
+
+merge-said : (c : tie.After-merge) → mode-field (nth (fields (c .before .before .before .before .before .args .line .now)) 1) ≡ ok (c .merge .given .0 .0)
+unfolding mode-res
+merge-said c = let m = c .before .before in field-said mode-field mode-res (m .before .field .ensures) (m .mode-field .ensures) (c .merge .given .1)
+
+stop-said : (c : tie.After-stop) → let g = c .before .before .before .before .before in mode-field (nth (fields (g .before .before .before .before .before .args .line .now)) 2) ≡ ok (c .stop .given .0 .0)
+unfolding mode-res
+stop-said c = let m = c .before .before in field-said mode-field mode-res (m .before .field2 .ensures) (m .mode-field2 .ensures) (c .stop .given .1)
+
+returns : tie.Need-returns
+unfolding settings-res mode-res if-ok
+returns c = let m = c .before .before in rw (field-said mode-field mode-res (m .before .field .ensures) (m .mode-field .ensures) (c .enum-told .given .1))
+
+returns-2 : tie.Need-returns-2
+unfolding settings-res mode-res if-ok
+returns-2 c =
+    let m = c .before .before in
+    rw (merge-said (m .before .before .before), field-said mode-field mode-res (m .before .field2 .ensures) (m .mode-field2 .ensures) (c .enum-told2 .given .1))
+
+returns-3 : tie.Need-returns-3
+unfolding settings-res order-res if-ok
+returns-3 c =
+    let o = c .before .before in
+    let s = o .before .before .before in
+    rw (merge-said (s .before .before .before .before .before), stop-said s, field-said order-field order-res (o .before .field3 .ensures) (o .order-field .ensures) (c .enum-told3 .given .1))
+
+returns-4 : tie.Need-returns-4
+unfolding settings-res order-res if-ok
+returns-4 c =
+    let o = c .before .before .before in
+    let s = o .before .before .before in
+    rw (merge-said (s .before .before .before .before .before), stop-said s, field-said order-field order-res (o .before .field3 .ensures) (o .order-field .ensures) (c .before .order .given .1))
+
+pub settings-fields-spec : {M : Type 1} → statement M
+settings-fields-spec =
+    tie.close
+    (tie.spec
+    (λ c κs. search needs)
+    (λ c κs. search needs)
+    (λ c. search needs)
+    (λ c. search needs)
+    returns
+    (λ c κs. search needs)
+    (λ c κs. search needs)
+    (λ c. search needs)
+    (λ c. search needs)
+    returns-2
+    (λ c κs. search needs)
+    (λ c κs. search needs)
+    (λ c. search needs)
+    (λ c. search needs)
+    returns-3
+    returns-4)

@@ -1,0 +1,37 @@
+-- From what the calls leave to what the boundary owes. Assumes nothing.
+use mathlib.Core.Path.{_≡_, refl, sym, ap, subst, _∙_}
+use mathlib.Core.Bool.{Bool, true, false, not}
+use mathlib.Core.List.{List, [], _∷_}
+use Prim.Native.Nat.{ℕ}
+use lib.IntN.{ℤ}
+use Rattle.semantics.specs.Memory.{Memory}
+use Rattle.semantics.specs.Outcomes.{Outcome, case, refusal, refused-by, settled, start-outcome}
+use Rattle.calls.specs.declared.Called as calls
+use Rattle.calls.specs.Calls.{Ends-called}
+use Rattle.tarknotter.specs.declared.Record.{Record}
+use Rattle.tarknotter.specs.declared.Called.{Called}
+use Rattle.tarknotter.specs.Replies.{as-reply}
+use Rattle.tarknotter.specs.Records.{settings-in, settings-named}
+use Rattle.tarknotter.specs.Calls.{start-by-codes, record-after, Ends-by-codes}
+
+-- what a call answers, with the record before where it refuses
+pub by-codes : {o : Outcome} {before : Record} {w : calls.Called} {r : Called} {t l : List ℤ} → Ends-called o w t l → (r .reply ≡ as-reply (w .answer)) × (r .record ≡ record-after before (w .answer) (w .analysis)) →
+    Ends-by-codes o before r t l
+by-codes {before = before} e h =
+    record { reply = h .0 ∙ ap as-reply (e .answer); after = h .1 ∙ (λ j. record-after before (e .answer j) (e .analysis j)); table = e .table; waitlist = e .waitlist }
+
+module _ (ws : List ℤ) (merge stop order : ℕ) (r : ℤ) (m : Memory) where
+  -- the start, by whether the codes name settings
+  abbrev start-if : Bool → Outcome
+  start-if b = settled (refusal (case 6 (not b) ∷ [])) m [] (start-outcome ws (settings-in merge stop order) r m)
+
+  -- named settings: any start
+  pub start-named : settings-named merge stop order ≡ true → start-outcome ws (settings-in merge stop order) r m ≡ start-by-codes ws merge stop order r m
+  start-named e = ap start-if (sym e)
+
+  -- a code that names none: 6, and nothing changes
+  pub start-unnamed : (before : Record) → settings-named merge stop order ≡ false →
+      Ends-by-codes (start-by-codes ws merge stop order r m) before (record { reply = as-reply (refused-by 6 0); «record» = before }) (m .table) (m .waitlist)
+  start-unnamed before e =
+      subst (λ (b : Bool). Ends-by-codes (start-if b) before (record { reply = as-reply (refused-by 6 0); «record» = before }) (m .table) (m .waitlist)) (sym e)
+      (record { reply = refl; after = refl; table = refl; waitlist = refl })
