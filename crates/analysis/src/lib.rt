@@ -14,9 +14,9 @@ ghost use Prim.Native.Nat.{ℕ, _+_, _-_, _*_, _<_, _≤_, min};
 ghost use lib.ListN.{length};
 ghost use Rattle.semantics.specs.Layout.{index-limit};
 ghost use Rattle.semantics.specs.Algorithm.{arrive, visit, leave, first-verdict, iteration, run, start};
-ghost use Rattle.semantics.specs.Tidy.{Queue, Allowed};
+ghost use Rattle.semantics.specs.Tidy.{Allowed};
 ghost use Rattle.state.specs.Rows.{width-of, most-width, rows-of};
-ghost use Rattle.waitlist.specs.Waits.{waits, Stored};
+ghost use Rattle.waitlist.specs.Waits.{waits, Admits};
 ghost use Rattle.transfer.specs.Transfer.{edge-at, edges-from, post-at};
 ghost use Rattle.analysis.specs.Loaded.{Outlined, Ready, Merged, rows-only, domain-of, has-ended, with-counts, went-on, alarm-by, filled, Progressed, ended, load-of, Resumable, Loaded, Ended, Finished};
 
@@ -232,7 +232,7 @@ fn ended(a: Analysis, used: usize, waiting: usize, verdict: Verdict, edge: EdgeI
 
 // The end of an iteration that took the slot.
 fn finish(a: Analysis, slot: SlotId, p: Progress, list: &mut [i32]) -> Analysis
-    requires { ⌜ Stored (now list) (p .waiting) (waits (p .waiting) (now list)) × (slot .0 < length (now list)) × (length (now list) < index-limit) × Queue (length (now list)) (waits (p .waiting) (now list)) × (a .iterations < 60000) ⌝ }
+    requires { ⌜ Admits (now list) (p .waiting) (slot .0) × (a .iterations < 60000) ⌝ }
     ensures { λ r. ⌜ Finished a (slot .0) p (now (list .entry)) r (now (list .exit)) ⌝ }
 {
     let settings = a.settings;

@@ -6,6 +6,7 @@ use native.Mathlib.Omega.{arith}
 use lib.Dec.{T, leb, leb→le}
 use lib.IntN.{ℤ, pos, negsuc, natAbs}
 use lib.Signed.{nonNeg}
+use Rattle.semantics.specs.Layout.{most-slots, most-iterations}
 use Rattle.semantics.specs.Encoding.{decode, well-formed}
 use Rattle.semantics.specs.Memory.{capacity-ok}
 use Rattle.semantics.specs.Outcomes.{budget-ok}
@@ -32,17 +33,17 @@ module _ (ws : List ℤ) (ok : T (well-formed ws)) (y : Layout) (o : LayoutOf (d
 pub record Counted (z : ℤ) : Type 0 where
   pub sign : T (nonNeg z)
   pub some : 1 ≤ natAbs z
-  pub few : natAbs z ≤ 256
+  pub few : natAbs z ≤ most-slots
 
 pub counted : (z : ℤ) → T (capacity-ok z) → Counted z
-counted (pos n) t = record { sign = tt; some = leb→le 1 n (and-left (leb 1 n) (leb n 256) t); few = leb→le n 256 (and-right (leb 1 n) (leb n 256) t) }
+counted (pos n) t = record { sign = tt; some = leb→le 1 n (and-left (leb 1 n) (leb n most-slots) t); few = leb→le n most-slots (and-right (leb 1 n) (leb n most-slots) t) }
 counted (negsuc n) t = absurd t
 
 -- a budget that 13 lets pass is a number up to 60,000
 pub record Budgeted (z : ℤ) : Type 0 where
   pub sign : T (nonNeg z)
-  pub few : natAbs z ≤ 60000
+  pub few : natAbs z ≤ most-iterations
 
 pub budgeted : (z : ℤ) → T (budget-ok z) → Budgeted z
-budgeted (pos n) t = record { sign = tt; few = leb→le n 60000 (and-right (leb 0 n) (leb n 60000) t) }
+budgeted (pos n) t = record { sign = tt; few = leb→le n most-iterations (and-right (leb 0 n) (leb n most-iterations) t) }
 budgeted (negsuc n) t = absurd t

@@ -5,6 +5,7 @@ use mathlib.Core.List.{List}
 use Prim.Native.Nat.{ℕ, _*_, _≤_}
 use lib.IntN.{ℤ}
 use lib.ListN.{length}
+use Rattle.semantics.specs.Layout.{most-slots}
 use Rattle.semantics.specs.declared.Analysis.{Analysis}
 use Rattle.semantics.specs.declared.Answer.{Answer}
 use Rattle.semantics.specs.declared.Settings.{Settings}
@@ -36,7 +37,7 @@ Ends-called o r t l = Ends o (r .answer) (r .analysis) t l
 pub record Begins (ws : List ℤ) (y : Layout) (z : Settings) (r : ℕ) (t l : List ℤ) : Type 0 where
   pub layout : y ≡ layout-of ws
   pub some : 1 ≤ r
-  pub few : r ≤ 256
+  pub few : r ≤ most-slots
   pub table : length t ≡ r * y .stride
   pub list : length l ≡ r
   pub allowed : Allowed z

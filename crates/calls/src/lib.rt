@@ -8,6 +8,7 @@ ghost use Prim.Native.Nat.{ℕ, _*_, _≤_};
 ghost use lib.Dec.{T};
 ghost use lib.IntN.{pos, natAbs};
 ghost use lib.ListN.{length};
+ghost use Rattle.semantics.specs.Layout.{most-slots};
 ghost use Rattle.semantics.specs.declared.Analysis.{Analysis};
 ghost use Rattle.semantics.specs.Algorithm.{start, allowed};
 ghost use Rattle.semantics.specs.Encoding.{decode, well-formed};
@@ -131,7 +132,7 @@ fn start_through(
     table: &mut [i32],
     list: &mut [i32],
 ) -> Analysis
-    requires { ⌜ T (well-formed (now chart)) × T (allowed (settings .merge) (settings .stop)) × (1 ≤ capacity) × (capacity ≤ 256) × (capacity * width (decode (now chart)) ≤ length (now table)) × (capacity ≤ length (now list)) ⌝ }
+    requires { ⌜ T (well-formed (now chart)) × T (allowed (settings .merge) (settings .stop)) × (1 ≤ capacity) × (capacity ≤ most-slots) × (capacity * width (decode (now chart)) ≤ length (now table)) × (capacity ≤ length (now list)) ⌝ }
     ensures { λ r. ⌜ ((a : Analysis) → put-in (decode (now (chart .entry))) (started (decode (now (chart .entry))) settings (pos capacity)) (lent (now (table .entry)) (now (list .entry)) a) ≡ lent (now (table .exit)) (now (list .exit)) r) ⌝ }
 {
     let layout = state::layout_of(chart);

@@ -12,7 +12,7 @@ use semantics::Relation;
 ghost use mathlib.Core.Path.{_≡_};
 ghost use mathlib.Core.Bool.{true, not};
 ghost use mathlib.Core.List.{_∷_, map};
-ghost use Prim.Native.Nat.{suc, _+_, _-_, _*_, _<_, _≤_};
+ghost use Prim.Native.Nat.{_+_, _-_, _*_, _<_, _≤_};
 ghost use lib.IntN.{pos, natAbs};
 ghost use lib.ListN.{length};
 ghost use Rattle.semantics.specs.Lists.{all};
@@ -176,13 +176,6 @@ pub fn edge_count(chart: &[i32]) -> usize
     ensures { λ r. ⌜ (r ≡ count (now (chart .entry)) 2) × (r < index-limit) ⌝ }
 {
     words::number_at(chart, EDGES_PLACE)
-}
-
-// The words of a slot of the reached table.
-pub fn width(chart: &[i32]) -> usize
-    ensures { λ r. ⌜ (r ≡ suc (count (now (chart .entry)) 0)) × (r ≤ index-limit) ⌝ }
-{
-    var_count(chart) + 1
 }
 
 // Where the words of the locations begin, and those of the edges.

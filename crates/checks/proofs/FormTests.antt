@@ -1,4 +1,4 @@
--- Facts behind the form check: the loops' turns, the layout, the two parts of rule 21, and what 20, 14 and 21 ask.
+-- Facts behind the form check: the loops' turns, the two parts of rule 21, and what 20, 14 and 21 ask.
 -- Assumes nothing.
 use mathlib.Core.Path.{_≡_, refl, ap, sym, _∙_}
 use mathlib.Core.Bool.{Bool, true, false, _&&_, _||_, not}
@@ -19,10 +19,8 @@ use Rattle.semantics.specs.Memory.{Memory, value-ok, below, width, row-ok, rows
 use Rattle.semantics.specs.Outcomes.{too-few}
 use Rattle.semantics.proofs.Decoded.{vars-count, locs-count, edges-count}
 use Rattle.semantics.proofs.FirstCase as first
-use Rattle.state.specs.declared.Layout.{Layout}
-use Rattle.state.specs.Rows.{width-of, location-word, values-of}
-use Rattle.state.proofs.Layouts.{layout-width}
-use Rattle.checks.specs.Form.{lent, LayoutOf, InForm}
+use Rattle.state.specs.Rows.{location-word, values-of}
+use Rattle.checks.specs.Form.{lent, InForm}
 
 crossed : (p a q e : Bool) → (p && a) && (q && e) ≡ (p && q) && (a && e)
 crossed true true q e = refl
@@ -61,15 +59,6 @@ row-is ws (x ∷ xs) h =
 pub rows-turn : (ws t : List ℤ) (from w k n : ℕ) → w ≡ width (decode ws) → k ≡ width (decode ws) → (b : Bool) → row-ok (decode ws) (take w (drop from t)) ≡ b →
     rows-ok (decode ws) (suc n) (drop from t) ≡ b && rows-ok (decode ws) n (drop (from + k) t)
 rows-turn ws t from w k n e f b q = rw (← drop-drop k from t, f, ← q, e)
-
--- ---- the layout of the chart's tables
-
-module _ (ws : List ℤ) {y : Layout} (of : LayoutOf ws y) where
-  pub width-is : width-of y ≡ width (decode ws)
-  width-is = ap width-of (of .0) ∙ layout-width ws
-
-  pub stride-is : y .stride ≡ width (decode ws)
-  stride-is = ap (λ (x : Layout). x .stride) (of .0) ∙ layout-width ws
 
 -- ---- the rule in its two parts
 

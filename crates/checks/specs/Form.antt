@@ -17,12 +17,12 @@ abbrev pub lent : List ℤ → List ℤ → Analysis → Memory
 lent t l a = record { table = t; waitlist = l; analysis = a }
 
 -- the layout of the chart's tables, as `state::layout_of` answers it
-abbrev pub LayoutOf : List ℤ → Layout → Type 0
-LayoutOf ws y = (y ≡ layout-of ws) × (width-of y ≤ index-limit)
+abbrev pub ChartLayout : List ℤ → Layout → Type 0
+ChartLayout ws y = (y ≡ layout-of ws) × (width-of y ≤ index-limit)
 
 -- the words lent are enough for r slots (14)
 pub record Enough (ws : List ℤ) (y : Layout) (r : ℕ) (t l : List ℤ) : Type 0 where
-  pub layout : LayoutOf ws y
+  pub layout : ChartLayout ws y
   pub table : r * y .stride ≤ length t
   pub list : r ≤ length l
 

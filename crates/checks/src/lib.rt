@@ -19,7 +19,7 @@ ghost use Rattle.semantics.specs.Algorithm.{allowed};
 ghost use Rattle.semantics.specs.Encoding.{several, var-in, decode};
 ghost use Rattle.semantics.specs.Memory.{width, capacity-ok, value-ok, below, row-ok, rows-ok, each-once, is-alarm, empty-if-safe, lent-tests, record-tests, analysis-ok};
 ghost use Rattle.semantics.specs.Outcomes.{refusal, budget-ok, size-of, form-of};
-ghost use Rattle.checks.specs.Form.{lent, LayoutOf, Enough};
+ghost use Rattle.checks.specs.Form.{lent, ChartLayout, Enough};
 
 // ---- the reached table
 
@@ -32,6 +32,7 @@ fn value_ok(lo: i32, hi: i32, x: i32) -> bool
 
 // Whether each value is one of its variable.
 fn values_ok(chart: &[i32], values: &[i32]) -> bool
+    requires { ⌜ length (now values) ≤ index-limit ⌝ }
     ensures { λ r. ⌜ r ≡ all-pairs value-ok (several var-in variable-size (length (now (values .entry))) (drop counts-size (now (chart .entry)))) (now (values .entry)) ⌝ }
 {
     let mut i = 0;
@@ -49,7 +50,7 @@ fn values_ok(chart: &[i32], values: &[i32]) -> bool
 
 // A row: its location and its values.
 fn row_ok(chart: &[i32], row: &[i32]) -> bool
-    requires { ⌜ length (now row) ≡ width (decode (now chart)) ⌝ }
+    requires { ⌜ (length (now row) ≡ width (decode (now chart))) × (length (now row) ≤ index-limit) ⌝ }
     ensures { λ r. ⌜ r ≡ row-ok (decode (now (chart .entry))) (now (row .entry)) ⌝ }
 {
     let location = state::location_word(row);
@@ -58,7 +59,7 @@ fn row_ok(chart: &[i32], row: &[i32]) -> bool
 
 // The slots in use. Slot and word offset go together.
 fn rows_ok(chart: &[i32], layout: Layout, table: &[i32], used: usize) -> bool
-    requires { ⌜ LayoutOf (now chart) layout × (used * layout .stride ≤ length (now table)) ⌝ }
+    requires { ⌜ ChartLayout (now chart) layout × (used * layout .stride ≤ length (now table)) ⌝ }
     ensures { λ r. ⌜ r ≡ rows-ok (decode (now (chart .entry))) used (now (table .entry)) ⌝ }
 {
     let width = layout.width();

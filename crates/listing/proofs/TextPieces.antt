@@ -13,7 +13,7 @@ use lib.Seq.{drop-cons, drop-drop, getD-set-same, getD-set-other}
 use Rattle.semantics.specs.Lists.{some-of, each}
 use Rattle.semantics.specs.Text.{bytes, decimal, line-of}
 use Rattle.semantics.specs.Chart.{Chart}
-use Rattle.semantics.specs.Encoding.{val, word-at}
+use Rattle.semantics.specs.Encoding.{val, word-at, count}
 use Rattle.semantics.specs.Memory.{Memory, width, state-in, states-in, load, analysis-ok}
 use Rattle.semantics.specs.Listing.{loc-text, mark, val-text, slot-text, slots-text, header-text, listing-text}
 use Rattle.semantics.specs.declared.Analysis.{Analysis}
@@ -69,7 +69,7 @@ set-past [] k b h = refl
 set-past (m ∷ ms) zero b h = absurd (omega arith)
 set-past (m ∷ ms) (suc k) b h = ap (λ (l : List Bool). m ∷ l) (set-past ms k b (omega arith))
 
-pub marks-turn : (ms : List Bool) (l : List ℤ) (i : ℕ) → i < length l → marked ms (map natAbs (drop i l)) ≡ marked (set ms (natAbs (getD l i (pos 0))) true) (map natAbs (drop (i + 1) l))
+pub marks-turn : (ms : List Bool) (l : List ℤ) (i : ℕ) → i < length l → marked ms (map natAbs (drop i l)) ≡ marked (set ms (count l i) true) (map natAbs (drop (i + 1) l))
 unfolding marked
 marks-turn ms l i h = rw (add-one i, drop-cons l i (pos 0) h)
 

@@ -14,6 +14,7 @@ ghost use Prim.Native.Nat.{_*_, _≤_, _<_, min};
 ghost use lib.Dec.{T};
 ghost use lib.IntN.{natAbs};
 ghost use lib.ListN.{length, set};
+ghost use Rattle.semantics.specs.Layout.{most-slots};
 ghost use Rattle.semantics.specs.Text.{decimal};
 ghost use Rattle.semantics.specs.Encoding.{val, decode, well-formed};
 ghost use Rattle.semantics.specs.Memory.{width, state-in, states-in, load};
@@ -208,7 +209,7 @@ fn put_slots(
     list: &[i32],
     used: usize,
 ) -> usize
-    requires { ⌜ T (well-formed (now chart)) × (used * width (decode (now chart)) ≤ length (now table)) × (used ≤ 256) ⌝ }
+    requires { ⌜ T (well-formed (now chart)) × (used * width (decode (now chart)) ≤ length (now table)) × (used ≤ most-slots) ⌝ }
     ensures { λ r. ⌜ Put at (slots-text (decode (now (chart .entry))) (map natAbs (now (list .entry))) 0 (states-in (width (decode (now (chart .entry)))) used (now (table .entry)))) (now (out .entry)) (now (out .exit)) r ⌝ }
 {
     let layout = state::layout_of(chart);

@@ -7,6 +7,7 @@ use native.Mathlib.Omega.{arith}
 use lib.Dec.{leb}
 use lib.IntN.{ℤ, pos, negsuc}
 use borrow.Author.Tests.{leb-true, leb-false, lt-leb}
+use Rattle.semantics.specs.Layout.{most-slots, most-iterations}
 use Rattle.semantics.specs.Chart.{within}
 use Rattle.semantics.specs.Reading.{Res, ok, check, if-ok}
 use Rattle.semantics.specs.Algorithm.{allowed}
@@ -30,8 +31,8 @@ range-cut lo hi h n f (pos k) = by-size (leb k hi) refl
 
 sized-cut : (s : Settings) (r a : ℤ) → sized s (clamp r) (clamp a) ≡ sized s r a
 sized-cut s r a =
-    range-cut 1 256 (omega arith) 11 (λ x. check (allowed (s .merge) (s .stop)) 12 (check (budget-ok (clamp a)) 13 (ok (record { settings = s; capacity = x; budget = clamp a })))) r
-    ∙ ap (λ (x : Res Go). check (capacity-ok r) 11 (check (allowed (s .merge) (s .stop)) 12 x)) (range-cut 0 60000 (omega arith) 13 (λ x. ok (record { settings = s; capacity = r; budget = x })) a)
+    range-cut 1 most-slots (omega arith) 11 (λ x. check (allowed (s .merge) (s .stop)) 12 (check (budget-ok (clamp a)) 13 (ok (record { settings = s; capacity = x; budget = clamp a })))) r
+    ∙ ap (λ (x : Res Go). check (capacity-ok r) 11 (check (allowed (s .merge) (s .stop)) 12 x)) (range-cut 0 most-iterations (omega arith) 13 (λ x. ok (record { settings = s; capacity = r; budget = x })) a)
 
 pub counts-cut : (s : Settings) (p q : Option ℤ) → counts s (number-said (number-read p)) (number-said (number-read q)) ≡ counts s p q
 unfolding number-said number-read if-ok

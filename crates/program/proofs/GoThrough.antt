@@ -6,6 +6,7 @@ use Prim.Native.Nat.{ℕ}
 use lib.Dec.{T}
 use lib.IntN.{ℤ, natAbs}
 use lib.ListN.{length}
+use Rattle.semantics.specs.Layout.{most-slots}
 use Rattle.semantics.specs.Chart.{Chart}
 use Rattle.semantics.specs.Algorithm.{Exploration, has-verdict}
 use Rattle.semantics.specs.Constants.{AbstractState, initial}
@@ -47,7 +48,7 @@ module _ (words : List ℤ) (formed : T (well-formed words)) (go : Go) (asked : 
   first-good : Good chart first
   first-good = started-good chart inside (go .settings) (go .capacity) (fine .capacity) (fine .modes)
 
-  pub begun : (m : Memory) → length (m .table) ≡ 2304 → length (m .waitlist) ≡ 256 → {r : Called} {t l : List ℤ}
+  pub begun : (m : Memory) → length (m .table) ≡ 2304 → length (m .waitlist) ≡ most-slots → {r : Called} {t l : List ℤ}
       → Ends-called (start-outcome words (go .settings) (go .capacity) m) r t l → PutIn chart first (lent t l (r .analysis))
   begun m a b e = record { over = m; table = a; list = b; same = ends-at e (put-in chart first m) (ap (λ (o : Outcome). o .memory) (start-goes words formed (asking go) fine m a b)) }
 

@@ -5,6 +5,7 @@ use Prim.Native.Nat.{ℕ, _<_}
 use lib.Dec.{T}
 use lib.IntN.{ℤ}
 use lib.ListN.{length, take, drop}
+use Rattle.semantics.specs.Layout.{most-slots}
 use Rattle.semantics.specs.Chart.{Chart}
 use Rattle.semantics.specs.Reading.{ok}
 use Rattle.semantics.specs.Algorithm.{Exploration}
@@ -32,13 +33,13 @@ pub record Accepted (g : Go) : Type 0 where
 pub record Lends (ws t l : List ℤ) : Type 0 where
   pub formed : T (well-formed ws)
   pub table : length t ≡ 2304
-  pub list : length l ≡ 256
+  pub list : length l ≡ most-slots
 
 -- the memory is the exploration, put into words lent
 pub record PutIn (c : Chart) (w : Exploration AbstractState) (m : Memory) : Type 0 where
   pub over : Memory
   pub table : length (over .table) ≡ 2304
-  pub list : length (over .waitlist) ≡ 256
+  pub list : length (over .waitlist) ≡ most-slots
   pub same : m ≡ put-in c w over
 
 -- the text stands at the front of the bytes lent, and r is its length; "bytes past a listing's end, are untouched"

@@ -85,7 +85,7 @@ fn settings_fields(line: &[u8]) -> SettingsRead
 }
 
 // 11, 12, 13, once every field is well formed.
-fn sizes(go: Go) -> Asked
+fn sized(go: Go) -> Asked
     ensures { λ r. ⌜ asked-res r ≡ sized (go .settings) (go .capacity) (go .budget) ⌝ }
 {
     let settings = go.settings;
@@ -107,7 +107,7 @@ fn sizes(go: Go) -> Asked
 }
 
 // Capacity and budget, numbers in form only, then their sizes.
-fn count_fields(settings: Settings, capacity: NumberRead, budget: NumberRead) -> Asked
+fn counts(settings: Settings, capacity: NumberRead, budget: NumberRead) -> Asked
     ensures { λ r. ⌜ asked-res r ≡ counts settings (number-said capacity) (number-said budget) ⌝ }
 {
     let NumberRead::Is(capacity) = capacity else {
@@ -116,7 +116,7 @@ fn count_fields(settings: Settings, capacity: NumberRead, budget: NumberRead) ->
     let NumberRead::Is(budget) = budget else {
         return Asked::Refused(6);
     };
-    sizes(Go {
+    sized(Go {
         settings,
         capacity,
         budget,
@@ -124,7 +124,7 @@ fn count_fields(settings: Settings, capacity: NumberRead, budget: NumberRead) ->
 }
 
 // The line without its LF, by 5 and what follows it.
-fn judged(line: &[u8]) -> Asked
+fn go_fields(line: &[u8]) -> Asked
     ensures { λ r. ⌜ asked-res r ≡ go-fields (fields (now (line .entry))) ⌝ }
 {
     if !text::filled(line, 6) {
@@ -138,7 +138,7 @@ fn judged(line: &[u8]) -> Asked
     };
     let capacity = text::number(text::field(line, 4));
     let budget = text::number(text::field(line, 5));
-    count_fields(settings, capacity, budget)
+    counts(settings, capacity, budget)
 }
 
 // A tab, or 0x21..0x7E: what may stand before the LF.
@@ -175,7 +175,7 @@ pub fn read(input: &[u8]) -> GoLine
     if end == input.len() {
         return GoLine::Refused(3);
     }
-    match judged(&input[..end]) {
+    match go_fields(&input[..end]) {
         Asked::Refused(n) => GoLine::Refused(n),
         Asked::Is(go) => GoLine::Accepted { go, chart: end + 1 },
     }

@@ -6,13 +6,14 @@ use Prim.Native.Nat.{ℕ, suc, _+_, _≤_, _<_}
 use native.Mathlib.Numerals.{add-one}
 use native.Mathlib.Omega.{arith}
 use lib.IntN.{ℤ, pos}
-use lib.ListN.{length, take, drop, getD, set, drop-of-length-le}
+use lib.ListN.{length, take, drop, set, drop-of-length-le}
 use lib.Seq.{drop-cons, take-all, take-suc-set, drop-set-lt, append-snoc}
 use Rattle.semantics.specs.Lists.{pick}
 use Rattle.semantics.specs.Chart.{eqZ}
+use Rattle.semantics.specs.Encoding.{word-at}
 use Rattle.semantics.proofs.Values.{and-true}
 use Rattle.words.proofs.Words.{eqZ-refl}
-use Rattle.state.specs.Rows.{word-leq, word-join, words-leq, words-join, same-words, same-place, row-join, row-merge}
+use Rattle.state.specs.Rows.{values-of, word-leq, word-join, words-leq, words-join, same-words, same-place, row-join, row-merge}
 
 and-assoc : (a b c : Bool) → a && (b && c) ≡ (a && b) && c
 and-assoc true b c = refl
@@ -25,10 +26,10 @@ same-refl (y ∷ s) = rw (eqZ-refl y, same-refl s)
 -- what is left from place i on; s may be changed at i meanwhile
 module _ (e s : List ℤ) (i : ℕ) (he : i < length e) (hs : i < length s) where
   pub leq-turn : (t : Bool) → t && words-leq (drop i e) (drop i s)
-      ≡ (t && word-leq (getD e i (pos 0)) (getD s i (pos 0))) && words-leq (drop (i + 1) e) (drop (i + 1) s)
+      ≡ (t && word-leq (word-at e i) (word-at s i)) && words-leq (drop (i + 1) e) (drop (i + 1) s)
   leq-turn t = rw (add-one, drop-cons e i (pos 0), drop-cons s i (pos 0)) (and-assoc t _ _)
 
-  module _ (v : ℤ) (q : v ≡ word-join (getD e i (pos 0)) (getD s i (pos 0))) where
+  module _ (v : ℤ) (q : v ≡ word-join (word-at e i) (word-at s i)) where
     kept : drop (suc i) (set s i v) ≡ drop (suc i) s
     kept = drop-set-lt (suc i) s i v (omega arith)
 
@@ -36,7 +37,7 @@ module _ (e s : List ℤ) (i : ℕ) (he : i < length e) (hs : i < length s) wher
     join-turn = rw (add-one, kept, take-suc-set s i v, append-snoc, drop-cons e i (pos 0), drop-cons s i (pos 0), q)
 
     pub same-turn : (t : Bool) → t && same-words (words-join (drop i e) (drop i s)) (drop i s)
-        ≡ (t && eqZ v (getD s i (pos 0))) && same-words (words-join (drop (i + 1) e) (drop (i + 1) (set s i v))) (drop (i + 1) (set s i v))
+        ≡ (t && eqZ v (word-at s i)) && same-words (words-join (drop (i + 1) e) (drop (i + 1) (set s i v))) (drop (i + 1) (set s i v))
     same-turn t = rw (add-one, kept, drop-cons e i (pos 0), drop-cons s i (pos 0), q) (and-assoc t _ _)
 
 module _ (e s : List ℤ) (i : ℕ) (he : length e ≤ i) (hs : length s ≤ i) where
@@ -50,7 +51,7 @@ module _ (e s : List ℤ) (i : ℕ) (he : length e ≤ i) (hs : length s ≤ i) 
   join-end = rw (drop-of-length-le s hs, drop-of-length-le e he, take-all i s hs) (append-nil s)
 
 -- nothing done yet
-pub same-start : (e s : List ℤ) → 0 < length s → same-words (row-join e s) s ≡ same-words (words-join (drop 1 e) (drop 1 s)) (drop 1 s)
+pub same-start : (e s : List ℤ) → 0 < length s → same-words (row-join e s) s ≡ same-words (words-join (values-of e) (values-of s)) (values-of s)
 same-start e [] n = absurd (omega arith)
 same-start e (y ∷ s) n = rw (eqZ-refl y)
 
@@ -62,8 +63,8 @@ length-words-join (x ∷ e) [] = refl
 length-words-join (x ∷ e) (y ∷ s) = ap suc (length-words-join e s)
 
 pub length-row-join : (e s : List ℤ) → length (row-join e s) ≡ length s
-length-row-join e [] = length-words-join (drop 1 e) []
-length-row-join e (y ∷ s) = ap suc (length-words-join (drop 1 e) s)
+length-row-join e [] = length-words-join (values-of e) []
+length-row-join e (y ∷ s) = ap suc (length-words-join (values-of e) s)
 
 pub length-row-merge : (e s : List ℤ) → length (row-merge e s) ≡ length s
 length-row-merge e s = by-case (same-place e s) where

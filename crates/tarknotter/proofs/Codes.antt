@@ -3,9 +3,11 @@
 use mathlib.Core.Path.{_≡_, refl, ap}
 use mathlib.Core.Bool.{Bool, true, false, _&&_}
 use mathlib.Core.List.{List, [], _∷_, _++_}
+use Prim.Native.Nat.{_+_}
 use lib.Dec.{leb, ltb}
 use lib.IntN.{ℤ}
 use lib.ListN.{length}
+use Rattle.semantics.specs.Layout.{most-iterations}
 use Rattle.semantics.specs.Lists.{pick, all-of}
 use Rattle.semantics.specs.Chart.{Chart}
 use Rattle.semantics.specs.Memory.{lent-tests, record-tests, analysis-ok}
@@ -45,7 +47,7 @@ reads-back a =
     λ j. record {
       settings = record { merge = m .0 j; stop = s .0 j; order = o .0 j };
       capacity = a .capacity;
-      iterations = pick (((m .1 j && s .1 j) && o .1 j) && v .1 j) (a .iterations) 60001;
+      iterations = pick (((m .1 j && s .1 j) && o .1 j) && v .1 j) (a .iterations) (most-iterations + 1);
       used = a .used;
       waiting = a .waiting;
       verdict = v .0 j;
@@ -63,5 +65,5 @@ fails (false ∷ bs) cs e = refl
 pub unnamed-refused : (c : Chart) (t l : List ℤ) (r : Record) → codes-named r ≡ false → analysis-ok c (lent t l (analysis-in r)) ≡ false
 unfolding analysis-ok
 unnamed-refused c t l r e =
-    let many : leb (analysis-in r .iterations) 60000 ≡ false = ap (λ (b : Bool). leb (pick b (r .iterations) 60001) 60000) e in
+    let many : leb (analysis-in r .iterations) most-iterations ≡ false = ap (λ (b : Bool). leb (pick b (r .iterations) (most-iterations + 1)) most-iterations) e in
     fails (lent-tests c (r .capacity) (r .used) (r .waiting) t l) (record-tests (length (c .edges)) (analysis-in r)) (rw many)

@@ -1,8 +1,9 @@
 -- An analysis's record in numbers alone, as other languages see it: how it is written, and how it is read. Document
 -- 01, "The memory lent": "settings, room, rounds, used slots, waiting slots, verdict, edge". Assumes nothing.
 use mathlib.Core.Bool.{Bool, _&&_}
-use Prim.Native.Nat.{ℕ}
+use Prim.Native.Nat.{ℕ, _+_}
 use lib.Dec.{ltb, eqb}
+use Rattle.semantics.specs.Layout.{most-iterations}
 use Rattle.semantics.specs.Lists.{pick}
 use Rattle.semantics.specs.declared.Mode.{Mode}
 use Rattle.semantics.specs.declared.Mode.the-variants.{Sep, Join}
@@ -80,7 +81,7 @@ abbrev pub analysis-in : Record → Analysis
 analysis-in r = record {
   settings = settings-in (r .merge) (r .stop) (r .order);
   capacity = r .capacity;
-  iterations = pick (codes-named r) (r .iterations) 60001;
+  iterations = pick (codes-named r) (r .iterations) (most-iterations + 1);
   used = r .used;
   waiting = r .waiting;
   verdict = verdict-in (r .verdict);

@@ -23,16 +23,11 @@ use Rattle.semantics.specs.Lists.{pick}
 pub shift-turn : (s : List ℤ) (i : ℕ) → i + 1 < length s
     → take i s ++ shifted (drop i s) ≡ take (i + 1) (set s i (getD s (i + 1) (pos 0))) ++ shifted (drop (i + 1) (set s i (getD s (i + 1) (pos 0))))
 shift-turn s i h =
-    let v = getD s (i + 1) (pos 0) in
+    let v = getD s (suc i) (pos 0) in
     let d : drop (suc i) (set s i v) ≡ drop (suc i) s = drop-set-lt (suc i) s i v (omega arith) in
-    let z : suc i + 0 ≡ i + 1 = omega arith in
-    let g : getD (drop (suc i) s) 0 (pos 0) ≡ v = getD-drop (suc i) s 0 (pos 0) ∙ ap (λ (n : ℕ). getD s n (pos 0)) z in
-    ap (λ (l : List ℤ). take i s ++ shifted l) (drop-cons s i (pos 0) (omega arith))
-    ∙ ap (λ (y : ℤ). take i s ++ (y ∷ shifted (drop (suc i) s))) g
-    ∙ sym (append-snoc (take i s) v (shifted (drop (suc i) s)))
-    ∙ ap (λ (l : List ℤ). l ++ shifted (drop (suc i) s)) (sym (take-suc-set s i v (omega arith)))
-    ∙ ap (λ (l : List ℤ). take (suc i) (set s i v) ++ shifted l) (sym d)
-    ∙ ap (λ (m : ℕ). take m (set s i v) ++ shifted (drop m (set s i v))) (sym (add-one i))
+    let z : suc i + 0 ≡ suc i = omega arith in
+    let g : getD (drop (suc i) s) 0 (pos 0) ≡ v = rw z at (getD-drop (suc i) s 0 (pos 0)) in
+    rw (add-one, d, take-suc-set s i v (omega arith), append-snoc, drop-cons s i (pos 0) (omega arith), g)
 
 pub shift-end : (s : List ℤ) (i : ℕ) → i + 1 ≡ length s → take i s ++ shifted (drop i s) ≡ set s i (pos 0)
 shift-end s i h =
@@ -87,10 +82,7 @@ take-first-held {l} {n} (k ∷ ws) p h =
     (k, ap (λ (x : List ℤ). getD x 0 (pos 0)) (p .words), record { taken = ap (λ (x : List ℕ). some (record { slot = k; rest = x })) (sym (waits-are put)); kept = kept put })
   where
     form : shifted (take n l) ++ drop n l ≡ map pos ws ++ replicate (suc (length l - n)) (pos 0)
-    form =
-        ap (λ (x : List ℤ). shifted x ++ drop n l) (front p) ∙ ap (λ (x : List ℤ). x ++ drop n l) (shift-held (pos k) ws)
-        ∙ ap (λ (x : List ℤ). (map pos ws ++ (pos 0 ∷ [])) ++ x) (back p)
-        ∙ append-assoc (map pos ws) (pos 0 ∷ []) (replicate (length l - n) (pos 0))
+    form = rw (front p, back p) (ap (λ (x : List ℤ). x ++ replicate (length l - n) (pos 0)) (shift-held (pos k) ws) ∙ append-assoc (map pos ws) (pos 0 ∷ []) (replicate (length l - n) (pos 0)))
 
     len : length (shifted (take n l) ++ drop n l) ≡ length l
     len = ap length form ∙ simp (length-append, length-map, length-replicate) (omega (arith, p .count, p .fits))
@@ -127,8 +119,7 @@ take-last-held {l} {n} wa p h =
     form : l ≡ map pos (take (n - 1) wa) ++ pos (getD wa (n - 1) 0) ∷ replicate (length l - n) (pos 0)
     form =
         p .words ∙ ap (λ (x : List ℕ). map pos x ++ replicate (length l - n) (pos 0)) split
-        ∙ ap (λ (x : List ℤ). x ++ replicate (length l - n) (pos 0)) (map-append (take (n - 1) wa) (getD wa (n - 1) 0 ∷ []))
-        ∙ append-snoc (map pos (take (n - 1) wa)) (pos (getD wa (n - 1) 0)) (replicate (length l - n) (pos 0))
+        ∙ rw (map-append, append-snoc)
 
     lm : length (map pos (take (n - 1) wa)) ≡ n - 1
     lm = length-map (take (n - 1) wa) pos ∙ ls
@@ -149,9 +140,7 @@ take-last-held {l} {n} wa p h =
       count = sym ls;
       fits = omega (arith, len, p .fits);
       words = ap (λ (x : List ℤ). set x (n - 1) (pos 0)) form
-          ∙ set-at (map pos (take (n - 1) wa)) (pos (getD wa (n - 1) 0)) (replicate (length l - n) (pos 0)) (pos 0) (n - 1) lm
-          ∙ ap (λ (m : ℕ). map pos (take (n - 1) wa) ++ replicate m (pos 0)) fewer
-          ∙ rw len;
+          ∙ set-at (map pos (take (n - 1) wa)) (pos (getD wa (n - 1) 0)) (replicate (length l - n) (pos 0)) (pos 0) (n - 1) lm ∙ rw (len, ← fewer);
     }
 
 -- ---- taking a slot out

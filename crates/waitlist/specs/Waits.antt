@@ -3,11 +3,13 @@ use mathlib.Core.Path.{_≡_}
 use mathlib.Core.Bool.{Bool, true, false}
 use mathlib.Core.List.{List, [], _∷_, _++_, map}
 use mathlib.Core.Option.{some}
-use Prim.Native.Nat.{ℕ, _+_, _-_, _≤_}
+use Prim.Native.Nat.{ℕ, _+_, _-_, _≤_, _<_}
 use lib.IntN.{ℤ, pos, natAbs}
 use lib.ListN.{length, take, getD, set, replicate}
 use Rattle.semantics.specs.Chart.{eqZ}
 use Rattle.semantics.specs.declared.Order.{Order}
+use Rattle.semantics.specs.Layout.{index-limit}
+use Rattle.semantics.specs.Tidy.{Queue}
 use Rattle.semantics.specs.Algorithm.{take-by, wait}
 use Rattle.semantics.specs.Lists.{pick}
 
@@ -20,6 +22,13 @@ pub record Stored (l : List ℤ) (n : ℕ) (wa : List ℕ) : Type 0 where
   pub count : n ≡ length wa
   pub fits : n ≤ length l
   pub words : l ≡ map pos wa ++ replicate (length l - n) (pos 0)
+
+-- the words l, n of them in use, are a waitlist with a place for slot k
+pub record Admits (l : List ℤ) (n k : ℕ) : Type 0 where
+  pub stored : Stored l n (waits n l)
+  pub slot : k < length l
+  pub small : length l < index-limit
+  pub queue : Queue (length l) (waits n l)
 
 -- x is put before the words, and the last word falls out
 abbrev pub pushed : ℤ → List ℤ → List ℤ

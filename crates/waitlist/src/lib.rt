@@ -15,8 +15,7 @@ ghost use Rattle.semantics.specs.Chart.{eqZ};
 ghost use Rattle.semantics.specs.Lists.{some-of};
 ghost use Rattle.semantics.specs.declared.Order.the-variants.{Old, New};
 ghost use Rattle.semantics.specs.Algorithm.{without, put-back, wait};
-ghost use Rattle.semantics.specs.Tidy.{Queue};
-ghost use Rattle.waitlist.specs.Waits.{waits, Stored, pushed, shifted, wait-unless, others, next-place, kept-at, TakenFrom};
+ghost use Rattle.waitlist.specs.Waits.{waits, Stored, Admits, pushed, shifted, wait-unless, others, next-place, kept-at, TakenFrom};
 
 // The word that says a slot.
 fn slot_word(slot: SlotId) -> i32
@@ -47,7 +46,7 @@ pub fn append(list: &mut [i32], count: usize, slot: SlotId) -> usize
 
 // The slot waits: it joins the waitlist unless it is on it.
 fn wait(list: &mut [i32], count: usize, slot: SlotId) -> usize
-    requires { ⌜ Stored (now list) count (waits count (now list)) × (slot .0 < length (now list)) × (length (now list) < index-limit) × Queue (length (now list)) (waits count (now list)) ⌝ }
+    requires { ⌜ Admits (now list) count (slot .0) ⌝ }
     ensures { λ r. ⌜ Stored (now (list .exit)) r (wait (slot .0) (waits count (now (list .entry)))) ⌝ }
 {
     if contains(list, count, slot) {
@@ -58,7 +57,7 @@ fn wait(list: &mut [i32], count: usize, slot: SlotId) -> usize
 
 // The same, unless the flag says that its abstract state is the same as before.
 pub fn wait_unless(same: bool, list: &mut [i32], count: usize, slot: SlotId) -> usize
-    requires { ⌜ Stored (now list) count (waits count (now list)) × (slot .0 < length (now list)) × (length (now list) < index-limit) × Queue (length (now list)) (waits count (now list)) ⌝ }
+    requires { ⌜ Admits (now list) count (slot .0) ⌝ }
     ensures { λ r. ⌜ Stored (now (list .exit)) r (wait-unless same (slot .0) (waits count (now (list .entry)))) ⌝ }
 {
     if same {
@@ -176,7 +175,7 @@ fn prepend(list: &mut [i32], count: usize, slot: SlotId) -> usize
 
 // The slot goes back, or is moved, to the place that is taken next.
 pub fn put_back(order: Order, list: &mut [i32], count: usize, slot: SlotId) -> usize
-    requires { ⌜ Stored (now list) count (waits count (now list)) × (slot .0 < length (now list)) × (length (now list) < index-limit) × Queue (length (now list)) (waits count (now list)) ⌝ }
+    requires { ⌜ Admits (now list) count (slot .0) ⌝ }
     ensures { λ r. ⌜ Stored (now (list .exit)) r (put-back order (slot .0) (waits count (now (list .entry)))) ⌝ }
 {
     let others = remove(list, count, slot);

@@ -11,8 +11,8 @@ returns : tie.Need-returns
 returns c =
     let s = c .before .before .before .before .before in
     let e = c .before .before .enum-told .given .1 in
-    let v = c .before .verdict-of .ensures .verdict (waits (s .args .p .waiting) (s .args .list .now)) (s .pre .0 .count) in
-    rw (c .ended .ensures) (record { load = λ y t t₀ l₀. rw (e, v, add-one); stored = s .pre .0; used = refl; capacity = refl; settings = refl; iterations = refl })
+    let v = c .before .verdict-of .ensures .verdict (waits (s .args .p .waiting) (s .args .list .now)) (s .pre .0 .stored .count) in
+    rw (c .ended .ensures) (record { load = λ y t t₀ l₀. rw (e, v, add-one); stored = s .pre .0 .stored; used = refl; capacity = refl; settings = refl; iterations = refl })
 
 returns-2 : tie.Need-returns-2
 returns-2 c =

@@ -96,7 +96,7 @@ finish-requires c κs =
     let v = c .before .before .before in
     let d = d (p v) in
     let k = played v .kept in
-    (k .slots, omega (arith, taken d .1, start d .pre .0 .kept .capacity, size v), k .small, more (v .leave .result .used) (length (list v)) _ (k .capacity) (k .queue), start d .pre .1)
+    (record { stored = k .slots; slot = omega (arith, taken d .1, start d .pre .0 .kept .capacity, size v); small = k .small; queue = more (v .leave .result .used) (length (list v)) _ (k .capacity) (k .queue) }, start d .pre .1)
 
 same-length-3 : tie.Need-same-length-3
 same-length-3 c = c .before .finish .kept .1 .1 .1 .0 ∙ size (c .before .before .before .before .before)

@@ -7,6 +7,7 @@ use borrow.Author.Tests.{not-true, not-false, eq-eqb, ne-eqb}
 use lib.Dec.{eqb}
 use mir.Syntax.{w32}
 use mir.ValLaws.{toZ-ofZ}
+use Rattle.semantics.specs.Layout.{most-iterations}
 use Rattle.semantics.specs.Outcomes.{Case, case, refusal, budget-ok, form-of, run-cases}
 use Rattle.semantics.proofs.FirstCase.{none-holds, later, sooner}
 use Rattle.checks.specs.Form.{lent}
@@ -20,7 +21,7 @@ module _ (s : tie.Start) where
   form = form-of (s .args .chart .now) (lent (s .args .table .now) (s .args .list .now) (s .args .a))
 
   abbrev rest : List Case
-  rest = case 22 (has-verdict (s .args .a .verdict)) ∷ case 23 (eqb (s .args .a .iterations) 60000) ∷ []
+  rest = case 22 (has-verdict (s .args .a .verdict)) ∷ case 23 (eqb (s .args .a .iterations) most-iterations) ∷ []
 
 budget-said : (c : tie.After-budget-ok) → budget-ok (c .before .args .budget) ≡ c .budget-ok .result
 budget-said c = sym (c .budget-ok .ensures ∙ ap budget-ok (toZ-ofZ w32 (c .before .args .budget) (c .before .fits .budget)))
@@ -38,7 +39,7 @@ returns-2 c =
     rw (budget-passed f) (sooner (form s) (rest s) _ (c .before .form-refusal .ensures) (c .if2 .taken))
 
 -- by the last two tests
-last : (c : tie.Else2) {v n : Bool} → let s = c .before .before .before .before in has-verdict (s .args .a .verdict) ≡ v → eqb (s .args .a .iterations) 60000 ≡ n
+last : (c : tie.Else2) {v n : Bool} → let s = c .before .before .before .before in has-verdict (s .args .a .verdict) ≡ v → eqb (s .args .a .iterations) most-iterations ≡ n
     → refusal (case 22 v ∷ case 23 n ∷ []) ≡ refusal (run-cases (s .args .budget) (form s) (s .args .a .verdict) (s .args .a .iterations))
 last c p q =
     let f = c .before .before in
@@ -50,10 +51,10 @@ returns-3 : tie.Need-returns-3
 returns-3 c = last (c .before .before) (sym (c .before .has-verdict .ensures) ∙ c .if3 .taken) refl
 
 returns-4 : tie.Need-returns-4
-returns-4 c = let o = c .before .before in last (o .before .before) (sym (o .before .has-verdict .ensures) ∙ o .if3 .left) (eq-eqb _ 60000 (c .if4 .taken))
+returns-4 c = let o = c .before .before in last (o .before .before) (sym (o .before .has-verdict .ensures) ∙ o .if3 .left) (eq-eqb _ most-iterations (c .if4 .taken))
 
 returns-5 : tie.Need-returns-5
-returns-5 c = let o = c .before .before in last (o .before .before) (sym (o .before .has-verdict .ensures) ∙ o .if3 .left) (ne-eqb _ 60000 (c .if4 .left))
+returns-5 c = let o = c .before .before in last (o .before .before) (sym (o .before .has-verdict .ensures) ∙ o .if3 .left) (ne-eqb _ most-iterations (c .if4 .left))
 
 pub run-refusal-spec : {M : Type 1} → statement M
 run-refusal-spec =

@@ -10,7 +10,7 @@ use Rattle.semantics.specs.Memory.{analysis-ok}
 use Rattle.semantics.specs.Outcomes.{Case, case, refusal, size-of, form-of}
 use Rattle.semantics.proofs.FirstCase.{NoneHolds, none-holds, enough, later, sooner}
 use Rattle.checks.specs.Form.{lent}
-use Rattle.checks.proofs.FormTests.{stride-is}
+use Rattle.state.proofs.Layouts.{is-layout, slots-in}
 use Rattle.checks.proofs.form_refusal.Statement.{statement}
 use Rattle.checks.proofs.form_refusal.Tie as tie
 
@@ -42,7 +42,7 @@ analysis-ok-requires : tie.Need-analysis-ok-requires
 analysis-ok-requires c κs =
     let s = start (c .before) .args in
     let h = enough (decode (s .chart .now)) (s .a .capacity) (length (s .table .now)) (length (s .list .now)) (none (c .before) .1 .0) in
-    record { layout = c .layout-of .ensures; table = rw (stride-is (s .chart .now) (c .layout-of .ensures)) (h .0); list = h .1 }
+    record { layout = c .layout-of .ensures; table = slots-in (is-layout (s .chart .now) _ (c .layout-of .ensures .0)) (s .a .capacity) (length (s .table .now)) (h .0); list = h .1 }
 
 returns-2 : tie.Need-returns-2
 returns-2 c = last (c .before .before .before) (sym (c .before .analysis-ok .ensures) ∙ not-true _ (c .if2 .taken))

@@ -10,7 +10,7 @@ use lib.ListN.{length, take, drop}
 use lib.Seq.{length-take-le}
 use Rattle.semantics.specs.Memory.{zeros}
 use Rattle.words.proofs.Rows.{drop-take}
-use Rattle.checks.proofs.FormTests.{stride-is}
+use Rattle.state.proofs.Layouts.{is-layout}
 use Rattle.checks.proofs.lent_ok.Statement.{statement}
 use Rattle.checks.proofs.lent_ok.Tie as tie
 
@@ -50,7 +50,7 @@ returns-3 c =
     let r = w .before .before in
     let f = r .before .before .before in
     let a = start f .args in
-    let n = stride-is (a .chart .now) (start f .pre .layout) in
+    let n = is-layout (a .chart .now) _ (start f .pre .layout .0) .stride in
     let slots =
     z .all-zero .ensures ∙ ap zeros (sym (drop-take (used f * stride f) (capacity f * stride f) (a .table .now)))
     ∙ λ j. zeros (drop (used f * n j) (take (capacity f * n j) (a .table .now))) in

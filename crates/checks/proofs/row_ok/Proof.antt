@@ -1,14 +1,16 @@
 -- `checks::row_ok` meets its contract. Assumes nothing.
-use mathlib.Core.Path.{_∙_}
+use mathlib.Core.Path.{ap, _∙_}
 use mathlib.Core.Bool.{_&&_}
+use native.Mathlib.Omega.{arith}
 use borrow.Author.Needs.{needs, sfits-of}
-use lib.ListN.{length, drop}
+use lib.ListN.{length, drop, length-drop}
 use mir.Syntax.{w32}
 use mir.ValLaws.{toZ-ofZ}
 use Rattle.semantics.specs.Lists.{all-pairs}
 use Rattle.semantics.specs.Layout.{counts-size, variable-size}
 use Rattle.semantics.specs.Encoding.{several, var-in}
 use Rattle.semantics.specs.Memory.{value-ok, below}
+use Rattle.state.specs.Rows.{head-size}
 use Rattle.checks.proofs.FormTests.{row-is}
 use Rattle.checks.proofs.row_ok.Statement.{statement}
 use Rattle.checks.proofs.row_ok.Tie as tie
@@ -22,9 +24,14 @@ returns c =
     let v = c .before .values .ensures in
     (λ j. b .is-below .ensures j && c .values-ok .ensures j)
     ∙ (λ j. below (b .before .location-count .ensures .0 j) (w j) && all-pairs value-ok (several var-in variable-size (length (v j)) (drop counts-size (s .args .chart .now))) (v j))
-    ∙ row-is (s .args .chart .now) (s .args .row .now) (s .pre)
+    ∙ row-is (s .args .chart .now) (s .args .row .now) (s .pre .0)
+
+values-ok-requires : tie.Need-values-ok-requires
+values-ok-requires c κs =
+    let s = c .before .before .before .before in
+    omega (arith, ap length (c .values .ensures), length-drop head-size (s .args .row .now), s .pre .1)
 
 pub row-ok-spec : {M : Type 1} → statement M
 row-ok-spec =
     tie.close
-    (tie.spec (λ c κs. search needs) (λ c κs. search needs) (λ c κs. search needs) (λ c κs. search needs) (λ c κs. search needs) returns)
+    (tie.spec (λ c κs. search needs) (λ c κs. search needs) (λ c κs. search needs) (λ c κs. search needs) values-ok-requires returns)

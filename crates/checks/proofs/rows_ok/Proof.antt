@@ -14,7 +14,8 @@ use lib.ListN.{length, drop}
 use Rattle.semantics.specs.Encoding.{decode}
 use Rattle.semantics.specs.Memory.{width, rows-ok}
 use Rattle.words.proofs.Rows.{span, part-length, row-in}
-use Rattle.checks.proofs.FormTests.{width-is, stride-is, rows-turn}
+use Rattle.state.proofs.Layouts.{is-layout}
+use Rattle.checks.proofs.FormTests.{rows-turn}
 use Rattle.checks.proofs.rows_ok.Statement.{statement}
 use Rattle.checks.proofs.rows_ok.Tie as tie
 
@@ -49,18 +50,19 @@ module _ (c : tie.In-loop Inv-loop μ-loop) where
   stride = start .args .layout .stride
 
   wide : w ≡ width (decode chart)
-  wide = c .before .before .width .ensures ∙ width-is chart (start .pre .0)
+  wide = c .before .before .width .ensures ∙ is-layout chart _ (start .pre .0 .0) .wide
 
   next : c .before .loop .from + stride ≤ length table
   next = omega (arith, start .pre .1, c .before .loop .inv .1, row-in (c .before .loop .s) used stride (c .loop-test .taken))
 
   room : c .before .loop .from + w ≤ length table
-  room = omega (arith, next, wide, stride-is chart (start .pre .0))
+  room = omega (arith, next, wide, is-layout chart _ (start .pre .0 .0) .stride)
 
 row-ok-requires : tie.Need-row-ok-requires Inv-loop μ-loop
 row-ok-requires c κs =
     let p = c .before in
-    rw span (part-length (table p) (p .before .loop .from) (w p) (room p)) ∙ wide p
+    let l = part-length (table p) (p .before .loop .from) (w p) (room p) in
+    (rw span l ∙ wide p, rw span (omega (arith, l, p .before .before .width .ensures, start p .pre .0 .1)))
 
 turn : (c : tie.After-row-ok Inv-loop μ-loop) (b : Bool) → c .row-ok .result ≡ b →
     let p = c .before .before in
@@ -71,7 +73,7 @@ turn c b h =
     let l = p .before .loop in
     let n : used p - l .s ≡ suc (used p - (l .s + 1)) = omega (arith, p .loop-test .taken) in
     l .inv .2 ∙ ap (λ (n : ℕ). rows-ok (decode (chart p)) n (drop (l .from) (table p))) n
-    ∙ rows-turn (chart p) (table p) (l .from) (w p) (stride p) (used p - (l .s + 1)) (wide p) (stride-is (chart p) (start p .pre .0)) b (sym (rw span at (c .row-ok .ensures)) ∙ h)
+    ∙ rows-turn (chart p) (table p) (l .from) (w p) (stride p) (used p - (l .s + 1)) (wide p) (is-layout (chart p) _ (start p .pre .0 .0) .stride) b (sym (rw span at (c .row-ok .ensures)) ∙ h)
 
 returns : tie.Need-returns Inv-loop μ-loop
 returns c = sym (turn (c .before) false (not-true (c .before .row-ok .result) (c .if1 .taken)))

@@ -9,7 +9,7 @@ use borrow.Author.Needs.{needs}
 use borrow.Author.Tests.{not-true, not-false}
 use Rattle.semantics.specs.Encoding.{decode, well-formed}
 use Rattle.semantics.specs.Outcomes.{case, refusal, too-few, size-of}
-use Rattle.checks.proofs.FormTests.{width-is, stride-is}
+use Rattle.state.proofs.Layouts.{is-layout}
 use Rattle.checks.proofs.size_refusal.Statement.{statement}
 use Rattle.checks.proofs.size_refusal.Tie as tie
 
@@ -29,7 +29,7 @@ few : (c : tie.After-too-few) → let s = c .before .before .before .before .arg
 few c =
     let y = c .before .layout-of in
     let s = c .before .before .before .before .args in
-    c .too-few .ensures ∙ λ j. ltb (s .table) (s .capacity * stride-is (s .chart .now) (y .ensures) j) || ltb (s .list) (s .capacity)
+    c .too-few .ensures ∙ λ j. ltb (s .table) (s .capacity * is-layout (s .chart .now) _ (y .ensures .0) .stride j) || ltb (s .list) (s .capacity)
 
 returns-2 : tie.Need-returns-2
 returns-2 c = let f = c .before .before .before in by-tests (f .before .before) (formed f) (sym (few (c .before)) ∙ c .if2 .taken)
@@ -38,7 +38,7 @@ returns-3 : tie.Need-returns-3
 returns-3 c = let f = c .before .before .before in by-tests (f .before .before) (formed f) (sym (few (c .before)) ∙ c .if2 .left)
 
 too-few-requires : tie.Need-too-few-requires
-too-few-requires c κs = let ws = c .before .before .before .args .chart .now in omega (arith, c .layout-of .ensures .1, stride-is ws (c .layout-of .ensures), width-is ws (c .layout-of .ensures))
+too-few-requires c κs = let y = is-layout (c .before .before .before .args .chart .now) _ (c .layout-of .ensures .0) in omega (arith, c .layout-of .ensures .1, y .wide, y .stride)
 
 pub size-refusal-spec : {M : Type 1} → statement M
 size-refusal-spec = tie.close (tie.spec (λ c κs. search needs) returns (λ c κs. search needs) too-few-requires returns-2 returns-3)

@@ -6,10 +6,11 @@ use mathlib.Core.List.{List, map}
 use Prim.Native.Nat.{ℕ, _+_, _-_, _≤_}
 use native.Mathlib.Omega.{arith}
 use borrow.Author.Needs.{needs, sfits-of}
-use lib.IntN.{ℤ, pos, natAbs}
-use lib.ListN.{length, drop, set, getD, drop-of-length-le}
+use lib.IntN.{ℤ, natAbs}
+use lib.ListN.{length, drop, set, drop-of-length-le}
 use mir.Syntax.{w32}
 use mir.ValLaws.{toZ-ofZ}
+use Rattle.semantics.specs.Encoding.{count}
 use Rattle.listing.specs.Pieces.{marked}
 use Rattle.listing.proofs.TextPieces.{marks-turn}
 use Rattle.listing.proofs.mark_waiting.Statement.{statement}
@@ -27,8 +28,8 @@ loop-again c =
     let k = c .before .before .before in
     let l = k .before .before .before .before .loop in
     let list = k .before .before .before .before .before .before .args .list .now in
-    let n : k .magnitude .result ≡ natAbs (getD list (l .i) (pos 0)) = rw (toZ-ofZ w32 _ (sfits-of (k .before .magnitude-arg .given))) at (k .magnitude .ensures .0) in
-    let e : set (l .marks) (natAbs (getD list (l .i) (pos 0))) true ≡ m .last .0 = ap (λ (j : ℕ). set (l .marks) j true) (sym n) ∙ sym (m .ensures) in (
+    let n : k .magnitude .result ≡ count list (l .i) = rw (toZ-ofZ w32 _ (sfits-of (k .before .magnitude-arg .given))) at (k .magnitude .ensures .0) in
+    let e : set (l .marks) (count list (l .i)) true ≡ m .last .0 = ap (λ (j : ℕ). set (l .marks) j true) (sym n) ∙ sym (m .ensures) in (
       omega arith,
       m .kept .0 ∙ l .inv .1,
       l .inv .2 ∙ marks-turn (l .marks) list (l .i) (k .before .before .before .loop-test .taken) ∙ ap (λ (ms : List Bool). marked ms (map natAbs (drop (l .i + 1) list))) e,

@@ -11,12 +11,13 @@ use borrow.Author.Needs.{needs}
 use lib.Dec.{eqb}
 use lib.IntN.{ℤ, natAbs}
 use lib.ListN.{length, take, drop, getD}
+use Rattle.semantics.specs.Layout.{most-slots}
 use Rattle.semantics.specs.Lists.{some-of}
 use Rattle.semantics.specs.Encoding.{decode}
 use Rattle.semantics.specs.Memory.{width, state-in, states-in}
 use Rattle.semantics.specs.Listing.{slot-text, slots-text}
 use Rattle.words.proofs.Rows.{span, part-length, row-in}
-use Rattle.checks.proofs.FormTests.{width-is, stride-is}
+use Rattle.state.proofs.Layouts.{is-layout}
 use Rattle.writer.proofs.Written.{Completes, one-more, all-put}
 use Rattle.listing.proofs.TextPieces.{slots-turn, marked-from-none}
 use Rattle.listing.proofs.put_slots.Statement.{statement}
@@ -60,10 +61,10 @@ module _ (m : tie.After-mark-waiting Inv-loop μ-loop) where
   stride = layout .layout-of .result .stride
 
   wide : w ≡ width (decode chart)
-  wide = m .before .before .width .ensures ∙ width-is chart (layout .layout-of .ensures)
+  wide = m .before .before .width .ensures ∙ is-layout chart _ (layout .layout-of .ensures .0) .wide
 
   far : stride ≡ width (decode chart)
-  far = stride-is chart (layout .layout-of .ensures)
+  far = is-layout chart _ (layout .layout-of .ensures .0) .stride
 
 -- a turn
 module _ (c : tie.In-loop Inv-loop μ-loop) where
@@ -90,7 +91,7 @@ module _ (c : tie.In-loop Inv-loop μ-loop) where
   mark-of : getD (outer .mark-waiting .last .0) s false ≡ some-of (eqb s) (waits outer)
   mark-of =
       ap (λ (ms : List Bool). getD ms s false) (outer .mark-waiting .ensures)
-      ∙ marked-from-none 256 (waits outer) s (omega (arith, start outer .pre .2, c .loop-test .taken))
+      ∙ marked-from-none most-slots (waits outer) s (omega (arith, start outer .pre .2, c .loop-test .taken))
 
 put-slot-requires : tie.Need-put-slot-requires Inv-loop μ-loop
 put-slot-requires c κs =

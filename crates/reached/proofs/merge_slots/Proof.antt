@@ -53,7 +53,7 @@ wait-unless-requires c κs =
     let b = i .before in
     let p = b .before .pre .1 in
     let l = b .loop .inv .3 in
-    (b .loop .inv .4, omega (arith, i .loop-test .taken, l, p .2), omega (arith, l, p .3), more (b .before .args .used) (length (b .loop .list)) (waits (b .loop .count) (b .loop .list)) (omega (arith, l, p .2)) (b .loop .inv .5))
+    record { stored = b .loop .inv .4; slot = omega (arith, i .loop-test .taken, l, p .2); small = omega (arith, l, p .3); queue = more (b .before .args .used) (length (b .loop .list)) (waits (b .loop .count) (b .loop .list)) (omega (arith, l, p .2)) (b .loop .inv .5) }
 
 loop-again : tie.Need-loop-again Inv-loop μ-loop
 loop-again c =

@@ -6,19 +6,19 @@ use mathlib.Core.List.{_++_}
 use Prim.Native.Nat.{_-_, _≤_, _<_}
 use native.Mathlib.Omega.{arith}
 use borrow.Author.Needs.{needs, sfits-of}
-use lib.IntN.{pos}
-use lib.ListN.{length, take, drop, getD, length-set}
+use lib.ListN.{length, take, drop, length-set}
 use mir.Syntax.{w32}
 use mir.ValLaws.{toZ-ofZ}
+use Rattle.semantics.specs.Encoding.{word-at}
 use Rattle.words.proofs.Words.{bits-eqb}
-use Rattle.state.specs.Rows.{word-join, words-join, same-words, row-join}
+use Rattle.state.specs.Rows.{head-size, word-join, words-join, same-words, row-join}
 use Rattle.state.proofs.RowLoops.{join-turn, join-end, same-start, same-turn, same-end}
 use Rattle.state.proofs.join_row.Statement.{statement}
 use Rattle.state.proofs.join_row.Tie as tie
 
 abbrev Inv-loop : tie.InvT-loop
 Inv-loop s₀ e same₀ i₀ s same i =
-    (1 ≤ i) × (i ≤ length s) × (length s ≡ length s₀)
+    (head-size ≤ i) × (i ≤ length s) × (length s ≡ length s₀)
     × (row-join e s₀ ≡ take i s ++ words-join (drop i e) (drop i s))
     × (same-words (row-join e s₀) s₀ ≡ same && same-words (words-join (drop i e) (drop i s)) (drop i s))
 
@@ -34,8 +34,8 @@ loop-again c =
     let e = b .before .args .e .now in
     let s = b .loop .s in
     let i = b .loop .i in
-    let x = getD e i (pos 0) in
-    let y = getD s i (pos 0) in
+    let x = word-at e i in
+    let y = word-at s i in
     let z = c .join-word .result in
     let fy = sfits-of (c .before .y .given) in
     let fz = sfits-of {z = z} (c .join-word .ok) in

@@ -5,17 +5,17 @@ use mathlib.Core.Bool.{_&&_}
 use Prim.Native.Nat.{_-_, _≤_}
 use native.Mathlib.Omega.{arith}
 use borrow.Author.Needs.{needs, sfits-of}
-use lib.IntN.{pos}
-use lib.ListN.{length, drop, getD}
+use lib.ListN.{length, drop}
 use mir.Syntax.{w32}
 use mir.ValLaws.{toZ-ofZ}
-use Rattle.state.specs.Rows.{word-leq, words-leq}
+use Rattle.semantics.specs.Encoding.{word-at}
+use Rattle.state.specs.Rows.{head-size, values-of, word-leq, words-leq}
 use Rattle.state.proofs.RowLoops.{leq-turn, leq-end}
 use Rattle.state.proofs.leq_values.Statement.{statement}
 use Rattle.state.proofs.leq_values.Tie as tie
 
 abbrev Inv-loop : tie.InvT-loop
-Inv-loop e s ok₀ i₀ ok i = (1 ≤ i) × (i ≤ length s) × (words-leq (drop 1 e) (drop 1 s) ≡ ok && words-leq (drop i e) (drop i s))
+Inv-loop e s ok₀ i₀ ok i = (head-size ≤ i) × (i ≤ length s) × (words-leq (values-of e) (values-of s) ≡ ok && words-leq (drop i e) (drop i s))
 
 abbrev μ-loop : tie.MeasureT-loop
 μ-loop e s ok₀ i₀ ok i = length s - i
@@ -27,9 +27,9 @@ loop-again c =
     let e = a .e .now in
     let s = a .s .now in
     let i = b .loop .i in
-    let bx = toZ-ofZ w32 (getD e i (pos 0)) (sfits-of (c .before .before .x .given)) in
-    let by = toZ-ofZ w32 (getD s i (pos 0)) (sfits-of (c .before .y .given)) in
-    let found : c .leq-word .result ≡ word-leq (getD e i (pos 0)) (getD s i (pos 0)) = rw (bx, by) at (c .leq-word .ensures) in
+    let bx = toZ-ofZ w32 (word-at e i) (sfits-of (c .before .before .x .given)) in
+    let by = toZ-ofZ w32 (word-at s i) (sfits-of (c .before .y .given)) in
+    let found : c .leq-word .result ≡ word-leq (word-at e i) (word-at s i) = rw (bx, by) at (c .leq-word .ensures) in
     (omega arith, omega arith, b .loop .inv .2 ∙ leq-turn e s i (omega arith) (omega arith) (b .loop .ok) ∙ rw found)
 
 returns : tie.Need-returns Inv-loop μ-loop

@@ -21,6 +21,10 @@ Inv-loop chart out₀ n k₀ out k =
 abbrev μ-loop : tie.MeasureT-loop
 μ-loop chart out₀ n k₀ out k = n - k
 
+-- the number of variables, seen from the loop
+abbrev counted : tie.At-loop Inv-loop μ-loop → tie.After-var-count Inv-loop μ-loop
+counted b = b .before .before .before .before
+
 loop-holds : tie.Need-loop-holds Inv-loop μ-loop
 loop-holds c =
     let l = c .before in
@@ -35,7 +39,7 @@ loop-again c =
     let s = c .before .set-value in
     let i = c .before .before .before .variable-init in
     let b = c .before .before .before .before .before in
-    let p = b .before .before .before .before in
+    let p = counted b in
     let ws = p .before .args .chart .now in
     let o = b .loop .out in
     let k = b .loop .k in
@@ -53,12 +57,12 @@ loop-again c =
 same-length : tie.Need-same-length Inv-loop μ-loop
 same-length c =
     let b = c .before in
-    omega (arith, b .loop .inv .1, b .before .before .before .before .var-count .ensures .0)
+    omega (arith, b .loop .inv .1, counted b .var-count .ensures .0)
 
 returns : tie.Need-returns Inv-loop μ-loop
 returns c =
     let b = c .before in
-    let p = b .before .before .before .before in
+    let p = counted b in
     let k = b .loop .k in
     let n = p .var-count .result in
     let h : length (b .loop .out) ≤ k + 1 = omega arith in
@@ -74,9 +78,9 @@ initial-spec =
     (λ c κs. search needs)
     (λ c κs. omega arith)
     loop-holds
-    (λ c κs. omega (arith, c .before .before .before .before .before .var-count .ensures .1))
-    (λ c κs. omega (arith, c .before .before .before .before .before .before .before .var-count .ensures .1))
-    (λ c. omega (arith, c .before .before .before .before .before .before .before .before .before .var-count .ensures .1))
+    (λ c κs. omega (arith, counted (c .before) .var-count .ensures .1))
+    (λ c κs. omega (arith, counted (c .before .before .before) .var-count .ensures .1))
+    (λ c. omega (arith, counted (c .before .before .before .before .before) .var-count .ensures .1))
     (λ c. omega arith)
     loop-again
     same-length

@@ -13,8 +13,8 @@ use Rattle.waitlist.proofs.put_back.Tie as tie
 ready : (r : tie.After-remove) → Stored (r .remove .last .0) (r .remove .result) (waits (r .remove .result) (r .remove .last .0)) × (r .remove .result < length (r .remove .last .0)) × (r .before .before .args .slot .0 + 1 < index-limit)
 ready r =
     let s = r .before .before in
-    let m = back-room (length (s .args .list .now)) (s .args .slot .0) (waits (s .args .count) (s .args .list .now)) (s .pre .3) (s .pre .1) in
-    (kept (r .remove .ensures), omega (arith, m, r .remove .ensures .count, r .remove .kept .0), omega arith)
+    let m = back-room (length (s .args .list .now)) (s .args .slot .0) (waits (s .args .count) (s .args .list .now)) (s .pre .queue) (s .pre .slot) in
+    (kept (r .remove .ensures), omega (arith, m, r .remove .ensures .count, r .remove .kept .0), omega (arith, s .pre .slot, s .pre .small))
 
 returns : tie.Need-returns
 returns c =
@@ -30,7 +30,7 @@ pub put-back-spec : {M : Type 1} → statement M
 put-back-spec =
     tie.close
     (tie.spec
-    (λ c κs. search needs)
+    (λ c κs. let p = c .before .pre in (p .stored, omega (arith, p .slot, p .small)))
     (λ c. search needs)
     (λ c κs. ready (c .before .before .before .before))
     (λ c. search needs)

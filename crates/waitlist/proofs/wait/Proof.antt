@@ -15,14 +15,14 @@ returns : tie.Need-returns
 returns c =
     let h = c .before .contains .ensures in
     let b : some-of (eqb (c .before .before .before .args .slot .0)) (waits (c .before .before .before .args .count) (c .before .before .before .args .list .now)) ≡ true = sym h ∙ c .if1 .taken in
-    rw b (c .before .before .before .pre .0)
+    rw b (c .before .before .before .pre .stored)
 
 append-requires : tie.Need-append-requires
 append-requires c κs =
     let s = c .before .before .before .before in
     let h = sym (c .before .before .contains .ensures) ∙ c .before .if1 .left in
-    let m = queue-room (length (s .args .list .now)) (s .args .slot .0) (waits (s .args .count) (s .args .list .now)) (s .pre .3) (s .pre .1) h in
-    (s .pre .0, omega (arith, s .pre .0 .count, m), omega arith)
+    let m = queue-room (length (s .args .list .now)) (s .args .slot .0) (waits (s .args .count) (s .args .list .now)) (s .pre .queue) (s .pre .slot) h in
+    (s .pre .stored, omega (arith, s .pre .stored .count, m), omega (arith, s .pre .slot, s .pre .small))
 
 returns-2 : tie.Need-returns-2
 returns-2 c =
@@ -33,4 +33,4 @@ returns-2 c =
 pub wait-spec : {M : Type 1} → statement M
 wait-spec =
     tie.close
-    (tie.spec (λ c κs. search needs) (λ c. search needs) returns append-requires (λ c. search needs) returns-2)
+    (tie.spec (λ c κs. let p = c .before .pre in (p .stored, omega (arith, p .slot, p .small))) (λ c. search needs) returns append-requires (λ c. search needs) returns-2)

@@ -4,7 +4,7 @@ use Rattle.waitlist.proofs.wait_unless.Statement.{statement}
 use Rattle.waitlist.proofs.wait_unless.Tie as tie
 
 returns : tie.Need-returns
-returns c = rw (c .if1 .taken) (c .before .pre .0)
+returns c = rw (c .if1 .taken) (c .before .pre .stored)
 
 returns-2 : tie.Need-returns-2
 returns-2 c = rw (c .before .before .before .if1 .left) (c .before .wait .ensures)

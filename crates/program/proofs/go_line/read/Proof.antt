@@ -68,7 +68,7 @@ returns-4 : tie.Need-returns-4
 unfolding asked-res
 returns-4 c =
     let j = c .before .before .before in
-    passed (j .before .before) ∙ sym (j .judged .ensures) ∙ ap asked-res (c .before .n .given .1)
+    passed (j .before .before) ∙ sym (j .go-fields .ensures) ∙ ap asked-res (c .before .n .given .1)
 
 returns-5 : tie.Need-returns-5
 unfolding asked-res
@@ -76,7 +76,7 @@ returns-5 c =
     let j = c .before .before .before in
     let k = j .before .before in
     record {
-      is = passed k ∙ sym (j .judged .ensures) ∙ ap asked-res (c .before .go .given .1);
+      is = passed k ∙ sym (j .go-fields .ensures) ∙ ap asked-res (c .before .go .given .1);
       within = omega (arith, ended k);
       rest = past-end _ _ (end-is (k .before .before .before .before .before));
     }

@@ -1,4 +1,4 @@
--- `program::go_line::count_fields` meets its contract. Assumes nothing.
+-- `program::go_line::counts` meets its contract. Assumes nothing.
 use borrow.Author.Needs.{needs}
 use mathlib.Core.Path.{_≡_, _∙_}
 use mir.Syntax.{w32}
@@ -6,8 +6,8 @@ use mir.Val.{toZ, ofZ}
 use Rattle.semantics.specs.Reading.{if-ok}
 use Rattle.text.specs.Fields.{number-said}
 use Rattle.program.specs.Asked.{asked-res}
-use Rattle.program.proofs.go_line.count_fields.Statement.{statement}
-use Rattle.program.proofs.go_line.count_fields.Tie as tie
+use Rattle.program.proofs.go_line.counts.Statement.{statement}
+use Rattle.program.proofs.go_line.counts.Tie as tie
 
 returns : tie.Need-returns
 unfolding asked-res number-said if-ok
@@ -26,9 +26,9 @@ returns-3 c =
     let z = b .budget .given .0 .0 in
     let p : toZ w32 (ofZ w32 r) ≡ r = search needs in
     let q : toZ w32 (ofZ w32 z) ≡ z = search needs in
-    c .sizes .ensures ∙ simp (a .capacity .given .1, b .budget .given .1, p, q)
+    c .sized .ensures ∙ simp (a .capacity .given .1, b .budget .given .1, p, q)
 
-pub count-fields-spec : {M : Type 1} → statement M
-count-fields-spec =
+pub counts-spec : {M : Type 1} → statement M
+counts-spec =
     tie.close
     (tie.spec (λ c. search needs) (λ c. search needs) returns (λ c. search needs) (λ c. search needs) returns-2 (λ c κs. search needs) returns-3)

@@ -1,4 +1,4 @@
--- `program::go_line::judged` meets its contract: the tests cannot tell a cut number from the number. Assumes nothing.
+-- `program::go_line::go_fields` meets its contract: the tests cannot tell a cut number from the number. Assumes nothing.
 use borrow.Author.Needs.{needs}
 use mathlib.Core.Path.{_≡_, sym, ap, _∙_}
 use mathlib.Core.List.{List}
@@ -9,8 +9,8 @@ use Rattle.semantics.specs.Text.{bytes, same-bytes, fields}
 use Rattle.semantics.specs.Reading.{check, if-ok, nth, filled}
 use Rattle.program.specs.Asked.{settings-res, asked-res}
 use Rattle.program.proofs.Cut.{counts-cut}
-use Rattle.program.proofs.go_line.judged.Statement.{statement}
-use Rattle.program.proofs.go_line.judged.Tie as tie
+use Rattle.program.proofs.go_line.go_fields.Statement.{statement}
+use Rattle.program.proofs.go_line.go_fields.Tie as tie
 
 -- what the tests say
 fields-passed : (c : tie.Else1) → filled 6 (fields (c .before .before .before .args .line .now)) ≡ true
@@ -43,10 +43,10 @@ returns-4 c =
     let g = n .before .before .before in
     let s = g .before .before in
     rw (fields-passed (s .before .before .before .before .before), word-passed (s .before), sym (s .settings-fields .ensures) ∙ ap settings-res (g .settings .given .1))
-    (c .count-fields .ensures ∙ rw (c .before .number2 .ensures, n .number .ensures, c .before .before .field3 .ensures, n .before .field2 .ensures) (counts-cut (g .settings .given .0 .0) _ _))
+    (c .counts .ensures ∙ rw (c .before .number2 .ensures, n .number .ensures, c .before .before .field3 .ensures, n .before .field2 .ensures) (counts-cut (g .settings .given .0 .0) _ _))
 
-pub judged-spec : {M : Type 1} → statement M
-judged-spec =
+pub go-fields-spec : {M : Type 1} → statement M
+go-fields-spec =
     tie.close
     (tie.spec
     (λ c κs. search needs)

@@ -1,4 +1,4 @@
--- `program::go_line::sizes` meets its contract: each test that passed leaves the next. Assumes nothing.
+-- `program::go_line::sized` meets its contract: each test that passed leaves the next. Assumes nothing.
 use borrow.Author.Needs.{needs, sfits-of}
 use mathlib.Core.Path.{_≡_, sym, ap, _∙_}
 use borrow.Author.Tests.{not-true, not-false}
@@ -10,8 +10,8 @@ use Rattle.semantics.specs.Memory.{capacity-ok}
 use Rattle.semantics.specs.Outcomes.{budget-ok}
 use Rattle.program.specs.declared.go_line.Go.{Go}
 use Rattle.program.specs.Asked.{asked-res}
-use Rattle.program.proofs.go_line.sizes.Statement.{statement}
-use Rattle.program.proofs.go_line.sizes.Tie as tie
+use Rattle.program.proofs.go_line.sized.Statement.{statement}
+use Rattle.program.proofs.go_line.sized.Tie as tie
 
 -- what the tests say
 module _ (c : tie.After-budget-ok) where
@@ -55,7 +55,7 @@ returns-4 c =
     let t = c .before .before .before in
     rw (capacity-said t ∙ not-false _ (c .before .before .if1 .left), settings-said t ∙ not-false _ (c .before .if2 .left), budget-said t ∙ not-false _ (c .if3 .left))
 
-pub sizes-spec : {M : Type 1} → statement M
-sizes-spec =
+pub sized-spec : {M : Type 1} → statement M
+sized-spec =
     tie.close
     (tie.spec (λ c κs. search needs) (λ c κs. search needs) (λ c κs. search needs) returns returns-2 returns-3 returns-4)
