@@ -10,6 +10,7 @@ use lib.Dec.{T, leb, eqb, leb→le, eqb→eq}
 use lib.IntN.{ℤ, pos, natAbs}
 use lib.ListN.{length, getD, take, drop}
 use lib.Seq.{drop-drop}
+use Rattle.semantics.specs.Layout.{counts-size, variable-size, name-size, location-size, name-place}
 use Rattle.semantics.specs.Lists.{all, pick}
 use Rattle.semantics.specs.Text.{between, name-byte, name-ok}
 use Rattle.semantics.specs.Chart.{Loc, eqZ}
@@ -21,24 +22,24 @@ use Rattle.chart.specs.Encoded.{locations-at, byte-of}
 use Rattle.chart.proofs.Rows.{past-drop}
 
 -- location k of n
-text-at : (n k : ℕ) (ws : List ℤ) → k < n → loc-text (several loc-in 17 n ws) k ≡ loc-in (drop (17 * k) ws) .name
+text-at : (n k : ℕ) (ws : List ℤ) → k < n → loc-text (several loc-in location-size n ws) k ≡ loc-in (drop (location-size * k) ws) .name
 text-at zero k ws h = absurd (omega arith)
 text-at (suc n) zero ws h = refl
 text-at (suc n) (suc k) ws h =
-    let e : 17 + 17 * k ≡ 17 * suc k = omega arith in
-    text-at n k (drop 17 ws) (omega arith) ∙ rw (drop-drop (17 * k) 17 ws, e)
+    let e : location-size + location-size * k ≡ location-size * suc k = omega arith in
+    text-at n k (drop location-size ws) (omega arith) ∙ rw (drop-drop (location-size * k) location-size ws, e)
 
-text-past : (n k : ℕ) (ws : List ℤ) → n ≤ k → loc-text (several loc-in 17 n ws) k ≡ []
+text-past : (n k : ℕ) (ws : List ℤ) → n ≤ k → loc-text (several loc-in location-size n ws) k ≡ []
 text-past zero k ws h = refl
 text-past (suc n) zero ws h = absurd (omega arith)
-text-past (suc n) (suc k) ws h = text-past n k (drop 17 ws) (omega arith)
+text-past (suc n) (suc k) ws h = text-past n k (drop location-size ws) (omega arith)
 
 module _ (ws : List ℤ) (k : ℕ) where
-  pub name-at : k < count ws 1 → loc-text (decode ws .locs) k ≡ loc-in (drop (locations-at ws + 17 * k) ws) .name
+  pub name-at : k < count ws 1 → loc-text (decode ws .locs) k ≡ loc-in (drop (locations-at ws + location-size * k) ws) .name
   unfolding decode
   name-at h =
-      rw (past-drop 3 (count ws 0) (drop 3 ws), drop-drop (3 * count ws 0) 3 ws)
-      (text-at (count ws 1) k (drop (locations-at ws) ws) h ∙ rw (drop-drop (17 * k) (locations-at ws) ws))
+      rw (past-drop variable-size (count ws 0) (drop counts-size ws), drop-drop (variable-size * count ws 0) counts-size ws)
+      (text-at (count ws 1) k (drop (locations-at ws) ws) h ∙ rw (drop-drop (location-size * k) (locations-at ws) ws))
 
   pub no-name : count ws 1 ≤ k → loc-text (decode ws .locs) k ≡ []
   unfolding decode
@@ -54,13 +55,13 @@ bytes-in (suc n) (x ∷ xs) = go (eqZ x (pos 0)) (bytes-in n xs) where
   go true ih = (refl, omega arith)
   go false ih = (ap (λ (bs : List ℕ). natAbs x ∷ bs) (ih .0), omega (arith, ih .1))
 
-pub name-words : (row : List ℤ) → map natAbs (take (length (loc-in row .name)) (drop 1 row)) ≡ loc-in row .name
-name-words row = bytes-in 16 (drop 1 row) .0
+pub name-words : (row : List ℤ) → map natAbs (take (length (loc-in row .name)) (drop name-place row)) ≡ loc-in row .name
+name-words row = bytes-in name-size (drop name-place row) .0
 
--- a row with no room for its name's words has no words
-pub name-less : (row : List ℤ) → length row < length (loc-in row .name) + 1 → loc-in row .name ≡ []
-name-less [] h = refl
-name-less (x ∷ xs) h = absurd (omega (arith, bytes-in 16 xs .1))
+-- they are in the row
+pub name-fits : (row : List ℤ) → 0 < length row → length (loc-in row .name) + name-place ≤ length row
+name-fits [] h = absurd (omega arith)
+name-fits (x ∷ xs) h = omega (arith, bytes-in name-size xs .1)
 
 -- ---- in form, the numbers are bytes
 

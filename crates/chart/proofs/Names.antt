@@ -8,16 +8,17 @@ use native.Mathlib.Numerals.{add-one}
 use borrow.Author.Tests.{eq-eqb, ne-eqb, eqb-true}
 use lib.Dec.{eqb, eqb·suc-zero}
 use lib.IntN.{ℤ, pos, negsuc, natAbs}
-use lib.ListN.{length, getD, drop}
+use lib.ListN.{length, drop}
 use lib.Seq.{drop-nil, drop-cons, drop-drop}
+use Rattle.semantics.specs.Layout.{name-size, location-size}
 use Rattle.semantics.specs.Lists.{all, pick}
 use Rattle.semantics.specs.Text.{same-bytes}
 use Rattle.semantics.specs.Chart.{Loc, eqZ}
-use Rattle.semantics.specs.Encoding.{name-in, loc-in, several, distinct-names, count}
+use Rattle.semantics.specs.Encoding.{word-at, name-in, loc-in, several, distinct-names, count}
 use Rattle.semantics.proofs.Values.{and-assoc}
 
 -- the first word left, and the words after it; past the end there is no byte more
-pub name-step : (n : ℕ) (ws : List ℤ) (i : ℕ) → name-in (suc n) (drop i ws) ≡ pick (eqZ (getD ws i (pos 0)) (pos 0)) [] (natAbs (getD ws i (pos 0)) ∷ (name-in n (drop (suc i) ws)))
+pub name-step : (n : ℕ) (ws : List ℤ) (i : ℕ) → name-in (suc n) (drop i ws) ≡ pick (eqZ (word-at ws i) (pos 0)) [] (natAbs (word-at ws i) ∷ (name-in n (drop (suc i) ws)))
 name-step n [] i = rw (drop-nil {A = ℤ} i)
 name-step n (x ∷ xs) zero = refl
 name-step n (x ∷ xs) (suc i) = name-step n xs i
@@ -27,19 +28,19 @@ abs-zero (pos n) = refl
 abs-zero (negsuc n) = sym (eqb·suc-zero n)
 
 -- i bytes are passed, and one word is looked at
-module _ (ws : List ℤ) (i : ℕ) (more : i < 16) where
-  left : 16 - i ≡ suc (16 - (i + 1))
+module _ (ws : List ℤ) (i : ℕ) (more : i < name-size) where
+  left : name-size - i ≡ suc (name-size - (i + 1))
   left = omega arith
 
-  pub name-left : name-in (16 - i) (drop (i + 1) ws) ≡ pick (eqb (count ws (i + 1)) 0) [] (natAbs (getD ws (i + 1) (pos 0)) ∷ (name-in (16 - (i + 1)) (drop (i + 1 + 1) ws)))
-  name-left = rw (left, add-one (i + 1), ← abs-zero (getD ws (i + 1) (pos 0))) (name-step (16 - (i + 1)) ws (i + 1))
+  pub name-left : name-in (name-size - i) (drop (i + 1) ws) ≡ pick (eqb (count ws (i + 1)) 0) [] (natAbs (word-at ws (i + 1)) ∷ (name-in (name-size - (i + 1)) (drop (i + 1 + 1) ws)))
+  name-left = rw (left, add-one (i + 1), ← abs-zero (word-at ws (i + 1))) (name-step (name-size - (i + 1)) ws (i + 1))
 
   -- the name ends here; it has one byte more
-  pub name-ends : (n : ℕ) → n ≡ i + length (name-in (16 - i) (drop (i + 1) ws)) → eqZ (getD ws (i + 1) (pos 0)) (pos 0) ≡ true → i ≡ n
-  name-ends n e t = let z : eqb (count ws (i + 1)) 0 ≡ true = sym (abs-zero (getD ws (i + 1) (pos 0))) ∙ t in omega (arith, rw (name-left, z) at e)
+  pub name-ends : (n : ℕ) → n ≡ i + length (name-in (name-size - i) (drop (i + 1) ws)) → eqZ (word-at ws (i + 1)) (pos 0) ≡ true → i ≡ n
+  name-ends n e t = let z : eqb (count ws (i + 1)) 0 ≡ true = sym (abs-zero (word-at ws (i + 1))) ∙ t in omega (arith, rw (name-left, z) at e)
 
-  pub name-goes : (n : ℕ) → n ≡ i + length (name-in (16 - i) (drop (i + 1) ws)) → eqZ (getD ws (i + 1) (pos 0)) (pos 0) ≡ false → n ≡ i + 1 + length (name-in (16 - (i + 1)) (drop (i + 1 + 1) ws))
-  name-goes n e t = let z : eqb (count ws (i + 1)) 0 ≡ false = sym (abs-zero (getD ws (i + 1) (pos 0))) ∙ t in omega (arith, rw (name-left, z) at e)
+  pub name-goes : (n : ℕ) → n ≡ i + length (name-in (name-size - i) (drop (i + 1) ws)) → eqZ (word-at ws (i + 1)) (pos 0) ≡ false → n ≡ i + 1 + length (name-in (name-size - (i + 1)) (drop (i + 1 + 1) ws))
+  name-goes n e t = let z : eqb (count ws (i + 1)) 0 ≡ false = sym (abs-zero (word-at ws (i + 1))) ∙ t in omega (arith, rw (name-left, z) at e)
 
 -- words of different numbers begin different names
 apart : (a b : ℤ) (s t : List ℕ) → (natAbs a ≡ natAbs b → ⊥) → same-bytes (pick (eqb (natAbs a) 0) [] (natAbs a ∷ s)) (pick (eqb (natAbs b) 0) [] (natAbs b ∷ t)) ≡ false
@@ -51,14 +52,14 @@ apart a b s t h = go (eqb (natAbs a) 0) (eqb (natAbs b) 0) refl refl where
   go false false p q = rw (ne-eqb (natAbs a) (natAbs b) h)
 
 -- two names, by the numbers x and y of the words looked at
-module _ (us vs : List ℤ) (i : ℕ) (more : i < 16) (x y : ℕ) (ex : x ≡ count us (i + 1)) (ey : y ≡ count vs (i + 1)) where
+module _ (us vs : List ℤ) (i : ℕ) (more : i < name-size) (x y : ℕ) (ex : x ≡ count us (i + 1)) (ey : y ≡ count vs (i + 1)) where
   abbrev now-left : Bool
-  now-left = same-bytes (name-in (16 - i) (drop (i + 1) us)) (name-in (16 - i) (drop (i + 1) vs))
+  now-left = same-bytes (name-in (name-size - i) (drop (i + 1) us)) (name-in (name-size - i) (drop (i + 1) vs))
 
   pub names-part : (x ≡ y → ⊥) → now-left ≡ false
   names-part h =
       rw (name-left us i more, name-left vs i more)
-      (apart (getD us (i + 1) (pos 0)) (getD vs (i + 1) (pos 0)) _ _ (λ e. h (ex ∙ e ∙ sym ey)))
+      (apart (word-at us (i + 1)) (word-at vs (i + 1)) _ _ (λ e. h (ex ∙ e ∙ sym ey)))
 
   pub names-end : x ≡ y → x ≡ 0 → now-left ≡ true
   names-end h z =
@@ -66,7 +67,7 @@ module _ (us vs : List ℤ) (i : ℕ) (more : i < 16) (x y : ℕ) (ex : x ≡ co
       let q : eqb (count vs (i + 1)) 0 ≡ true = eq-eqb _ _ (sym ey ∙ sym h ∙ z) in
       rw (name-left us i more, name-left vs i more, p, q)
 
-  pub names-go : x ≡ y → (x ≡ 0 → ⊥) → now-left ≡ same-bytes (name-in (16 - (i + 1)) (drop (i + 1 + 1) us)) (name-in (16 - (i + 1)) (drop (i + 1 + 1) vs))
+  pub names-go : x ≡ y → (x ≡ 0 → ⊥) → now-left ≡ same-bytes (name-in (name-size - (i + 1)) (drop (i + 1 + 1) us)) (name-in (name-size - (i + 1)) (drop (i + 1 + 1) vs))
   names-go h z =
       let p : eqb (count us (i + 1)) 0 ≡ false = ne-eqb _ _ (λ e. z (ex ∙ e)) in
       let q : eqb (count vs (i + 1)) 0 ≡ false = ne-eqb _ _ (λ e. z (h ∙ ey ∙ e)) in
@@ -75,17 +76,17 @@ module _ (us vs : List ℤ) (i : ℕ) (more : i < 16) (x y : ℕ) (ex : x ≡ co
 
 -- the words of a name, each tested
 module _ (p : ℤ → Bool) (ws : List ℤ) (ok : Bool) (i : ℕ) where
-  pub bytes-turn : (b : Bool) → i < length ws → b ≡ p (getD ws i (pos 0)) → ok && all p (drop i ws) ≡ ok && b && all p (drop (i + 1) ws)
-  bytes-turn b h e = rw (add-one i, drop-cons ws i (pos 0) h, e) (and-assoc ok (p (getD ws i (pos 0))) (all p (drop (suc i) ws)))
+  pub bytes-turn : (b : Bool) → i < length ws → b ≡ p (word-at ws i) → ok && all p (drop i ws) ≡ ok && b && all p (drop (i + 1) ws)
+  bytes-turn b h e = rw (add-one i, drop-cons ws i (pos 0) h, e) (and-assoc ok (p (word-at ws i)) (all p (drop (suc i) ws)))
 
 -- the name is not that of the location given
 abbrev pub other-name : List ℤ → Loc → Bool
 other-name row m = not (same-bytes (loc-in row .name) (m .name))
 
 module _ (ws : List ℤ) (ok : Bool) (left at : ℕ) where
-  pub differ-turn : (b : Bool) → 0 < left → b ≡ all (other-name (drop at ws)) (several loc-in 17 (left - 1) (drop (at + 17) ws))
-      → ok && distinct-names (several loc-in 17 left (drop at ws)) ≡ ok && b && distinct-names (several loc-in 17 (left - 1) (drop (at + 17) ws))
+  pub differ-turn : (b : Bool) → 0 < left → b ≡ all (other-name (drop at ws)) (several loc-in location-size (left - 1) (drop (at + location-size) ws))
+      → ok && distinct-names (several loc-in location-size left (drop at ws)) ≡ ok && b && distinct-names (several loc-in location-size (left - 1) (drop (at + location-size) ws))
   differ-turn b h e =
       let m : left ≡ suc (left - 1) = omega arith in
-      ap (λ (n : ℕ). ok && distinct-names (several loc-in 17 n (drop at ws))) m
-      ∙ rw (drop-drop 17 at ws, e) (and-assoc ok (all (other-name (drop at ws)) (several loc-in 17 (left - 1) (drop (at + 17) ws))) (distinct-names (several loc-in 17 (left - 1) (drop (at + 17) ws))))
+      ap (λ (n : ℕ). ok && distinct-names (several loc-in location-size n (drop at ws))) m
+      ∙ rw (drop-drop location-size at ws, e) (and-assoc ok (all (other-name (drop at ws)) (several loc-in location-size (left - 1) (drop (at + location-size) ws))) (distinct-names (several loc-in location-size (left - 1) (drop (at + location-size) ws))))

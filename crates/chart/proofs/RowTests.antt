@@ -12,6 +12,7 @@ use lib.Dec.{T, leb, ltb, ltb→lt}
 use lib.IntN.{ℤ, pos, negsuc, natAbs}
 use lib.ListN.{length, take, drop, replicate, length-map}
 use lib.Signed.{nonNeg, leZ}
+use Rattle.semantics.specs.Layout.{variable-size, name-size, location-size, edge-size}
 use Rattle.semantics.specs.Lists.{pick, all}
 use Rattle.semantics.specs.Text.{name-byte, name-ok}
 use Rattle.semantics.specs.Chart.{Var, Chart, eqZ, small, in-range, Operand, Op, assign, add, sub, input, assume, skip, num, var}
@@ -31,7 +32,7 @@ said (negsuc n) = refl
 
 -- ---- a variable
 
-pub var-row : (r : List ℤ) → 3 ≤ length r → begins-with (var-words (var-in r)) r ≡ true
+pub var-row : (r : List ℤ) → variable-size ≤ length r → begins-with (var-words (var-in r)) r ≡ true
 var-row [] h = absurd (omega arith)
 var-row (a ∷ []) h = absurd (omega arith)
 var-row (a ∷ b ∷ []) h = absurd (omega arith)
@@ -86,18 +87,18 @@ name-row (suc n) (x ∷ xs) h = go (name-row n xs (omega arith)) (eqZ x (pos 0))
       ∙ ap (λ (b : Bool). (eqZ (pos (natAbs x)) x && name-byte (natAbs x)) && b) ih
       ∙ and-assoc (eqZ (pos (natAbs x)) x && name-byte (natAbs x)) (all name-word (take m xs)) (zeros (take (n - m) (drop m xs))))
 
-pub location-row : (r : List ℤ) → 17 ≤ length r → begins-with (loc-words (loc-in r)) r && name-ok (loc-in r .name) ≡ location-fine r
+pub location-row : (r : List ℤ) → location-size ≤ length r → begins-with (loc-words (loc-in r)) r && name-ok (loc-in r .name) ≡ location-fine r
 unfolding location-fine
 location-row [] h = absurd (omega arith)
 location-row (k ∷ xs) h =
-    let bs = name-in 16 xs in
+    let bs = name-in name-size xs in
     let n = length bs in
-    let few : leb n 16 ≡ true = le-leb n 16 (name-few 16 xs) in
-    let l : 16 ≤ length xs = omega arith in
+    let few : leb n name-size ≡ true = le-leb n name-size (name-few name-size xs) in
+    let l : name-size ≤ length xs = omega arith in
     rw (kind-row k, few, and-true (leb 1 n), length-map bs pos, add-one n)
-    (interchange (eqZ k (pos 0) || eqZ k (pos 1)) (begins-with (map pos bs ++ replicate (16 - n) (pos 0)) xs) (leb 1 n) (all name-byte bs)
-    ∙ ap (λ (b : Bool). ((eqZ k (pos 0) || eqZ k (pos 1)) && leb 1 n) && b) (name-row 16 xs l)
-    ∙ and-assoc ((eqZ k (pos 0) || eqZ k (pos 1)) && leb 1 n) (all name-word (take n xs)) (zeros (take (16 - n) (drop n xs))))
+    (interchange (eqZ k (pos 0) || eqZ k (pos 1)) (begins-with (map pos bs ++ replicate (name-size - n) (pos 0)) xs) (leb 1 n) (all name-byte bs)
+    ∙ ap (λ (b : Bool). ((eqZ k (pos 0) || eqZ k (pos 1)) && leb 1 n) && b) (name-row name-size xs l)
+    ∙ and-assoc ((eqZ k (pos 0) || eqZ k (pos 1)) && leb 1 n) (all name-word (take n xs)) (zeros (take (name-size - n) (drop n xs))))
 
 -- ---- an edge: vars are the variables, and vw their words
 
@@ -188,7 +189,7 @@ module _ (vars : List Var) (vw : List ℤ) (in-words : (k : ℕ) (z : ℤ) → k
     operation-row f g (negsuc n) = rw (not-first (op (suc n)) n (t ∷ a ∷ x ∷ b ∷ y ∷ ws))
 
 module _ (c : Chart) (vw : List ℤ) (in-words : (k : ℕ) (z : ℤ) → k < length (c .vars) → in-range (c .vars) k z ≡ ranged vw k z) where
-  pub edge-row : (r : List ℤ) → 8 ≤ length r → begins-with (edge-words (edge-in r)) r && edge-ok c (edge-in r) ≡ edge-fine vw (length (c .vars)) (length (c .locs)) r
+  pub edge-row : (r : List ℤ) → edge-size ≤ length r → begins-with (edge-words (edge-in r)) r && edge-ok c (edge-in r) ≡ edge-fine vw (length (c .vars)) (length (c .locs)) r
   unfolding edge-fine
   edge-row [] h = absurd (omega arith)
   edge-row (f ∷ []) h = absurd (omega arith)

@@ -7,13 +7,14 @@ use native.Mathlib.Omega.{arith}
 use borrow.Author.Tests.{leb-true, leb-false}
 use lib.Dec.{T, leb}
 use lib.IntN.{ℤ, pos}
-use lib.ListN.{length, drop, getD, length-append, length-map, length-drop}
+use lib.ListN.{length, drop, length-append, length-map, length-drop}
 use lib.Seq.{drop-drop, getD-drop}
 use lib.Signed.{nonNeg}
+use Rattle.semantics.specs.Layout.{counts-size, variable-size, name-size, location-size, edge-size, high-place}
 use Rattle.semantics.specs.Lists.{all, each}
 use Rattle.semantics.specs.Text.{name-ok}
 use Rattle.semantics.specs.Chart.{eqZ, in-range}
-use Rattle.semantics.specs.Encoding.{var-words, loc-words, edge-words, encode, var-in, loc-in, edge-in, name-in, several, past, count, decode, var-ok, distinct-names, edge-ok, chart-ok, begins-with, well-formed}
+use Rattle.semantics.specs.Encoding.{word-at, var-words, loc-words, edge-words, encode, var-in, loc-in, edge-in, name-in, several, past, count, decode, var-ok, distinct-names, edge-ok, chart-ok, begins-with, well-formed}
 use Rattle.semantics.proofs.Values.{and-left, and-right, and-true}
 use Rattle.semantics.proofs.Stored.{to-false, both-true, padded-length}
 use Rattle.semantics.proofs.Encoded.{op-wide}
@@ -22,10 +23,10 @@ use Rattle.semantics.proofs.Decoded.{vars-count, locs-count, edges-count}
 use Rattle.chart.proofs.Rows.{iff, all-and, past-drop, rows-same, all-rows, begins-rows, each-length}
 use Rattle.chart.proofs.RowTests.{said, var-row, name-few, location-row, edge-row}
 
-loc-wide : (ws : List ℤ) → length (loc-words (loc-in ws)) ≡ 17
-loc-wide ws = ap suc (padded-length 16 (map pos (name-in 16 (drop 1 ws))) (omega (arith, length-map (name-in 16 (drop 1 ws)) pos, name-few 16 (drop 1 ws))))
+loc-wide : (ws : List ℤ) → length (loc-words (loc-in ws)) ≡ location-size
+loc-wide ws = ap suc (padded-length name-size (map pos (name-in name-size (drop 1 ws))) (omega (arith, length-map (name-in name-size (drop 1 ws)) pos, name-few name-size (drop 1 ws))))
 
-edge-wide : (ws : List ℤ) → length (edge-words (edge-in ws)) ≡ 8
+edge-wide : (ws : List ℤ) → length (edge-words (edge-in ws)) ≡ edge-size
 edge-wide ws = ap (λ (n : ℕ). suc (suc n)) (op-wide (edge-in ws .op))
 
 -- ---- room for all rows
@@ -35,20 +36,20 @@ begins-length [] ws t = omega arith
 begins-length (x ∷ xs) [] t = absurd t
 begins-length (x ∷ xs) (w ∷ ws) t = omega (arith, begins-length xs ws (and-right (eqZ x w) (begins-with xs ws) t))
 
-encode-length : (ws : List ℤ) → length (encode (decode ws)) ≡ edges-at ws + 8 * count ws 2
+encode-length : (ws : List ℤ) → length (encode (decode ws)) ≡ edges-at ws + edge-size * count ws 2
 unfolding encode decode
 encode-length ws =
-    let v = drop 3 ws in
-    let l = past 3 (count ws 0) v in
-    let e = past 17 (count ws 1) l in
+    let v = drop counts-size ws in
+    let l = past variable-size (count ws 0) v in
+    let e = past location-size (count ws 1) l in
     simp length-append (omega (
       arith,
-      each-length var-in 3 var-words (λ r. refl) (count ws 0) v,
-      each-length loc-in 17 loc-words loc-wide (count ws 1) l,
-      each-length edge-in 8 edge-words edge-wide (count ws 2) e,
+      each-length var-in variable-size var-words (λ r. refl) (count ws 0) v,
+      each-length loc-in location-size loc-words loc-wide (count ws 1) l,
+      each-length edge-in edge-size edge-words edge-wide (count ws 2) e,
     ))
 
-pub no-room : (ws : List ℤ) → length ws < edges-at ws + 8 * count ws 2 → well-formed ws ≡ false
+pub no-room : (ws : List ℤ) → length ws < edges-at ws + edge-size * count ws 2 → well-formed ws ≡ false
 unfolding well-formed
 no-room ws h =
     to-false (well-formed ws) (λ t. omega (arith, encode-length ws, begins-length (encode (decode ws)) ws (and-left (begins-with (encode (decode ws)) ws) (chart-ok (decode ws)) t)))
@@ -62,20 +63,20 @@ shuffle-chart x y z p a b c d v n s g = iff _ _ (λ h. search (and-left, and-rig
 shuffle-rows : (p q v n s g : Bool) → (p && q) && (v && n && s && g) ≡ v && (p && n) && s && (q && g)
 shuffle-rows p q v n s g = iff _ _ (λ h. search (and-left, and-right, both-true) depth 9) (λ h. search (and-left, and-right, both-true) depth 9)
 
-begins-three : (ws : List ℤ) → 3 ≤ length ws → (x y z : ℤ) (xs : List ℤ) → begins-with (x ∷ y ∷ z ∷ xs) ws ≡ eqZ x (getD ws 0 (pos 0)) && (eqZ y (getD ws 1 (pos 0)) && (eqZ z (getD ws 2 (pos 0)) && begins-with xs (drop 3 ws)))
+begins-three : (ws : List ℤ) → counts-size ≤ length ws → (x y z : ℤ) (xs : List ℤ) → begins-with (x ∷ y ∷ z ∷ xs) ws ≡ eqZ x (word-at ws 0) && (eqZ y (word-at ws 1) && (eqZ z (word-at ws 2) && begins-with xs (drop counts-size ws)))
 begins-three [] h x y z xs = absurd (omega arith)
 begins-three (a ∷ []) h x y z xs = absurd (omega arith)
 begins-three (a ∷ b ∷ []) h x y z xs = absurd (omega arith)
 begins-three (a ∷ b ∷ c ∷ ws) h x y z xs = refl
 
-range-words : (n k : ℕ) (ws : List ℤ) (z : ℤ) → k < n → in-range (several var-in 3 n ws) k z ≡ ranged ws k z
+range-words : (n k : ℕ) (ws : List ℤ) (z : ℤ) → k < n → in-range (several var-in variable-size n ws) k z ≡ ranged ws k z
 unfolding ranged
 range-words zero k ws z h = absurd (omega arith)
 range-words (suc n) zero ws z h = refl
 range-words (suc n) (suc k) ws z h =
-    let a : 3 + 3 * k ≡ 3 * suc k = omega arith in
-    let b : 3 + (3 * k + 1) ≡ 3 * suc k + 1 = omega arith in
-    range-words n k (drop 3 ws) z (omega arith) ∙ rw (getD-drop 3 ws (3 * k) (pos 0), getD-drop 3 ws (3 * k + 1) (pos 0), a, b)
+    let a : variable-size + variable-size * k ≡ variable-size * suc k = omega arith in
+    let b : variable-size + (variable-size * k + high-place) ≡ variable-size * suc k + high-place = omega arith in
+    range-words n k (drop variable-size ws) z (omega arith) ∙ rw (getD-drop counts-size ws (3 * k) (pos 0), getD-drop counts-size ws (3 * k + 1) (pos 0), a, b)
 
 -- a row begins with what its decoding encodes to
 abbrev exact : {A : Type 0} → (A → List ℤ) → (List ℤ → A) → List ℤ → Bool
@@ -83,23 +84,23 @@ exact f g r = begins-with (f (g r)) r
 
 module _ (ws : List ℤ) where
   abbrev v-rows : List ℤ
-  v-rows = drop 3 ws
+  v-rows = drop counts-size ws
 
   abbrev l-rows : List ℤ
-  l-rows = past 3 (count ws 0) v-rows
+  l-rows = past variable-size (count ws 0) v-rows
 
   abbrev e-rows : List ℤ
-  e-rows = past 17 (count ws 1) l-rows
+  e-rows = past location-size (count ws 1) l-rows
 
   -- each row is what its decoding encodes to; and that is what reading can produce
   abbrev exact-vars : Bool
-  exact-vars = all (exact var-words var-in) (rows 3 (count ws 0) v-rows)
+  exact-vars = all (exact var-words var-in) (rows variable-size (count ws 0) v-rows)
 
   abbrev exact-locs : Bool
-  exact-locs = all (exact loc-words loc-in) (rows 17 (count ws 1) l-rows)
+  exact-locs = all (exact loc-words loc-in) (rows location-size (count ws 1) l-rows)
 
   abbrev exact-edges : Bool
-  exact-edges = all (exact edge-words edge-in) (rows 8 (count ws 2) e-rows)
+  exact-edges = all (exact edge-words edge-in) (rows edge-size (count ws 2) e-rows)
 
   abbrev exact-rows : Bool
   exact-rows = exact-vars && (exact-locs && exact-edges)
@@ -108,28 +109,28 @@ module _ (ws : List ℤ) where
   ok-rows =
       all var-ok (decode ws .vars) && all (λ l. name-ok (l .name)) (decode ws .locs) && distinct-names (decode ws .locs) && all (edge-ok (decode ws)) (decode ws .edges)
 
-  exactly : 3 ≤ length ws → begins-with (encode (decode ws)) ws ≡ eqZ (pos (count ws 0)) (getD ws 0 (pos 0)) && (eqZ (pos (count ws 1)) (getD ws 1 (pos 0)) && (eqZ (pos (count ws 2)) (getD ws 2 (pos 0)) && exact-rows))
+  exactly : counts-size ≤ length ws → begins-with (encode (decode ws)) ws ≡ eqZ (pos (count ws 0)) (word-at ws 0) && (eqZ (pos (count ws 1)) (word-at ws 1) && (eqZ (pos (count ws 2)) (word-at ws 2) && exact-rows))
   unfolding encode decode
   exactly h =
-      let vs = each var-words (several var-in 3 (count ws 0) v-rows) in
-      let ls = each loc-words (several loc-in 17 (count ws 1) l-rows) in
-      let es = each edge-words (several edge-in 8 (count ws 2) e-rows) in
+      let vs = each var-words (several var-in variable-size (count ws 0) v-rows) in
+      let ls = each loc-words (several loc-in location-size (count ws 1) l-rows) in
+      let es = each edge-words (several edge-in edge-size (count ws 2) e-rows) in
       let nv = vars-count ws in
       let nl = locs-count ws in
       let ne = edges-count ws in
       (λ i. begins-with (pos (nv i) ∷ pos (nl i) ∷ pos (ne i) ∷ (vs ++ (ls ++ es))) ws)
       ∙ begins-three ws h (pos (count ws 0)) (pos (count ws 1)) (pos (count ws 2)) (vs ++ (ls ++ es))
-      ∙ ap (λ (b : Bool). eqZ (pos (count ws 0)) (getD ws 0 (pos 0)) && (eqZ (pos (count ws 1)) (getD ws 1 (pos 0)) && (eqZ (pos (count ws 2)) (getD ws 2 (pos 0)) && b)))
-      (begins-rows var-in 3 var-words (λ r. refl) (count ws 0) (ls ++ es) v-rows
+      ∙ ap (λ (b : Bool). eqZ (pos (count ws 0)) (word-at ws 0) && (eqZ (pos (count ws 1)) (word-at ws 1) && (eqZ (pos (count ws 2)) (word-at ws 2) && b)))
+      (begins-rows var-in variable-size var-words (λ r. refl) (count ws 0) (ls ++ es) v-rows
       ∙ ap (λ (b : Bool). exact-vars && b)
-      (begins-rows loc-in 17 loc-words loc-wide (count ws 1) es l-rows
+      (begins-rows loc-in location-size loc-words loc-wide (count ws 1) es l-rows
       ∙ ap (λ (b : Bool). exact-locs && b)
       (ap (λ (x : List ℤ). begins-with x e-rows) (sym (append-nil es))
-      ∙ begins-rows edge-in 8 edge-words edge-wide (count ws 2) [] e-rows
+      ∙ begins-rows edge-in edge-size edge-words edge-wide (count ws 2) [] e-rows
       ∙ and-true exact-edges)))
 
   -- the counts, the rows' form, and what the rows say
-  parts : 3 ≤ length ws → well-formed ws ≡ counts-fine ws && (exact-rows && ok-rows)
+  parts : counts-size ≤ length ws → well-formed ws ≡ counts-fine ws && (exact-rows && ok-rows)
   unfolding well-formed counts-fine chart-ok decode
   parts h =
       let v = count ws 0 in
@@ -141,11 +142,11 @@ module _ (ws : List ℤ) where
         vars-count ws,
         locs-count ws,
         edges-count ws,
-        said (getD ws 0 (pos 0)),
-        said (getD ws 1 (pos 0)),
-        said (getD ws 2 (pos 0)),
+        said (word-at ws 0),
+        said (word-at ws 1),
+        said (word-at ws 2),
       )
-      (shuffle-chart (nonNeg (getD ws 0 (pos 0))) (nonNeg (getD ws 1 (pos 0))) (nonNeg (getD ws 2 (pos 0))) exact-rows (leb v 8) (leb 1 l) (leb l 64) (leb e 256)
+      (shuffle-chart (nonNeg (word-at ws 0)) (nonNeg (word-at ws 1)) (nonNeg (word-at ws 2)) exact-rows (leb v 8) (leb 1 l) (leb l 64) (leb e 256)
       (all var-ok (c .vars)) (all (λ l. name-ok (l .name)) (c .locs)) (distinct-names (c .locs)) (all (edge-ok c) (c .edges)))
 
 every-true : (rs : List (List ℤ)) → all (λ r. true) rs ≡ true
@@ -155,36 +156,36 @@ every-true (r ∷ rs) = every-true rs
 -- ---- what the code's tests tell
 
 pub no-counts : (ws : List ℤ) → counts-fine ws ≡ false → well-formed ws ≡ false
-no-counts ws e = go (leb 3 (length ws)) refl where
-  go : (b : Bool) → leb 3 (length ws) ≡ b → well-formed ws ≡ false
-  go true t = parts ws (leb-true 3 (length ws) t) ∙ rw e
-  go false t = no-room ws (omega (arith, leb-false 3 (length ws) t))
+no-counts ws e = go (leb counts-size (length ws)) refl where
+  go : (b : Bool) → leb counts-size (length ws) ≡ b → well-formed ws ≡ false
+  go true t = parts ws (leb-true counts-size (length ws) t) ∙ rw e
+  go false t = no-room ws (omega (arith, leb-false counts-size (length ws) t))
 
-module _ (ws : List ℤ) (room : edges-at ws + 8 * count ws 2 ≤ length ws) where
+module _ (ws : List ℤ) (room : edges-at ws + edge-size * count ws 2 ≤ length ws) where
   l-at : l-rows ws ≡ drop (locations-at ws) ws
-  l-at = past-drop 3 (count ws 0) (drop 3 ws) ∙ drop-drop (3 * count ws 0) 3 ws
+  l-at = past-drop variable-size (count ws 0) (drop counts-size ws) ∙ drop-drop (variable-size * count ws 0) counts-size ws
 
   e-at : e-rows ws ≡ drop (edges-at ws) ws
-  e-at = past-drop 17 (count ws 1) (l-rows ws) ∙ ap (drop (17 * count ws 1)) l-at ∙ drop-drop (17 * count ws 1) (locations-at ws) ws
+  e-at = past-drop location-size (count ws 1) (l-rows ws) ∙ ap (drop (location-size * count ws 1)) l-at ∙ drop-drop (location-size * count ws 1) (locations-at ws) ws
 
   vars-exact : exact-vars ws ≡ true
-  vars-exact = rows-same (exact var-words var-in) (λ r. true) 3 var-row (count ws 0) (v-rows ws) (simp length-drop (omega arith)) ∙ every-true (rows 3 (count ws 0) (v-rows ws))
+  vars-exact = rows-same (exact var-words var-in) (λ r. true) variable-size var-row (count ws 0) (v-rows ws) (simp length-drop (omega arith)) ∙ every-true (rows variable-size (count ws 0) (v-rows ws))
 
-  locations-are : exact-locs ws && all (λ l. name-ok (l .name)) (several loc-in 17 (count ws 1) (l-rows ws)) ≡ all location-fine (rows 17 (count ws 1) (l-rows ws))
+  locations-are : exact-locs ws && all (λ l. name-ok (l .name)) (several loc-in location-size (count ws 1) (l-rows ws)) ≡ all location-fine (rows location-size (count ws 1) (l-rows ws))
   locations-are =
-      rw (all-rows loc-in 17 (λ l. name-ok (l .name)) (count ws 1) (l-rows ws))
-      (all-and (exact loc-words loc-in) (λ r. name-ok (loc-in r .name)) (rows 17 (count ws 1) (l-rows ws))
-      ∙ rows-same (λ r. exact loc-words loc-in r && name-ok (loc-in r .name)) location-fine 17 location-row (count ws 1) (l-rows ws) (rw l-at (simp length-drop (omega arith))))
+      rw (all-rows loc-in location-size (λ l. name-ok (l .name)) (count ws 1) (l-rows ws))
+      (all-and (exact loc-words loc-in) (λ r. name-ok (loc-in r .name)) (rows location-size (count ws 1) (l-rows ws))
+      ∙ rows-same (λ r. exact loc-words loc-in r && name-ok (loc-in r .name)) location-fine location-size location-row (count ws 1) (l-rows ws) (rw l-at (simp length-drop (omega arith))))
 
-  edges-are : exact-edges ws && all (edge-ok (decode ws)) (several edge-in 8 (count ws 2) (e-rows ws))
-      ≡ all (edge-fine (v-rows ws) (count ws 0) (count ws 1)) (rows 8 (count ws 2) (e-rows ws))
+  edges-are : exact-edges ws && all (edge-ok (decode ws)) (several edge-in edge-size (count ws 2) (e-rows ws))
+      ≡ all (edge-fine (v-rows ws) (count ws 0) (count ws 1)) (rows edge-size (count ws 2) (e-rows ws))
   unfolding decode
   edges-are =
       let c = decode ws in
       let row = edge-row c (v-rows ws) (λ k z h. range-words (count ws 0) k (v-rows ws) z (rw (vars-count ws) at h)) in
-      rw (all-rows edge-in 8 (edge-ok c) (count ws 2) (e-rows ws))
-      (all-and (exact edge-words edge-in) (λ r. edge-ok c (edge-in r)) (rows 8 (count ws 2) (e-rows ws))
-      ∙ rows-same (λ r. exact edge-words edge-in r && edge-ok c (edge-in r)) (edge-fine (v-rows ws) (length (c .vars)) (length (c .locs))) 8 row (count ws 2) (e-rows ws) (rw e-at (simp length-drop (omega arith)))
+      rw (all-rows edge-in edge-size (edge-ok c) (count ws 2) (e-rows ws))
+      (all-and (exact edge-words edge-in) (λ r. edge-ok c (edge-in r)) (rows edge-size (count ws 2) (e-rows ws))
+      ∙ rows-same (λ r. exact edge-words edge-in r && edge-ok c (edge-in r)) (edge-fine (v-rows ws) (length (c .vars)) (length (c .locs))) edge-size row (count ws 2) (e-rows ws) (rw e-at (simp length-drop (omega arith)))
       ∙ rw (vars-count ws, locs-count ws))
 
   pub by-rows : counts-fine ws ≡ true → well-formed ws ≡ rows-fine ws

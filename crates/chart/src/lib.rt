@@ -366,28 +366,18 @@ fn row_name_length(row: &[i32]) -> usize
     i
 }
 
-// The words from a location's row on; none where there is no such location.
-fn location_row(chart: &[i32], l: LocationId) -> &[i32]
-    ensures { λ r. ⌜ loc-in (now r) .name ≡ loc-text (decode (now (chart .entry)) .locs) (l .0) ⌝ }
-{
-    let k = l.0;
-    if k < location_count(chart) {
-        let at = locations_at(chart) + LOCATION_WORDS * k;
-        if at <= chart.len() {
-            return &chart[at..];
-        }
-    }
-    &chart[0..0]
-}
-
 // The words of a location's name, a byte each; none where there is no such location.
 pub fn name(chart: &[i32], l: LocationId) -> &[i32]
     ensures { λ r. ⌜ map natAbs (now r) ≡ loc-text (decode (now (chart .entry)) .locs) (l .0) ⌝ }
 {
-    let row = location_row(chart, l);
-    let end = row_name_length(row) + NAME_PLACE;
-    if end <= row.len() {
-        return &row[NAME_PLACE..end];
+    let k = l.0;
+    if k < location_count(chart) {
+        let at = locations_at(chart) + LOCATION_WORDS * k;
+        if at < chart.len() {
+            let row = &chart[at..];
+            let end = row_name_length(row) + NAME_PLACE;
+            return &row[NAME_PLACE..end];
+        }
     }
     &chart[0..0]
 }

@@ -19,7 +19,7 @@ use Rattle.semantics.proofs.Encoded.{loc-wide, edge-wide}
 use Rattle.chart.specs.Encoded.{ranged}
 use Rattle.chart.specs.Rows.{stored, rows-size, the-location}
 use Rattle.chart.proofs.Storing.{stored-take}
-use Rattle.reader.specs.Held.{chart-rows, used-words, Rows, as-locations, Names}
+use Rattle.reader.specs.ReadSoFar.{chart-rows, used-words, Rows, as-locations, Names}
 use Rattle.reader.specs.declared.tally.Tally.{Tally}
 
 module _ {A : Type 0} (f : A → List ℤ) where

@@ -1,5 +1,5 @@
 -- From the rows to the words lent. Assumes nothing.
-use mathlib.Core.Path.{_≡_, refl, ap, _∙_}
+use mathlib.Core.Path.{_≡_, refl, ap}
 use mathlib.Core.Bool.{true, false}
 use mathlib.Core.List.{List, [], _∷_, _++_}
 use Prim.Native.Nat.{_+_, _≤_, _<_}
@@ -14,7 +14,7 @@ use Rattle.semantics.specs.Chart.{Chart}
 use Rattle.semantics.specs.Encoding.{encode}
 use Rattle.semantics.specs.Layout.{counts-size}
 use Rattle.chart.specs.Rows.{stored}
-use Rattle.reader.specs.Held.{used-words, Rows}
+use Rattle.reader.specs.ReadSoFar.{used-words, Rows}
 use Rattle.reader.specs.declared.tally.Tally.{Tally}
 
 pub none-empty-list : {A : Type 0} (l : List A) → 0 ≡ length l → is-empty l ≡ true

@@ -14,15 +14,6 @@ module _ {A : Type 0} {b : Bool} (n : ℕ) (r : Res A) where
   unfolding check
   check-yes e = rw e
 
-module _ {A B : Type 0} {r : Res A} (f : A → Res B) where
-  pub then-fail : {n : ℕ} → r ≡ fail n → if-ok r f ≡ fail n
-  unfolding if-ok
-  then-fail e = rw e
-
-  pub then-ok : {a : A} → r ≡ ok a → if-ok r f ≡ f a
-  unfolding if-ok
-  then-ok e = rw e
-
 -- what a call answered of a field, and so of the field as the line has it
 pub said : {B : Type 0} (f : List ℕ → B) {x y : List ℕ} {r b : B} → x ≡ y → r ≡ f x → r ≡ b → f y ≡ b
 said f e n t = ap f (sym e) ∙ sym n ∙ t

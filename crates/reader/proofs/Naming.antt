@@ -18,7 +18,7 @@ use Rattle.words.proofs.Words.{eqZ-sym}
 use Rattle.words.proofs.Rows.{tail}
 use Rattle.chart.specs.Rows.{stored, rows-size, the-location}
 use Rattle.chart.proofs.Names.{other-name}
-use Rattle.reader.specs.Held.{used-words, Rows, as-locations, Names}
+use Rattle.reader.specs.ReadSoFar.{used-words, Rows, as-locations, Names}
 use Rattle.reader.specs.declared.tally.Tally.{Tally}
 use Rattle.reader.proofs.Growing.{each-none, vars-length}
 

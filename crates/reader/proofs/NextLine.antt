@@ -15,7 +15,7 @@ use Rattle.text.proofs.LineEnds.{lines-at, lines-done}
 use Rattle.text.specs.Places.{line-at, place-after}
 use Rattle.text.specs.declared.lines.Line.{Line}
 use Rattle.text.proofs.Places.{Lies, line-some}
-use Rattle.reader.specs.Held.{Stepped, goes-on, nothing-judged, Along, Through, Goes, Stands-by, Stands, Few-of, Ready}
+use Rattle.reader.specs.ReadSoFar.{Stepped, goes-on, nothing-judged, Along, Through, Goes, Stands-by, Stands, Few-of, Ready}
 use Rattle.reader.specs.declared.Descent.{Descent}
 use Rattle.reader.specs.declared.tally.Tally.{Tally}
 use Rattle.reader.specs.declared.tally.Step.{Step}

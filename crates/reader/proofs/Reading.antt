@@ -1,7 +1,7 @@
 -- The words that the code reads of a line are those of the variable, location or edge that the definitions read.
 -- Assumes nothing.
 use mathlib.Core.Path.{_≡_, refl, sym, ap, _∙_}
-use mathlib.Core.Bool.{Bool, true, false, _&&_}
+use mathlib.Core.Bool.{true, false, _&&_}
 use mathlib.Core.List.{List}
 use Prim.Native.Nat.{ℕ, _<_, _≤_}
 use native.Mathlib.Omega.{arith}
@@ -11,9 +11,8 @@ use lib.IntN.{ℤ}
 use lib.Signed.{leZ}
 use borrow.Author.Tests.{lt-ltb, le-ltb}
 use Rattle.semantics.specs.Lists.{is-empty}
-use Rattle.semantics.specs.Text.{name-ok}
 use Rattle.semantics.specs.Chart.{Var, input, Edge, Op, Chart, in-range}
-use Rattle.semantics.specs.Reading.{Res, fail, ok, check, if-ok, nth, none-empty, number-field, location-field, target-field, init-field, kind-field, op-word-field, OpWord, field-count, op-fields-read, So-far, with-edge, var-line, loc-line, edge-line, filled}
+use Rattle.semantics.specs.Reading.{Res, fail, ok, check, if-ok, nth, none-empty, number-field, target-field, op-word-field, OpWord, field-count, op-fields-read, So-far, with-edge, var-line, loc-line, edge-line}
 use Rattle.semantics.specs.declared.Arithmetic.the-variants as arithmetic
 use Rattle.semantics.proofs.Accepted.{location-is, target-is}
 use Rattle.semantics.proofs.Accepted.{then-ok as passed}
@@ -22,12 +21,13 @@ use Rattle.text.specs.Fields.{the-word}
 use Rattle.text.specs.declared.Action.the-variants as action
 use Rattle.text.specs.declared.OpWord.{OpWord as OpWordHeld}
 use Rattle.text.specs.declared.OpWord.the-variants as word-of
-use Rattle.reader.specs.Lines.{input-read, op-read, edge-read, var-low, var-judged, var-named, loc-judged, loc-named, edge-worded}
-use Rattle.reader.specs.Held.{Rows}
+use Rattle.reader.specs.Lines.{input-read, op-read, edge-read, var-judged, var-named, loc-judged, loc-named, edge-worded}
+use Rattle.reader.specs.ReadSoFar.{Rows}
 use Rattle.reader.specs.declared.tally.Tally.{Tally}
 use Rattle.reader.proofs.Growing.{range-held}
 use Rattle.reader.proofs.Holding.{none-empty-list, some-list}
-use Rattle.reader.proofs.Judging.{check-no, check-yes, then-fail, then-ok, onward}
+use Rattle.text.proofs.Judged.{then-fail, then-ok}
+use Rattle.reader.proofs.Judging.{check-no, check-yes, onward}
 
 -- ---- operations
 

@@ -17,7 +17,7 @@ ghost use Rattle.chart.specs.Rows.{stored};
 ghost use Rattle.reader.specs.Answers.{op-res, edge-res};
 ghost use Rattle.reader.specs.Lines.{op-read, edge-read, edge-worded};
 ghost use Rattle.reader.specs.Lines.{with-op as op-after, with-from as from-after};
-ghost use Rattle.reader.specs.Held.{Few, Rows, Names, Stepped};
+ghost use Rattle.reader.specs.ReadSoFar.{Few, Rows, Names, Stepped, most-rows};
 use super::operation;
 use super::operation::OperationRead;
 use super::tally::Step;
@@ -86,7 +86,7 @@ fn judged(w: text::OpWord, t: Tally, rows: &[i32], line: &[u8]) -> EdgeRead
 
 // A line whose operation is known: 5 by its count, then its fields.
 fn worded(w: text::OpWord, t: Tally, rows: &mut [i32], line: &[u8]) -> Step
-    requires { ⌜ Few t × (t .edges < 256) × (length (now rows) ≡ 3160) ⌝ }
+    requires { ⌜ Few t × (t .edges < 256) × (length (now rows) ≡ most-rows) ⌝ }
     ensures { λ r. ⌜ ((s : So-far) (names : List ℤ) → Rows t (now (rows .entry)) (s .chart) → Names (t .vars) names (s .names) → Stepped r (edge-worded s (the-word w) (fields (now (line .entry)))) (now (rows .exit)) names) ⌝ }
 {
     if text::field_count(line) != field_count(w) {
@@ -115,7 +115,7 @@ fn enough(line: &[u8]) -> bool
 
 // An E line. How many fields it has goes by its operation, so that this is read first.
 pub fn read_line(t: Tally, rows: &mut [i32], line: &[u8]) -> Step
-    requires { ⌜ Few t × (length (now rows) ≡ 3160) ⌝ }
+    requires { ⌜ Few t × (length (now rows) ≡ most-rows) ⌝ }
     ensures { λ r. ⌜ ((s : So-far) (names : List ℤ) → Rows t (now (rows .entry)) (s .chart) → Names (t .vars) names (s .names) → Stepped r (edge-line s (fields (now (line .entry)))) (now (rows .exit)) names) ⌝ }
 {
     if MOST_EDGES <= t.edges {

@@ -10,7 +10,7 @@ ghost use Rattle.semantics.specs.Chart.{Chart};
 ghost use Rattle.semantics.specs.Encoding.{encode};
 ghost use Rattle.semantics.specs.Reading.{So-far, judge, ended, refused-at, bad-byte-line, open-line};
 ghost use Rattle.semantics.specs.Outcomes.{chart-outcome, held-by, read-outcome};
-ghost use Rattle.reader.specs.Held.{Few, Rows, Names, Stepped, lines-judged, goes-on, nothing-judged, Came, Ready, Advanced};
+ghost use Rattle.reader.specs.ReadSoFar.{Few, Rows, Names, Stepped, lines-judged, goes-on, nothing-judged, Came, Ready, Advanced, most-rows, most-names};
 
 mod edge;
 mod location;
@@ -31,9 +31,9 @@ const MOST_BYTES: usize = 32768;
 
 // The rows to the words lent, after their counts; or 14, where these are too few.
 fn hold(t: Tally, rows: &[i32], words: &mut [i32]) -> semantics::Answer
-    requires { ⌜ Few t × (length (now rows) ≡ 3160) ⌝ }
-    ensures { λ r. ⌜ ((c : Chart) → Rows t (now (rows .entry)) c → r ≡ chart-outcome c (now (words .entry)) .answer) ⌝ }
-    ensures { λ _. ⌜ ((c : Chart) → Rows t (now (rows .entry)) c → now (words .exit) ≡ chart-outcome c (now (words .entry)) .words) ⌝ }
+    requires { ⌜ Few t × (length (now rows) ≡ most-rows) ⌝ }
+    ensures answered { λ r. ⌜ ((c : Chart) → Rows t (now (rows .entry)) c → r ≡ chart-outcome c (now (words .entry)) .answer) ⌝ }
+    ensures written { λ _. ⌜ ((c : Chart) → Rows t (now (rows .entry)) c → now (words .exit) ≡ chart-outcome c (now (words .entry)) .words) ⌝ }
 {
     let size = used_words(t);
     if words.len() < size + COUNTS_WORDS {
@@ -45,9 +45,9 @@ fn hold(t: Tally, rows: &[i32], words: &mut [i32]) -> semantics::Answer
 
 // After the last line: 8, where there is no location.
 fn finish(t: Tally, rows: &[i32], words: &mut [i32]) -> semantics::Answer
-    requires { ⌜ Few t × (length (now rows) ≡ 3160) ⌝ }
-    ensures { λ r. ⌜ ((c : Chart) → Rows t (now (rows .entry)) c → r ≡ held-by (ended (is-empty (c .locs)) c) (now (words .entry)) .answer) ⌝ }
-    ensures { λ _. ⌜ ((c : Chart) → Rows t (now (rows .entry)) c → now (words .exit) ≡ held-by (ended (is-empty (c .locs)) c) (now (words .entry)) .words) ⌝ }
+    requires { ⌜ Few t × (length (now rows) ≡ most-rows) ⌝ }
+    ensures answered { λ r. ⌜ ((c : Chart) → Rows t (now (rows .entry)) c → r ≡ held-by (ended (is-empty (c .locs)) c) (now (words .entry)) .answer) ⌝ }
+    ensures written { λ _. ⌜ ((c : Chart) → Rows t (now (rows .entry)) c → now (words .exit) ≡ held-by (ended (is-empty (c .locs)) c) (now (words .entry)) .words) ⌝ }
 {
     if t.locs == 0 {
         return semantics::refused(8, 0);
@@ -57,7 +57,7 @@ fn finish(t: Tally, rows: &[i32], words: &mut [i32]) -> semantics::Answer
 
 // One line, by its kind.
 fn step(t: Tally, rows: &mut [i32], names: &mut [i32], line: &[u8]) -> Step
-    requires { ⌜ Few t × (length (now rows) ≡ 3160) × (length (now names) ≡ 136) ⌝ }
+    requires { ⌜ Few t × (length (now rows) ≡ most-rows) × (length (now names) ≡ most-names) ⌝ }
     ensures { λ r. ⌜ ((s : So-far) → Rows t (now (rows .entry)) (s .chart) → Names (t .vars) (now (names .entry)) (s .names) → Stepped r (judge s (fields (now (line .entry)))) (now (rows .exit)) (now (names .exit))) ⌝ }
 {
     let kind = text::field(line, 0);
@@ -98,7 +98,7 @@ fn advance(
     text: &[u8],
     l: text::lines::Line,
 ) -> Descent
-    requires { ⌜ Ready (now text) p l × (length (now rows) ≡ 3160) × (length (now names) ≡ 136) ⌝ }
+    requires { ⌜ Ready (now text) p l × (length (now rows) ≡ most-rows) × (length (now names) ≡ most-names) ⌝ }
     ensures { λ r. ⌜ Advanced (now (text .entry)) l p (now (rows .entry)) (now (names .entry)) r (now (rows .exit)) (now (names .exit)) ⌝ }
 {
     let s = p.step;
@@ -137,7 +137,7 @@ fn begun() -> Descent
 
 // The reader goes down the text line by line, and each line is judged. Proved by hand: the reader lies in a local.
 fn go_down(text: &[u8], rows: &mut [i32], names: &mut [i32]) -> Descent
-    requires { ⌜ (length (now rows) ≡ 3160) × (length (now names) ≡ 136) ⌝ }
+    requires { ⌜ (length (now rows) ≡ most-rows) × (length (now names) ≡ most-names) ⌝ }
     ensures { λ r. ⌜ Came (now (text .entry)) (r .line) (r .step) (now (rows .exit)) ⌝ }
 {
     let mut r = text::lines::open(text);
@@ -152,8 +152,8 @@ fn go_down(text: &[u8], rows: &mut [i32], names: &mut [i32]) -> Descent
 
 // All the lines. The rows are held apart until the last line is judged, so that a refusal has written nothing.
 fn read_lines(text: &[u8], words: &mut [i32]) -> semantics::Answer
-    ensures { λ r. ⌜ r ≡ held-by (lines-judged (now (text .entry))) (now (words .entry)) .answer ⌝ }
-    ensures { λ _. ⌜ now (words .exit) ≡ held-by (lines-judged (now (text .entry))) (now (words .entry)) .words ⌝ }
+    ensures answered { λ r. ⌜ r ≡ held-by (lines-judged (now (text .entry))) (now (words .entry)) .answer ⌝ }
+    ensures written { λ _. ⌜ now (words .exit) ≡ held-by (lines-judged (now (text .entry))) (now (words .entry)) .words ⌝ }
 {
     let mut rows = [0i32; ROWS_WORDS];
     let mut names = [0i32; NAMES_WORDS];
@@ -167,8 +167,8 @@ fn read_lines(text: &[u8], words: &mut [i32]) -> semantics::Answer
 
 // The bytes, then the LF of the last line, then the lines.
 fn read_text(text: &[u8], words: &mut [i32]) -> semantics::Answer
-    ensures { λ r. ⌜ r ≡ held-by (refused-at (bad-byte-line 1 (now (text .entry))) 2 (refused-at (open-line 0 10 (now (text .entry))) 3 (lines-judged (now (text .entry))))) (now (words .entry)) .answer ⌝ }
-    ensures { λ _. ⌜ now (words .exit) ≡ held-by (refused-at (bad-byte-line 1 (now (text .entry))) 2 (refused-at (open-line 0 10 (now (text .entry))) 3 (lines-judged (now (text .entry))))) (now (words .entry)) .words ⌝ }
+    ensures answered { λ r. ⌜ r ≡ held-by (refused-at (bad-byte-line 1 (now (text .entry))) 2 (refused-at (open-line 0 10 (now (text .entry))) 3 (lines-judged (now (text .entry))))) (now (words .entry)) .answer ⌝ }
+    ensures written { λ _. ⌜ now (words .exit) ≡ held-by (refused-at (bad-byte-line 1 (now (text .entry))) 2 (refused-at (open-line 0 10 (now (text .entry))) 3 (lines-judged (now (text .entry))))) (now (words .entry)) .words ⌝ }
 {
     match scan::bad_byte(text) {
         scan::Fault::Line(n) => semantics::refused(2, n),
@@ -181,8 +181,8 @@ fn read_text(text: &[u8], words: &mut [i32]) -> semantics::Answer
 
 // A chart file's bytes into the words of the encoded chart: the answer, and every word at exit.
 pub fn read(text: &[u8], words: &mut [i32]) -> semantics::Answer
-    ensures { λ r. ⌜ r ≡ read-outcome (now (text .entry)) (now (words .entry)) .answer ⌝ }
-    ensures { λ _. ⌜ now (words .exit) ≡ read-outcome (now (text .entry)) (now (words .entry)) .words ⌝ }
+    ensures answered { λ r. ⌜ r ≡ read-outcome (now (text .entry)) (now (words .entry)) .answer ⌝ }
+    ensures written { λ _. ⌜ now (words .exit) ≡ read-outcome (now (text .entry)) (now (words .entry)) .words ⌝ }
 {
     if MOST_BYTES < text.len() {
         return semantics::refused(1, 0);

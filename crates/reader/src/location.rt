@@ -10,7 +10,7 @@ ghost use Rattle.semantics.specs.Text.{fields, name-ok};
 ghost use Rattle.semantics.specs.Reading.{So-far, loc-line};
 ghost use Rattle.text.specs.Fields.{kind-res};
 ghost use Rattle.reader.specs.Lines.{loc-judged, loc-named};
-ghost use Rattle.reader.specs.Held.{Few, Rows, Names, Stepped};
+ghost use Rattle.reader.specs.ReadSoFar.{Few, Rows, Names, Stepped, most-rows};
 use super::tally::Step;
 use super::tally::Tally;
 use super::tally::used_words;
@@ -30,7 +30,7 @@ fn judged(line: &[u8]) -> text::KindRead
 
 // A location, if its name is new.
 fn named(t: Tally, rows: &mut [i32], error: bool, name: &[u8]) -> Step
-    requires { ⌜ T (name-ok (now name)) × Few t × (t .locs < 64) × (t .edges ≡ 0) × (length (now rows) ≡ 3160) ⌝ }
+    requires { ⌜ T (name-ok (now name)) × Few t × (t .locs < 64) × (t .edges ≡ 0) × (length (now rows) ≡ most-rows) ⌝ }
     ensures { λ r. ⌜ ((s : So-far) (names : List ℤ) → Rows t (now (rows .entry)) (s .chart) → Names (t .vars) names (s .names) → Stepped r (loc-named s (now (name .entry)) error) (now (rows .exit)) names) ⌝ }
 {
     let first = chart::rows_size(t.vars, 0, 0);
@@ -48,7 +48,7 @@ fn named(t: Tally, rows: &mut [i32], error: bool, name: &[u8]) -> Step
 
 // An L line, which stands before every E.
 pub fn read_line(t: Tally, rows: &mut [i32], line: &[u8]) -> Step
-    requires { ⌜ Few t × (length (now rows) ≡ 3160) ⌝ }
+    requires { ⌜ Few t × (length (now rows) ≡ most-rows) ⌝ }
     ensures { λ r. ⌜ ((s : So-far) (names : List ℤ) → Rows t (now (rows .entry)) (s .chart) → Names (t .vars) names (s .names) → Stepped r (loc-line s (fields (now (line .entry)))) (now (rows .exit)) names) ⌝ }
 {
     if t.edges != 0 {

@@ -1,6 +1,6 @@
 // What the judges of the three kinds of line share: the counts so far, and what a line comes to.
 ghost use mathlib.Core.Path.{_≡_};
-ghost use Rattle.reader.specs.Held.{Few, used-words};
+ghost use Rattle.reader.specs.ReadSoFar.{Few, used-words};
 
 // The rows of the variables' names, where they are the most: 136 words.
 pub const NAMES_WORDS: usize = chart::LOCATION_WORDS * semantics::MOST_VARIABLES;

@@ -8,7 +8,7 @@ ghost use Rattle.semantics.specs.Text.{fields, name-ok};
 ghost use Rattle.semantics.specs.Reading.{So-far, var-line};
 ghost use Rattle.reader.specs.Answers.{var-of, var-res};
 ghost use Rattle.reader.specs.Lines.{var-init, var-high, var-low, var-judged, var-named};
-ghost use Rattle.reader.specs.Held.{Few, Rows, Names, Stepped};
+ghost use Rattle.reader.specs.ReadSoFar.{Few, Rows, Names, Stepped, most-rows, most-names};
 use super::tally::Step;
 use super::tally::Tally;
 use super::tally::used_words;
@@ -80,7 +80,7 @@ fn judged(line: &[u8]) -> VarLine
 
 // A variable, if its name is new. The name is kept as a location's is, so that one function looks for both.
 fn named(t: Tally, rows: &mut [i32], names: &mut [i32], v: VarRow, name: &[u8]) -> Step
-    requires { ⌜ T (name-ok (now name)) × (t .vars < 8) × (t .locs ≡ 0) × (t .edges ≡ 0) × (length (now rows) ≡ 3160) × (length (now names) ≡ 136) ⌝ }
+    requires { ⌜ T (name-ok (now name)) × (t .vars < 8) × (t .locs ≡ 0) × (t .edges ≡ 0) × (length (now rows) ≡ most-rows) × (length (now names) ≡ most-names) ⌝ }
     ensures { λ r. ⌜ ((s : So-far) → Rows t (now (rows .entry)) (s .chart) → Names (t .vars) (now (names .entry)) (s .names) → Stepped r (var-named s (now (name .entry)) (var-of v)) (now (rows .exit)) (now (names .exit))) ⌝ }
 {
     let at = chart::LOCATION_WORDS * t.vars;
@@ -98,7 +98,7 @@ fn named(t: Tally, rows: &mut [i32], names: &mut [i32], v: VarRow, name: &[u8]) 
 
 // A V line, which stands before every L and E.
 pub fn read_line(t: Tally, rows: &mut [i32], names: &mut [i32], line: &[u8]) -> Step
-    requires { ⌜ Few t × (length (now rows) ≡ 3160) × (length (now names) ≡ 136) ⌝ }
+    requires { ⌜ Few t × (length (now rows) ≡ most-rows) × (length (now names) ≡ most-names) ⌝ }
     ensures { λ r. ⌜ ((s : So-far) → Rows t (now (rows .entry)) (s .chart) → Names (t .vars) (now (names .entry)) (s .names) → Stepped r (var-line s (fields (now (line .entry)))) (now (rows .exit)) (now (names .exit))) ⌝ }
 {
     if t.locs != 0 {

@@ -15,7 +15,7 @@ use Rattle.semantics.specs.Lists.{pick}
 use Rattle.semantics.specs.Text.{bytes, same-bytes, natural-of, nonnegative, number-of}
 use Rattle.semantics.specs.Chart.{known, top, num, var, small, within}
 use Rattle.semantics.specs.Encoding.{val}
-use Rattle.semantics.specs.Reading.{fail, ok, check, if-ok, small-or, below-or, number-field, target-field, operand-field, init-field}
+use Rattle.semantics.specs.Reading.{Res, fail, ok, check, if-ok, small-or, below-or, number-field, target-field, operand-field, init-field}
 use Rattle.words.proofs.Words.{ne-eqZ}
 
 module _ (n : ℕ) where
@@ -58,6 +58,17 @@ module _ (n : ℕ) where
   pub operand-num : (l : List ℕ) → (getD l 0 0 ≡ 36 → ⊥) → operand-field n l ≡ if-ok (number-field l) (λ z. ok (num z))
   unfolding operand-field
   operand-num l e = simp (ne-eqb _ _ e)
+
+-- ---- the refusal, or on with what was read
+
+module _ {A B : Type 0} {r : Res A} (f : A → Res B) where
+  pub then-fail : {n : ℕ} → r ≡ fail n → if-ok r f ≡ fail n
+  unfolding if-ok
+  then-fail e = rw e
+
+  pub then-ok : {a : A} → r ≡ ok a → if-ok r f ≡ f a
+  unfolding if-ok
+  then-ok e = rw e
 
 -- ---- an initial value
 

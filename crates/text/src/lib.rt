@@ -391,32 +391,22 @@ fn first(f: &[u8]) -> u8
     f[0]
 }
 
-fn as_variable(k: VariableRead) -> OperandRead
-    ensures { λ r. ⌜ operand-res r ≡ if-ok (variable-res k) (λ n. ok (var n)) ⌝ }
-{
-    match k {
-        VariableRead::Refused(n) => OperandRead::Refused(n),
-        VariableRead::Is(v) => OperandRead::Is(Operand::Variable(v)),
-    }
-}
-
-fn as_number(w: WordRead) -> OperandRead
-    ensures { λ r. ⌜ operand-res r ≡ if-ok (word-res w) (λ z. ok (num z)) ⌝ }
-{
-    match w {
-        WordRead::Refused(n) => OperandRead::Refused(n),
-        WordRead::Is(z) => OperandRead::Is(Operand::Number(z)),
-    }
-}
-
+// A number or `$k`.
 pub fn operand_field(count: usize, f: &[u8]) -> OperandRead
     requires { ⌜ count ≤ 256 ⌝ }
     ensures { λ r. ⌜ operand-res r ≡ operand-field count (now (f .entry)) ⌝ }
 {
     if first(f) == b'$' {
-        return as_variable(target_field(count, f));
+        match target_field(count, f) {
+            VariableRead::Refused(n) => OperandRead::Refused(n),
+            VariableRead::Is(v) => OperandRead::Is(Operand::Variable(v)),
+        }
+    } else {
+        match number_field(f) {
+            WordRead::Refused(n) => OperandRead::Refused(n),
+            WordRead::Is(z) => OperandRead::Is(Operand::Number(z)),
+        }
     }
-    as_number(number_field(f))
 }
 
 // An initial value that is a number.

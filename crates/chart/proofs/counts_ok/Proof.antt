@@ -1,5 +1,6 @@
 -- `chart::counts_ok` meets its contract. Assumes nothing.
 use borrow.Author.Needs.{needs, sfits-of}
+use Rattle.semantics.specs.Encoding.{word-at}
 use Rattle.chart.specs.Encoded.{counts-fine}
 use Rattle.words.proofs.Words.{told}
 use Rattle.chart.proofs.counts_ok.Statement.{statement}
@@ -27,11 +28,6 @@ pub counts-ok-spec : {M : Type 1} → statement M
 counts-ok-spec =
     tie.close
     (tie.spec
-    (λ c κs. search needs)
-    (λ c κs. search needs)
-    (λ c κs. search needs)
-    (λ c κs. search needs)
-    (λ c κs. search needs)
-    (λ c κs. search needs)
-    (λ c κs. search needs)
+    (λ c κs. search needs) (λ c κs. search needs) (λ c κs. search needs) (λ c κs. search needs)
+    (λ c κs. search needs) (λ c κs. search needs) (λ c κs. search needs)
     returns)

@@ -3,6 +3,7 @@ use mathlib.Core.Path.{_∙_}
 use borrow.Author.Needs.{needs, sfits-of}
 use mir.Syntax.{w32}
 use mir.ValLaws.{toZ-ofZ}
+use Rattle.semantics.specs.Encoding.{word-at}
 use Rattle.chart.specs.Encoded.{ranged}
 use Rattle.words.proofs.Words.{told}
 use Rattle.chart.proofs.in_var_range.Statement.{statement}

@@ -3,6 +3,7 @@ use mathlib.Core.Path.{_∙_}
 use borrow.Author.Needs.{needs, sfits-of}
 use lib.IntN.{pos}
 use mir.Facts.{sfits-lit}
+use Rattle.semantics.specs.Encoding.{word-at}
 use Rattle.words.proofs.Words.{tested}
 use Rattle.chart.proofs.is_error_location.Statement.{statement}
 use Rattle.chart.proofs.is_error_location.Tie as tie

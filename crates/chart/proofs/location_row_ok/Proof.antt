@@ -5,6 +5,8 @@ use native.Mathlib.Omega.{arith}
 use borrow.Author.Needs.{needs, sfits-of}
 use lib.IntN.{pos}
 use mir.Facts.{sfits-lit}
+use Rattle.semantics.specs.Encoding.{word-at}
+use Rattle.semantics.specs.Layout.{name-size, location-size}
 use Rattle.chart.specs.Encoded.{location-fine}
 use Rattle.words.proofs.Words.{tested}
 use Rattle.chart.proofs.location_row_ok.Statement.{statement}
@@ -17,7 +19,7 @@ returns c =
     let n = b .before .before .row-name-length in
     let k = b .before .before .before .word-at in
     let e : n .result + 1 - 1 ≡ n .result = omega arith in
-    let d : 17 - (n .result + 1) ≡ 16 - n .result = omega arith in
+    let d : location-size - (n .result + 1) ≡ name-size - n .result = omega arith in
     let fk = sfits-of {z = k .result} (k .ok) in
     rw (
       c .all-zero .ensures,
@@ -33,16 +35,7 @@ pub location-row-ok-spec : {M : Type 1} → statement M
 location-row-ok-spec =
     tie.close
     (tie.spec
-    (λ c κs. search needs)
-    (λ c κs. search needs)
-    (λ c. search needs)
-    (λ c. search needs)
-    (λ c. search needs)
-    (λ c. search needs)
-    (λ c κs. search needs)
-    (λ c. search needs)
-    (λ c. search needs)
-    (λ c. search needs)
-    (λ c. search needs)
-    (λ c κs. search needs)
+    (λ c κs. search needs) (λ c κs. search needs) (λ c. search needs) (λ c. search needs) (λ c. search needs)
+    (λ c. search needs) (λ c κs. search needs) (λ c. search needs) (λ c. search needs) (λ c. search needs)
+    (λ c. search needs) (λ c κs. search needs)
     returns)

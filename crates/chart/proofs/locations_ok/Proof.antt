@@ -3,13 +3,14 @@ use mathlib.Core.Path.{sym}
 use Prim.Native.Nat.{_-_}
 use native.Mathlib.Omega.{arith}
 use lib.ListN.{length-take, length-drop}
+use Rattle.semantics.specs.Layout.{location-size}
 use Rattle.chart.specs.Encoded.{location-fine}
 use Rattle.chart.proofs.RowLoops.{Passed, rows-start, rows-turn, rows-end}
 use Rattle.chart.proofs.locations_ok.Statement.{statement}
 use Rattle.chart.proofs.locations_ok.Tie as tie
 
 abbrev Inv-loop : tie.InvT-loop
-Inv-loop locations n ok₀ i₀ at₀ ok i at = Passed location-fine (λ r. r) 17 n locations ok i at
+Inv-loop locations n ok₀ i₀ at₀ ok i at = Passed location-fine (λ r. r) location-size n locations ok i at
 
 abbrev μ-loop : tie.MeasureT-loop
 μ-loop locations n ok₀ i₀ at₀ ok i at = n - i
@@ -19,13 +20,13 @@ loop-again c =
     let b = c .before .before .before in
     let a = b .before .args in
     let l = b .loop in
-    rows-turn location-fine (λ r. r) 17 (a .n) (a .locations .now) (l .ok) (l .i) (l .at) (l .inv) (c .before .before .loop-test .taken) (c .location-row-ok .result) (c .location-row-ok .ensures)
+    rows-turn location-fine (λ r. r) location-size (a .n) (a .locations .now) (l .ok) (l .i) (l .at) (l .inv) (c .before .before .loop-test .taken) (c .location-row-ok .result) (c .location-row-ok .ensures)
 
 returns : tie.Need-returns Inv-loop μ-loop
 returns c =
     let l = c .before .loop in
     let a = c .before .before .args in
-    sym (rows-end location-fine (λ r. r) 17 (a .n) (a .locations .now) (l .ok) (l .i) (l .at) (l .inv) (c .loop-test .left))
+    sym (rows-end location-fine (λ r. r) location-size (a .n) (a .locations .now) (l .ok) (l .i) (l .at) (l .inv) (c .loop-test .left))
 
 pub locations-ok-spec : {M : Type 1} → statement M
 locations-ok-spec =
@@ -33,14 +34,9 @@ locations-ok-spec =
     (tie.spec
     Inv-loop
     μ-loop
-    (λ c. let a = c .args in rows-start location-fine (λ r. r) 17 (a .n) (a .locations .now))
-    (λ c. omega arith)
-    (λ c. omega arith)
-    (λ c. omega arith)
-    (λ c. omega arith)
+    (λ c. let a = c .args in rows-start location-fine (λ r. r) location-size (a .n) (a .locations .now))
+    (λ c. omega arith) (λ c. omega arith) (λ c. omega arith) (λ c. omega arith)
     (λ c κs. simp (length-take, length-drop) (omega arith))
-    (λ c. omega arith)
-    (λ c. omega arith)
-    (λ c. omega arith)
+    (λ c. omega arith) (λ c. omega arith) (λ c. omega arith)
     loop-again
     returns)

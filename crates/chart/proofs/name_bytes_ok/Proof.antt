@@ -4,10 +4,10 @@ use mathlib.Core.Bool.{_&&_}
 use Prim.Native.Nat.{_-_, _≤_}
 use native.Mathlib.Omega.{arith}
 use borrow.Author.Needs.{needs, sfits-of}
-use lib.IntN.{pos}
-use lib.ListN.{length, drop, getD, drop-of-length-le}
+use lib.ListN.{length, drop, drop-of-length-le}
 use mir.Syntax.{w32}
 use mir.ValLaws.{toZ-ofZ}
+use Rattle.semantics.specs.Encoding.{word-at}
 use Rattle.semantics.specs.Lists.{all}
 use Rattle.chart.specs.Encoded.{name-word}
 use Rattle.semantics.proofs.Values.{and-true}
@@ -26,7 +26,7 @@ loop-again c =
     let b = c .before .before .before in
     let ws = b .before .args .name .now in
     let l = b .loop in
-    let e = c .is-name-byte .ensures ∙ ap name-word (toZ-ofZ w32 (getD ws (l .i) (pos 0)) (sfits-of (c .before .w .given))) in
+    let e = c .is-name-byte .ensures ∙ ap name-word (toZ-ofZ w32 (word-at ws (l .i)) (sfits-of (c .before .w .given))) in
     (omega arith, l .inv .1 ∙ bytes-turn name-word ws (l .ok) (l .i) (c .is-name-byte .result) (c .before .before .loop-test .taken) e)
 
 returns : tie.Need-returns Inv-loop μ-loop
@@ -42,10 +42,6 @@ name-bytes-ok-spec =
     Inv-loop
     μ-loop
     (λ c. (omega arith, refl))
-    (λ c. omega arith)
-    (λ c. omega arith)
-    (λ c κs. search needs)
-    (λ c. omega arith)
-    (λ c. omega arith)
+    (λ c. omega arith) (λ c. omega arith) (λ c κs. search needs) (λ c. omega arith) (λ c. omega arith)
     loop-again
     returns)

@@ -6,6 +6,7 @@ use Prim.Native.Nat.{_+_, _-_, _*_, _≤_}
 use native.Mathlib.Omega.{arith}
 use lib.IntN.{ℤ}
 use lib.ListN.{length, take, drop, length-take, length-drop}
+use Rattle.semantics.specs.Layout.{location-size}
 use Rattle.semantics.specs.Lists.{all}
 use Rattle.semantics.specs.Encoding.{loc-in, several, distinct-names}
 use Rattle.semantics.proofs.Values.{and-true}
@@ -16,8 +17,8 @@ use Rattle.chart.proofs.names_differ.Tie as tie
 
 abbrev Inv-loop : tie.InvT-loop
 Inv-loop locations n ok₀ left₀ at₀ ok left at =
-    (at + 17 * left ≤ length locations)
-    × (distinct-names (several loc-in 17 n locations) ≡ ok && distinct-names (several loc-in 17 left (drop at locations)))
+    (at + location-size * left ≤ length locations)
+    × (distinct-names (several loc-in location-size n locations) ≡ ok && distinct-names (several loc-in location-size left (drop at locations)))
 
 abbrev μ-loop : tie.MeasureT-loop
 μ-loop locations n ok₀ left₀ at₀ ok left at = left
@@ -28,8 +29,8 @@ loop-again c =
     let ws = b .before .args .locations .now in
     let l = b .loop in
     let m = l .left - 1 in
-    let next = l .at + 17 in
-    let e = c .name-is-new .ensures ∙ ap (λ (r : List ℤ). all (other-name r) (several loc-in 17 m (take (length ws - next) (drop next ws)))) (tail ws (l .at)) ∙ ap (λ (r : List ℤ). all (other-name (drop (l .at) ws)) (several loc-in 17 m r)) (tail ws next) in
+    let next = l .at + location-size in
+    let e = c .name-is-new .ensures ∙ ap (λ (r : List ℤ). all (other-name r) (several loc-in location-size m (take (length ws - next) (drop next ws)))) (tail ws (l .at)) ∙ ap (λ (r : List ℤ). all (other-name (drop (l .at) ws)) (several loc-in location-size m r)) (tail ws next) in
     (omega arith, l .inv .1 ∙ differ-turn ws (l .ok) (l .left) (l .at) (c .name-is-new .result) (c .before .before .before .loop-test .taken) e)
 
 returns : tie.Need-returns Inv-loop μ-loop
@@ -45,16 +46,8 @@ names-differ-spec =
     Inv-loop
     μ-loop
     (λ c. (omega arith, refl))
-    (λ c. omega arith)
-    (λ c. omega arith)
-    (λ c. omega arith)
-    (λ c. omega arith)
-    (λ c. omega arith)
-    (λ c. omega arith)
-    (λ c. omega arith)
-    (λ c. omega arith)
-    (λ c. omega arith)
-    (λ c. omega arith)
+    (λ c. omega arith) (λ c. omega arith) (λ c. omega arith) (λ c. omega arith) (λ c. omega arith)
+    (λ c. omega arith) (λ c. omega arith) (λ c. omega arith) (λ c. omega arith) (λ c. omega arith)
     (λ c κs. simp (length-take, length-drop) (omega arith))
     (λ c. omega arith)
     loop-again

@@ -2,28 +2,29 @@
 use mathlib.Core.Path.{_≡_}
 use borrow.Author.Needs.{needs}
 use borrow.Author.Tests.{ne-eqb}
+use Rattle.semantics.specs.Layout.{add-code, sub-code, in-code}
 use Rattle.chart.specs.Encoded.{operands-fine}
 use Rattle.chart.proofs.operands_ok.Statement.{statement}
 use Rattle.chart.proofs.operands_ok.Tie as tie
 
 returns : tie.Need-returns
 unfolding operands-fine
-returns c = let e : c .before .before .args .n ≡ 2 = c .before .match .keys1 in rw e (c .two-operands-ok .ensures)
+returns c = let e : c .before .before .args .n ≡ add-code = c .before .match .keys1 in rw e (c .two-operands-ok .ensures)
 
 returns-2 : tie.Need-returns-2
 unfolding operands-fine
-returns-2 c = let e : c .before .before .args .n ≡ 3 = c .before .match .keys2 in rw e (c .two-operands-ok2 .ensures)
+returns-2 c = let e : c .before .before .args .n ≡ sub-code = c .before .match .keys2 in rw e (c .two-operands-ok2 .ensures)
 
 returns-3 : tie.Need-returns-3
 unfolding operands-fine
-returns-3 c = let e : c .before .before .args .n ≡ 4 = c .before .match .keys3 in rw e (c .input-ok .ensures)
+returns-3 c = let e : c .before .before .args .n ≡ in-code = c .before .match .keys3 in rw e (c .input-ok .ensures)
 
 returns-4 : tie.Need-returns-4
 unfolding operands-fine
 returns-4 c =
     let n = c .before .before .args .n in
     let r = c .before .match .rest in
-    rw (ne-eqb n 2 (r .0 .0 .1), ne-eqb n 3 (r .0 .1), ne-eqb n 4 (r .1)) (c .one-operand-ok .ensures)
+    rw (ne-eqb n add-code (r .0 .0 .1), ne-eqb n sub-code (r .0 .1), ne-eqb n in-code (r .1)) (c .one-operand-ok .ensures)
 
 pub operands-ok-spec : {M : Type 1} → statement M
 operands-ok-spec =

@@ -2,7 +2,7 @@
 use mathlib.Core.Path.{sym, _∙_}
 use borrow.Author.Needs.{needs, sfits-of}
 use borrow.Author.Tests.{eq-eqb, ne-eqb}
-use Rattle.semantics.specs.Encoding.{count}
+use Rattle.semantics.specs.Encoding.{word-at, count}
 use Rattle.chart.specs.Encoded.{operation-fine}
 use Rattle.words.proofs.Words.{told}
 use Rattle.chart.proofs.operation_ok.Statement.{statement}

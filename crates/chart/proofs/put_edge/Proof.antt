@@ -1,12 +1,11 @@
 -- `chart::put_edge` meets its contract. Assumes nothing.
-use mathlib.Core.Path.{_≡_, sym, _∙_}
+use mathlib.Core.Path.{_≡_, _∙_}
 use native.Mathlib.Omega.{arith}
 use lib.IntN.{pos}
 use mir.Val.{toZ, ofZ}
 use mir.Facts.{toZ-pos}
 use mir.Syntax.{w32}
-use borrow.Author.Needs.{needs, sfits-of}
-use Rattle.words.proofs.Words.{told}
+use borrow.Author.Needs.{needs}
 use Rattle.chart.proofs.put_edge.Statement.{statement}
 use Rattle.chart.proofs.put_edge.Tie as tie
 
@@ -33,6 +32,5 @@ put-edge-spec =
     (tie.spec
     (λ c κs. search needs) (λ c κs. search needs) (λ c κs. search needs)
     (λ c. search needs) (λ c. search needs) (λ c. search needs) (λ c. search needs) (λ c. search needs)
-    (λ c κs. search needs)
-    (λ c. search needs)
+    (λ c κs. search needs) (λ c. search needs)
     returns)

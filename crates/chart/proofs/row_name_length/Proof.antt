@@ -7,17 +7,18 @@ use lib.IntN.{pos}
 use lib.ListN.{length, drop}
 use mir.Syntax.{w32}
 use mir.Facts.{sfits-lit}
-use Rattle.semantics.specs.Encoding.{name-in, loc-in}
+use Rattle.semantics.specs.Layout.{name-size}
+use Rattle.semantics.specs.Encoding.{word-at, name-in, loc-in}
 use Rattle.words.proofs.Words.{bits-eq, bits-ne}
 use Rattle.chart.proofs.Names.{name-ends, name-goes}
 use Rattle.chart.proofs.row_name_length.Statement.{statement}
 use Rattle.chart.proofs.row_name_length.Tie as tie
 
 abbrev Inv-loop : tie.InvT-loop
-Inv-loop row i₀ i = (i ≤ 16) × (length (loc-in row .name) ≡ i + length (name-in (16 - i) (drop (i + 1) row)))
+Inv-loop row i₀ i = (i ≤ name-size) × (length (loc-in row .name) ≡ i + length (name-in (name-size - i) (drop (i + 1) row)))
 
 abbrev μ-loop : tie.MeasureT-loop
-μ-loop row i₀ i = 16 - i
+μ-loop row i₀ i = name-size - i
 
 returns : tie.Need-returns Inv-loop μ-loop
 returns c =
@@ -38,7 +39,7 @@ loop-again c =
 returns-2 : tie.Need-returns-2 Inv-loop μ-loop
 returns-2 c =
     let i = c .before .loop .i in
-    let e : i ≡ 16 = omega arith in
+    let e : i ≡ name-size = omega arith in
     (e ∙ sym (rw e at (c .before .loop .inv .1)), omega arith)
 
 pub row-name-length-spec : {M : Type 1} → statement M
@@ -48,10 +49,8 @@ row-name-length-spec =
     Inv-loop
     μ-loop
     (λ c. (omega arith, omega arith))
-    (λ c. omega arith)
-    (λ c κs. search needs)
+    (λ c. omega arith) (λ c κs. search needs)
     returns
-    (λ c. omega arith)
-    (λ c. omega arith)
+    (λ c. omega arith) (λ c. omega arith)
     loop-again
     returns-2)

@@ -1,5 +1,6 @@
 -- `chart::rows_ok` meets its contract. Assumes nothing.
 use borrow.Author.Needs.{needs}
+use Rattle.semantics.specs.Layout.{counts-size}
 use Rattle.chart.specs.Encoded.{rows-fine}
 use Rattle.words.proofs.Rows.{tail}
 use Rattle.chart.proofs.rows_ok.Statement.{statement}
@@ -20,7 +21,7 @@ returns c =
       d .names-differ .ensures,
       d .before .locations-ok .ensures,
       v .vars-ok .ensures,
-      tail ws 3,
+      tail ws counts-size,
       tail ws (a .locations-at .result),
       tail ws (f .edges-at .result),
       a .locations-at .ensures .0,
@@ -34,24 +35,9 @@ pub rows-ok-spec : {M : Type 1} → statement M
 rows-ok-spec =
     tie.close
     (tie.spec
-    (λ c κs. search needs)
-    (λ c κs. search needs)
-    (λ c κs. search needs)
-    (λ c κs. search needs)
-    (λ c κs. search needs)
-    (λ c. search needs)
-    (λ c. search needs)
-    (λ c. search needs)
-    (λ c. search needs)
-    (λ c. search needs)
-    (λ c. search needs)
-    (λ c. search needs)
-    (λ c κs. search needs)
-    (λ c κs. search needs)
-    (λ c κs. search needs)
-    (λ c. search needs)
-    (λ c. search needs)
-    (λ c. search needs)
-    (λ c. search needs)
+    (λ c κs. search needs) (λ c κs. search needs) (λ c κs. search needs) (λ c κs. search needs)
+    (λ c κs. search needs) (λ c. search needs) (λ c. search needs) (λ c. search needs) (λ c. search needs)
+    (λ c. search needs) (λ c. search needs) (λ c. search needs) (λ c κs. search needs) (λ c κs. search needs)
+    (λ c κs. search needs) (λ c. search needs) (λ c. search needs) (λ c. search needs) (λ c. search needs)
     (λ c κs. search needs)
     returns)

@@ -4,6 +4,7 @@ use Prim.Native.Nat.{_+_, _-_, _≤_}
 use native.Mathlib.Omega.{arith}
 use borrow.Author.Needs.{needs}
 use lib.ListN.{drop}
+use Rattle.semantics.specs.Layout.{name-size}
 use Rattle.semantics.specs.Text.{same-bytes}
 use Rattle.semantics.specs.Encoding.{name-in, loc-in}
 use Rattle.chart.proofs.Names.{names-part, names-end, names-go}
@@ -12,10 +13,10 @@ use Rattle.chart.proofs.same_name.Tie as tie
 
 abbrev Inv-loop : tie.InvT-loop
 Inv-loop a b i₀ i =
-    (i ≤ 16) × (same-bytes (loc-in a .name) (loc-in b .name) ≡ same-bytes (name-in (16 - i) (drop (i + 1) a)) (name-in (16 - i) (drop (i + 1) b)))
+    (i ≤ name-size) × (same-bytes (loc-in a .name) (loc-in b .name) ≡ same-bytes (name-in (name-size - i) (drop (i + 1) a)) (name-in (name-size - i) (drop (i + 1) b)))
 
 abbrev μ-loop : tie.MeasureT-loop
-μ-loop a b i₀ i = 16 - i
+μ-loop a b i₀ i = name-size - i
 
 returns : tie.Need-returns Inv-loop μ-loop
 returns c =
@@ -48,7 +49,7 @@ loop-again c =
 
 returns-3 : tie.Need-returns-3 Inv-loop μ-loop
 returns-3 c =
-    let e : c .before .loop .i ≡ 16 = omega arith in
+    let e : c .before .loop .i ≡ name-size = omega arith in
     sym (rw e at (c .before .loop .inv .1))
 
 pub same-name-spec : {M : Type 1} → statement M
@@ -58,13 +59,9 @@ same-name-spec =
     Inv-loop
     μ-loop
     (λ c. (omega arith, refl))
-    (λ c. omega arith)
-    (λ c κs. search needs)
-    (λ c. omega arith)
-    (λ c κs. search needs)
+    (λ c. omega arith) (λ c κs. search needs) (λ c. omega arith) (λ c κs. search needs)
     returns
     returns-2
-    (λ c. omega arith)
-    (λ c. omega arith)
+    (λ c. omega arith) (λ c. omega arith)
     loop-again
     returns-3)

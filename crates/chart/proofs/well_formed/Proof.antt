@@ -4,6 +4,7 @@ use Prim.Native.Nat.{_*_, _+_, _≤_}
 use native.Mathlib.Omega.{arith}
 use borrow.Author.Needs.{needs}
 use lib.ListN.{length}
+use Rattle.semantics.specs.Layout.{edge-size}
 use Rattle.semantics.specs.Encoding.{count}
 use Rattle.chart.specs.Encoded.{edges-at}
 use Rattle.chart.proofs.WellFormed.{no-counts, no-room, by-rows}
@@ -14,7 +15,7 @@ returns : tie.Need-returns
 returns c =
     let b = c .before .before in
     let k = b .before .before in
-    let h : edges-at (k .before .args .chart .now) + 8 * count (k .before .args .chart .now) 2 ≤ length (k .before .args .chart .now) = omega (arith, b .end-of .ensures) in
+    let h : edges-at (k .before .args .chart .now) + edge-size * count (k .before .args .chart .now) 2 ≤ length (k .before .args .chart .now) = omega (arith, b .end-of .ensures) in
     c .rows-ok .ensures ∙ sym (by-rows (k .before .args .chart .now) h (sym (k .counts-ok .ensures) ∙ b .before .if1 .taken))
 
 returns-2 : tie.Need-returns-2

@@ -5,7 +5,7 @@ use native.Mathlib.Omega.{arith}
 use denote.Ref.{now}
 use borrow.Author.Needs.{needs}
 use Rattle.text.proofs.Places.{Lies, some-line, no-line}
-use Rattle.reader.specs.Held.{Along}
+use Rattle.reader.specs.ReadSoFar.{Along}
 use Rattle.reader.specs.declared.tally.Tally.{Tally}
 use Rattle.reader.specs.declared.tally.Step.the-variants as step
 use Rattle.reader.proofs.NextLine.{all-judged, line-judged}
@@ -52,11 +52,9 @@ pub advance-spec : {M : Type 1} → statement M
 advance-spec =
     tie.close
     (tie.spec
-    (λ c. search needs)
-    (λ c. search needs)
+    (λ c. search needs) (λ c. search needs)
     returns
-    (λ c. search needs)
-    (λ c. search needs)
+    (λ c. search needs) (λ c. search needs)
     returns-2
     (λ c. omega (arith, lies (c .before .before .before) .begins, lies (c .before .before .before) .ends))
     (λ c. omega (arith, lies (c .before .before .before) .begins, lies (c .before .before .before) .ends))
@@ -64,6 +62,5 @@ advance-spec =
     step-requires
     (λ c κs. search needs)
     (λ c. omega (arith, lies (c .before .before .before .before .before .before .before .before .before) .here, start (c .before .before .before .before .before .before .before .before .before) .pre .0 .counted))
-    (λ c. search needs)
-    (λ c. search needs)
+    (λ c. search needs) (λ c. search needs)
     returns-3)

@@ -51,7 +51,7 @@ use denote.Signature.{plain}
 use Rattle.text.specs.Places.{line-at, place-after}
 use Rattle.text.specs.declared.lines.Reader.{Reader}
 use Rattle.text.specs.declared.lines.Line.{Line}
-use Rattle.reader.specs.Held.{nothing-judged, Came, Stands, Ready, Advanced}
+use Rattle.reader.specs.ReadSoFar.{nothing-judged, Came, Stands, Ready, Advanced, most-rows, most-names}
 use Rattle.reader.specs.declared.Descent.{Descent}
 use Rattle.reader.proofs.LentAgain.{LentAgain, lends, back}
 use Rattle.reader.proofs.NextLine.{at-first, ready, turns, fewer}
@@ -263,7 +263,7 @@ module _ {M : Type 1} (𝓤 : URA M) (H : Heap 𝓤) (A : Atoms 𝓤) (W : Given
   abbrev Passed : Descent → List ℤ → List ℤ → Line → Val → ℕ → ℕ → GName → GName → Item 𝓤
   Passed p ts ns l u ν₁ ν₂ δ₁ δ₂ = ‵ (owns (Y.the-row ∷ MutSlice (named 0) (ν₁ ∷ []) i32 ∷ MutSlice (named 1) (ν₂ ∷ []) i32 ∷ ShrSlice (named 2) κ₀ u8 ∷ S.the-row ∷ []) (aA p ts ns l δ₁ δ₂) (vA p u))
 
-  asked : (p : Descent) (ts ns : List ℤ) (l : Line) (u : Val) (ν₁ ν₂ : ℕ) (δ₁ δ₂ : GName) → Ready (now s) p l × (length ts ≡ 3160) × (length ns ≡ 136)
+  asked : (p : Descent) (ts ns : List ℤ) (l : Line) (u : Val) (ν₁ ν₂ : ℕ) (δ₁ δ₂ : GName) → Ready (now s) p l × (length ts ≡ most-rows) × (length ns ≡ most-names)
       → ent 𝓤 (onEntry 𝓤 H A advance.signature (ν₁ ∷ [], (ν₂ ∷ [], (κ₀, tt))) (fullShare, (fullShare, (q₀, tt))) (aA p ts ns l δ₁ δ₂) (vA p u)) (Advance 𝓤 H A at-mem run .pre (to-advance p ts ns l u ν₁ ν₂ δ₁ δ₂))
   asked p ts ns l u ν₁ ν₂ δ₁ δ₂ h = qed W (Toks ν₁ ν₂ ∷ Passed p ts ns l u ν₁ ν₂ δ₁ δ₂ ∷ []) ∵ says ! h $ frame ! $ done !
 
@@ -280,7 +280,7 @@ module _ {M : Type 1} (𝓤 : URA M) (H : Heap 𝓤) (A : Atoms 𝓤) (W : Given
 
   module _ (𝓣 : Tables 𝓤 H) (known-open : Triple 𝓤 (𝓣 .C #text·lines·open) (Open 𝓤 H A at-mem run)) (known-current : Triple 𝓤 (𝓣 .C #text·lines·current) (Current 𝓤 H A at-mem run)) (known-after : Triple 𝓤 (𝓣 .C #text·lines·place-after) (After 𝓤 H A at-mem run))
       (known-begun : Triple 𝓤 (𝓣 .C #reader·begun) (Begun 𝓤 H A at-mem run)) (known-advance : Triple 𝓤 (𝓣 .C #reader·advance) (Advance 𝓤 H A at-mem run))
-      (p₀ : Is (ShrSlice (named 0) κ₀ u8) s (v₀ ∷ [])) (room₁ : Room i32 (length ys)) (room₂ : Room i32 (length zs)) (size₁ : length ys ≡ 3160) (size₂ : length zs ≡ 136) where
+      (p₀ : Is (ShrSlice (named 0) κ₀ u8) s (v₀ ∷ [])) (room₁ : Room i32 (length ys)) (room₂ : Room i32 (length zs)) (size₁ : length ys ≡ most-rows) (size₂ : length zs ≡ most-names) where
     abbrev C : Calls 𝓤 H
     C = 𝓣 .C
 
@@ -472,7 +472,7 @@ module _ {M : Type 1} (𝓤 : URA M) (H : Heap 𝓤) (A : Atoms 𝓤) (W : Given
   go-down-walks : Walks 𝓤 H A go-down.ended stayed (WpFn 𝓤 H (𝓣 .C) (𝓣 .Λ) code.function) (go-down.clauses 𝓤 H A mem run)
   go-down-walks = walked 𝓤 H A go-down.ended stayed (go-down.clauses 𝓤 H A mem run) (WpFn 𝓤 H (𝓣 .C) (𝓣 .Λ) code.function) (λ κs. (slice-vals, (slice-vals, (slice-vals, tt))))
       (λ κs. (shr-slice-tells (named 0) (κs .0) u8, (mut-slice-tells (named 1) (κs .1 .0) i32, (mut-slice-tells (named 2) (κs .1 .1 .0) i32, tt))))
-      (λ κs qs bounds a g are. needs 𝓤 ((length (a .1 .0 .now) ≡ 3160) × (length (a .1 .1 .0 .now) ≡ 136)) _ (λ sizes.
+      (λ κs qs bounds a g are. needs 𝓤 ((length (a .1 .0 .now) ≡ most-rows) × (length (a .1 .1 .0 .now) ≡ most-names)) _ (λ sizes.
       walk 𝓤 H A W mem run (κs .0) (κs .1 .0) (κs .1 .1 .0) (qs .0) (qs .1 .0) (qs .1 .1 .0) (a .0) (a .1 .0 .ptr .0) (a .1 .0 .ptr .1) (a .1 .0 .name) (a .1 .0 .now) (a .1 .1 .0 .ptr .0) (a .1 .1 .0 .ptr .1) (a .1 .1 .0 .name) (a .1 .1 .0 .now)
       𝓣 known-open known-current known-after known-begun known-advance (are .0) (are .1 .0 .0 .1) (are .1 .1 .0 .0 .1) (sizes .0) (sizes .1)))
 

@@ -22,8 +22,7 @@ pub init-field-spec : {M : Type 1} → statement M
 init-field-spec =
     tie.close
     (tie.spec
-    (λ c. search needs)
-    (λ c κs. search needs)
+    (λ c. search needs) (λ c κs. search needs)
     returns
     (λ c κs. search needs)
     returns-2)

@@ -11,10 +11,8 @@ unfolding kind-field kind-res
 kind-field-spec =
     tie.close
     (tie.spec
-    (λ c. search needs)
-    (λ c κs. search needs)
+    (λ c. search needs) (λ c κs. search needs)
     (λ c. search word-by-word)
-    (λ c. search needs)
-    (λ c κs. search needs)
+    (λ c. search needs) (λ c κs. search needs)
     (λ c. search word-by-word)
     (λ c. search word-by-word))

@@ -31,11 +31,9 @@ pub minus-spec : {M : Type 1} → statement M
 minus-spec =
     tie.close
     (tie.spec
-    (λ c. search needs)
-    (λ c. search needs)
+    (λ c. search needs) (λ c. search needs)
     returns
-    (λ c κs. search needs)
-    (λ c. search needs)
+    (λ c κs. search needs) (λ c. search needs)
     sub-t7
     returns-2
     returns-3)

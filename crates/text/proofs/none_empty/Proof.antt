@@ -47,6 +47,5 @@ none-empty-spec =
     (λ c κs. search needs)
     returns
     returns-2
-    (λ c. search needs)
-    (λ c. search needs)
+    (λ c. search needs) (λ c. search needs)
     loop-again)

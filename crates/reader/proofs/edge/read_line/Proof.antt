@@ -39,9 +39,7 @@ read-line-spec =
     returns
     (λ c κs. search needs)
     returns-2
-    (λ c κs. search needs) (λ c κs. search needs)
-    (λ c. search needs) (λ c. search needs)
-    (λ c κs. search needs)
+    (λ c κs. search needs) (λ c κs. search needs) (λ c. search needs) (λ c. search needs) (λ c κs. search needs)
     returns-3
     (λ c. search needs)
     returns-4)

@@ -2,7 +2,7 @@
 use mathlib.Core.Path.{sym, ap}
 use borrow.Author.Needs.{needs}
 use Rattle.reader.specs.Answers.{op-res}
-use Rattle.reader.proofs.Judging.{then-fail, then-ok}
+use Rattle.text.proofs.Judged.{then-fail, then-ok}
 use Rattle.reader.proofs.edge.with_op.Statement.{statement}
 use Rattle.reader.proofs.edge.with_op.Tie as tie
 

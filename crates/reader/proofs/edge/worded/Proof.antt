@@ -19,7 +19,8 @@ use Rattle.reader.specs.Answers.{edge-res}
 use Rattle.reader.specs.Lines.{op-read, edge-read}
 use Rattle.reader.proofs.Reading.{edge-counted, edge-near}
 use Rattle.reader.proofs.Growing.{rows-edge}
-use Rattle.reader.proofs.Judging.{check-no, then-fail, then-ok}
+use Rattle.text.proofs.Judged.{then-fail, then-ok}
+use Rattle.reader.proofs.Judging.{check-no}
 use Rattle.reader.proofs.edge.worded.Statement.{statement}
 use Rattle.reader.proofs.edge.worded.Tie as tie
 
@@ -81,9 +82,7 @@ worded-spec =
     (tie.spec
     (λ c κs. search needs) (λ c κs. search needs)
     returns
-    (λ c κs. search needs)
-    (λ c. search needs) (λ c. search needs)
-    (λ c κs. search needs)
+    (λ c κs. search needs) (λ c. search needs) (λ c. search needs) (λ c κs. search needs)
     put-edge-requires
     (λ c. search needs) (λ c. search needs)
     returns-2

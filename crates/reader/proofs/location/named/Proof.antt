@@ -11,7 +11,7 @@ use Rattle.semantics.specs.Chart.{Loc}
 use Rattle.semantics.specs.Reading.{So-far, with-loc}
 use Rattle.semantics.proofs.Encoded.{name-short}
 use Rattle.chart.specs.Rows.{the-location}
-use Rattle.reader.specs.Held.{Rows}
+use Rattle.reader.specs.ReadSoFar.{Rows}
 use Rattle.reader.proofs.Growing.{rows-loc}
 use Rattle.reader.proofs.Naming.{new-location}
 use Rattle.reader.proofs.Judging.{check-no, check-yes}
@@ -60,8 +60,7 @@ named-spec =
     (λ c κs. search needs) (λ c κs. search needs)
     put-location-requires
     (λ c. search needs) (λ c. search needs) (λ c. search needs) (λ c. search needs)
-    (λ c. search needs) (λ c. search needs) (λ c. search needs) (λ c. search needs)
-    (λ c κs. search needs)
+    (λ c. search needs) (λ c. search needs) (λ c. search needs) (λ c. search needs) (λ c κs. search needs)
     (λ c. search needs)
     returns
     (λ c. search needs) (λ c. search needs)

@@ -11,7 +11,7 @@ use Rattle.semantics.proofs.Accepted.{check-ok}
 use Rattle.text.specs.Fields.{kind-res}
 use Rattle.reader.specs.Lines.{loc-judged}
 use Rattle.reader.proofs.Reading.{loc-late, loc-full, loc-read}
-use Rattle.reader.proofs.Judging.{then-fail, then-ok}
+use Rattle.text.proofs.Judged.{then-fail, then-ok}
 use Rattle.reader.proofs.location.read_line.Statement.{statement}
 use Rattle.reader.proofs.location.read_line.Tie as tie
 
@@ -57,9 +57,7 @@ read-line-spec =
     (tie.spec
     returns
     returns-2
-    (λ c κs. search needs)
-    (λ c. search needs) (λ c. search needs)
-    (λ c κs. search needs)
+    (λ c κs. search needs) (λ c. search needs) (λ c. search needs) (λ c κs. search needs)
     named-requires
     returns-3
     (λ c. search needs)

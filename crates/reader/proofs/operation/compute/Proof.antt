@@ -3,7 +3,8 @@ use mathlib.Core.Path.{sym, ap, _∙_}
 use borrow.Author.Needs.{needs}
 use Rattle.semantics.specs.Reading.{operand-field}
 use Rattle.text.specs.Fields.{operand-res}
-use Rattle.reader.proofs.Judging.{then-fail, then-ok, said}
+use Rattle.text.proofs.Judged.{then-fail, then-ok}
+use Rattle.reader.proofs.Judging.{said}
 use Rattle.reader.proofs.operation.compute.Statement.{statement}
 use Rattle.reader.proofs.operation.compute.Tie as tie
 
@@ -30,10 +31,8 @@ pub compute-spec : {M : Type 1} → statement M
 compute-spec =
     tie.close
     (tie.spec
-    (λ c κs. search needs) (λ c κs. search needs)
-    (λ c. search needs) (λ c. search needs)
-    (λ c κs. search needs) (λ c κs. search needs)
-    (λ c. search needs) (λ c. search needs)
+    (λ c κs. search needs) (λ c κs. search needs) (λ c. search needs) (λ c. search needs)
+    (λ c κs. search needs) (λ c κs. search needs) (λ c. search needs) (λ c. search needs)
     returns
     returns-2
     returns-3)

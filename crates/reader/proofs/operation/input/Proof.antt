@@ -3,7 +3,8 @@ use mathlib.Core.Path.{sym, ap, _∙_}
 use borrow.Author.Needs.{needs}
 use Rattle.semantics.specs.Reading.{number-field}
 use Rattle.text.specs.Fields.{word-res}
-use Rattle.reader.proofs.Judging.{then-fail, then-ok, check-no, check-yes, said}
+use Rattle.text.proofs.Judged.{then-fail, then-ok}
+use Rattle.reader.proofs.Judging.{check-no, check-yes, said}
 use Rattle.reader.proofs.operation.input.Statement.{statement}
 use Rattle.reader.proofs.operation.input.Tie as tie
 
@@ -28,8 +29,7 @@ pub input-spec : {M : Type 1} → statement M
 input-spec =
     tie.close
     (tie.spec
-    (λ c κs. search needs) (λ c κs. search needs)
-    (λ c. search needs) (λ c. search needs)
+    (λ c κs. search needs) (λ c κs. search needs) (λ c. search needs) (λ c. search needs)
     (λ c κs. search needs) (λ c κs. search needs) (λ c κs. search needs)
     returns
     returns-2

@@ -2,7 +2,8 @@
 use mathlib.Core.Path.{sym, ap, _∙_}
 use borrow.Author.Needs.{needs}
 use Rattle.text.specs.Fields.{word-res}
-use Rattle.reader.proofs.Judging.{then-fail, then-ok, check-no, check-yes}
+use Rattle.text.proofs.Judged.{then-fail, then-ok}
+use Rattle.reader.proofs.Judging.{check-no, check-yes}
 use Rattle.reader.proofs.operation.input_high.Statement.{statement}
 use Rattle.reader.proofs.operation.input_high.Tie as tie
 
@@ -26,9 +27,7 @@ pub input-high-spec : {M : Type 1} → statement M
 input-high-spec =
     tie.close
     (tie.spec
-    (λ c κs. search needs)
-    (λ c. search needs) (λ c. search needs)
-    (λ c κs. search needs)
+    (λ c κs. search needs) (λ c. search needs) (λ c. search needs) (λ c κs. search needs)
     returns
     returns-2
     returns-3)

@@ -2,7 +2,7 @@
 use mathlib.Core.Path.{sym, ap, _∙_}
 use borrow.Author.Needs.{needs}
 use Rattle.text.specs.Fields.{operand-res}
-use Rattle.reader.proofs.Judging.{then-fail, then-ok}
+use Rattle.text.proofs.Judged.{then-fail, then-ok}
 use Rattle.reader.proofs.operation.set.Statement.{statement}
 use Rattle.reader.proofs.operation.set.Tie as tie
 
@@ -18,7 +18,6 @@ pub set-spec : {M : Type 1} → statement M
 set-spec =
     tie.close
     (tie.spec
-    (λ c κs. search needs)
-    (λ c. search needs) (λ c. search needs)
+    (λ c κs. search needs) (λ c. search needs) (λ c. search needs)
     returns
     returns-2)

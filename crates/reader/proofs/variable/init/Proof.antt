@@ -2,7 +2,7 @@
 use mathlib.Core.Path.{sym, ap, _∙_}
 use borrow.Author.Needs.{needs}
 use Rattle.text.specs.Fields.{init-res}
-use Rattle.reader.proofs.Judging.{then-fail, then-ok}
+use Rattle.text.proofs.Judged.{then-fail, then-ok}
 use Rattle.reader.proofs.variable.init.Statement.{statement}
 use Rattle.reader.proofs.variable.init.Tie as tie
 

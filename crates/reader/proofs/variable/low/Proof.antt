@@ -3,7 +3,8 @@ use mathlib.Core.Path.{sym, ap, _∙_}
 use borrow.Author.Needs.{needs}
 use Rattle.semantics.specs.Reading.{number-field}
 use Rattle.text.specs.Fields.{word-res}
-use Rattle.reader.proofs.Judging.{then-fail, then-ok, said}
+use Rattle.text.proofs.Judged.{then-fail, then-ok}
+use Rattle.reader.proofs.Judging.{said}
 use Rattle.reader.proofs.variable.low.Statement.{statement}
 use Rattle.reader.proofs.variable.low.Tie as tie
 
@@ -21,10 +22,6 @@ pub low-spec : {M : Type 1} → statement M
 low-spec =
     tie.close
     (tie.spec
-    (λ c κs. search needs)
-    (λ c κs. search needs)
-    (λ c. search needs)
-    (λ c. search needs)
-    (λ c κs. search needs)
+    (λ c κs. search needs) (λ c κs. search needs) (λ c. search needs) (λ c. search needs) (λ c κs. search needs)
     returns
     returns-2)

@@ -14,7 +14,7 @@ use Rattle.semantics.specs.Text.{same-bytes}
 use Rattle.semantics.specs.Reading.{So-far, with-var}
 use Rattle.semantics.proofs.Encoded.{name-short}
 use Rattle.reader.specs.Answers.{var-of}
-use Rattle.reader.specs.Held.{Names}
+use Rattle.reader.specs.ReadSoFar.{Names}
 use Rattle.reader.proofs.Growing.{rows-var, names-more}
 use Rattle.reader.proofs.Naming.{new-variable}
 use Rattle.reader.proofs.Judging.{check-no, check-yes}
@@ -70,10 +70,7 @@ named-spec =
     (λ c. search needs)
     put-location-requires
     (λ c. search needs) (λ c. search needs) (λ c. search needs) (λ c. search needs)
-    (λ c. search needs) (λ c. search needs) (λ c. search needs)
-    (λ c κs. search needs)
-    (λ c. search needs)
+    (λ c. search needs) (λ c. search needs) (λ c. search needs) (λ c κs. search needs) (λ c. search needs)
     returns
-    (λ c κs. search needs) (λ c κs. search needs)
-    (λ c. search needs) (λ c. search needs) (λ c. search needs)
+    (λ c κs. search needs) (λ c κs. search needs) (λ c. search needs) (λ c. search needs) (λ c. search needs)
     returns-2)

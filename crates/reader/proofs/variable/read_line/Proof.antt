@@ -11,7 +11,7 @@ use Rattle.semantics.proofs.Accepted.{check-ok}
 use Rattle.reader.specs.Answers.{var-of, var-res}
 use Rattle.reader.specs.Lines.{var-judged}
 use Rattle.reader.proofs.Reading.{var-after-loc, var-after-edge, var-full, var-read}
-use Rattle.reader.proofs.Judging.{then-fail, then-ok}
+use Rattle.text.proofs.Judged.{then-fail, then-ok}
 use Rattle.reader.proofs.variable.read_line.Statement.{statement}
 use Rattle.reader.proofs.variable.read_line.Tie as tie
 
@@ -59,9 +59,7 @@ read-line-spec =
     returns
     returns-2
     returns-3
-    (λ c κs. search needs)
-    (λ c. search needs) (λ c. search needs)
-    (λ c κs. search needs)
+    (λ c κs. search needs) (λ c. search needs) (λ c. search needs) (λ c κs. search needs)
     named-requires
     returns-4
     (λ c. search needs) (λ c. search needs)

@@ -28,6 +28,13 @@ chart-rows c = each var-words (c .vars) ++ (each loc-words (c .locs) ++ each edg
 abbrev pub used-words : Tally → ℕ
 used-words t = rows-size (t .vars) (t .locs) (t .edges)
 
+-- the rows of the largest chart, and the rows of names
+abbrev pub most-rows : ℕ
+most-rows = rows-size 8 64 256
+
+abbrev pub most-names : ℕ
+most-names = location-size * 8
+
 -- no more than a chart has
 pub record Few (t : Tally) : Type 0 where
   pub vars : t .vars ≤ 8
