@@ -1,10 +1,5 @@
 -- The beginning of an analysis. Assumes nothing.
-use mathlib.Core.Path.{_≡_, sym, subst, _∙_}
-use mathlib.Core.List.{List, [], _∷_}
-use Prim.Native.Nat.{ℕ, _<_}
-use native.Mathlib.Omega.{arith}
-use lib.IntN.{ℤ}
-use lib.ListN.{length}
+use Rattle.semantics.proofs.Prelude.{_≡_, sym, subst, _∙_, List, [], _∷_, ℕ, _<_, arith, ℤ, length}
 use Rattle.semantics.specs.declared.Analysis.{Analysis}
 use Rattle.semantics.specs.Algorithm.{Exploration, first-verdict, start}
 use Rattle.semantics.specs.Tidy.{Allowed, Tidy}

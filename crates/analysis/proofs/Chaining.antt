@@ -1,14 +1,5 @@
 -- The chains of no edge, and one more edge at the head of its chain. Assumes nothing.
-use mathlib.Core.Path.{_≡_, refl, sym, ap, _∙_}
-use mathlib.Core.Bool.{Bool, true, false}
-use mathlib.Core.List.{List, [], _∷_}
-use Prim.Native.Nat.{ℕ, zero, suc, _+_, _-_, _≤_}
-use native.Mathlib.Omega.{arith}
-use borrow.Author.Tests.{eqb-true, eqb-false}
-use lib.Dec.{eqb}
-use lib.IntN.{ℤ}
-use lib.ListN.{getD, set, replicate}
-use lib.Seq.{getD-set-other}
+use Rattle.semantics.proofs.Prelude.{_≡_, refl, sym, ap, _∙_, Bool, true, false, List, [], _∷_, ℕ, zero, suc, _+_, _-_, _≤_, arith, eqb-true, eqb-false, eqb, ℤ, getD, set, replicate, getD-set-other}
 use Rattle.analysis.specs.Chains.{from-at, Passed, Chained}
 
 -- past the end a number is 0

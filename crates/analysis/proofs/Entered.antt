@@ -1,16 +1,7 @@
 -- At the entry of a run call: an analysis that passes form rule 21 is held in form by the capacity's words, and they
 -- say what `load` reads. Assumes nothing.
-use mathlib.Core.Path.{_≡_, refl, sym, ap, subst, _∙_}
-use mathlib.Core.Logic.{inl, inr}
-use mathlib.Core.Bool.{Bool, true, false, _||_, not}
-use mathlib.Core.List.{List, [], _∷_, _++_, map}
-use Prim.Native.Nat.{ℕ, _-_, _*_, _≤_, _<_}
-use native.Mathlib.Nat.{mul-le-mul-right}
-use native.Mathlib.Omega.{arith}
-use lib.Dec.{T, ltb, eqb, leb→le, ltb→lt, eqb→eq}
-use lib.IntN.{ℤ, pos, natAbs}
-use lib.ListN.{length, take, drop, replicate, take-append-drop, length-map, length-drop}
-use lib.Seq.{length-take-le, take-take}
+use Rattle.semantics.proofs.Prelude.{_≡_, refl, sym, ap, subst, _∙_, inl, inr, Bool, true, false, _||_, not, List, [], _∷_, _++_, map, ℕ, _-_, _*_, _≤_, _<_, mul-le-mul-right, arith, T, ltb, eqb, leb→le, ltb→lt, eqb→eq, ℤ, pos, natAbs, length, take, drop, replicate, take-append-drop, length-map, length-drop, length-take-le, take-take}
+use Rattle.semantics.specs.Layout.{most-iterations}
 use Rattle.semantics.specs.declared.Verdict.{Verdict}
 use Rattle.semantics.specs.declared.Verdict.the-variants.{Open, Safe, Alarm, Full}
 use Rattle.semantics.specs.Lists.{In, some-of, all}
@@ -33,8 +24,8 @@ use Rattle.transfer.proofs.Agree.{Says}
 use Rattle.transfer.proofs.Said.{rows-say}
 use Rattle.analysis.specs.Loaded.{Any, load-of, Resumable}
 
-pub iterations-few : (c : Chart) (m : Memory) → T (analysis-ok c m) → m .analysis .iterations ≤ 60000
-iterations-few c m t = leb→le (m .analysis .iterations) 60000 (form c m t .iterations)
+pub iterations-few : (c : Chart) (m : Memory) → T (analysis-ok c m) → m .analysis .iterations ≤ most-iterations
+iterations-few c m t = leb→le (m .analysis .iterations) most-iterations (form c m t .iterations)
 
 -- ---- words
 

@@ -1,13 +1,6 @@
 -- The merge of all slots as the rules say it; and after merge join, the test against the join of the slots is the
 -- test against one slot. Assumes nothing.
-use mathlib.Core.Path.{_≡_, refl, sym, ap, subst, _∙_}
-use mathlib.Core.Bool.{Bool, true, false, _&&_, _||_}
-use mathlib.Core.List.{List, [], _∷_, map}
-use Prim.Native.Nat.{ℕ, suc, _<_}
-use native.Mathlib.Omega.{arith}
-use lib.Dec.{T}
-use lib.IntN.{ℤ}
-use lib.ListN.{length}
+use Rattle.semantics.proofs.Prelude.{_≡_, refl, sym, ap, subst, _∙_, Bool, true, false, _&&_, _||_, List, [], _∷_, map, ℕ, suc, _<_, arith, T, ℤ, length}
 use Rattle.semantics.specs.declared.Mode.{Mode}
 use Rattle.semantics.specs.declared.Mode.the-variants.{Sep, Join}
 use Rattle.semantics.specs.Layout.{top-word}

@@ -1,12 +1,5 @@
 -- Edges that do not leave the location of the taken state are passed over: their play changes nothing. Assumes nothing.
-use mathlib.Core.Path.{_≡_, refl, sym, ap, _∙_}
-use mathlib.Core.Bool.{Bool, true, false}
-use mathlib.Core.List.{List}
-use Prim.Native.Nat.{ℕ, zero, suc, _+_, _-_, _≤_}
-use native.Mathlib.Omega.{arith}
-use borrow.Author.Tests.{ne-eqb, ltb-true, ltb-false}
-use lib.Dec.{ltb}
-use lib.IntN.{ℤ}
+use Rattle.semantics.proofs.Prelude.{_≡_, refl, sym, ap, _∙_, Bool, true, false, List, ℕ, zero, suc, _+_, _-_, _≤_, arith, ne-eqb, ltb-true, ltb-false, ltb, ℤ}
 use Rattle.semantics.specs.declared.Settings.{Settings}
 use Rattle.semantics.specs.Algorithm.{Step, halt, Out, then, visit, leave}
 use Rattle.state.specs.Rows.{location-in}

@@ -1,11 +1,6 @@
 -- The sizes that a well-formed chart's words give: what `run_core` and `start_core` ask of width and edges. Assumes
 -- nothing.
-use mathlib.Core.List.{List}
-use Prim.Native.Nat.{_≤_, _<_}
-use native.Mathlib.Omega.{arith}
-use lib.Dec.{T}
-use lib.IntN.{ℤ}
-use lib.ListN.{length}
+use Rattle.semantics.proofs.Prelude.{List, _≤_, _<_, arith, T, ℤ, length}
 use Rattle.semantics.specs.Layout.{index-limit}
 use Rattle.semantics.specs.Encoding.{decode, well-formed}
 use Rattle.semantics.specs.Memory.{width}

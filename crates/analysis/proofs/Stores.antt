@@ -1,14 +1,7 @@
 -- Record and words in form are exactly those of the exploration that they say, also as the semantics' own
 -- exploration: what `run_core` and `start_core` leave is what document 01's run and start put there. Assumes nothing.
-use mathlib.Core.Path.{_≡_, refl, sym, ap, subst, _∙_}
-use mathlib.Core.List.{List, [], _∷_, _++_, map}
-use Prim.Native.Nat.{ℕ, zero, suc, _+_, _-_, _*_, _≤_, min}
-use native.Mathlib.Nat.{suc-mul, add-comm}
-use native.Mathlib.Omega.{arith}
-use lib.Dec.{T}
-use lib.IntN.{ℤ, pos}
-use lib.ListN.{length, take, drop, replicate, take-append-drop, length-map}
-use lib.Seq.{take-add, length-take-le}
+use Rattle.semantics.proofs.Prelude.{_≡_, refl, sym, ap, subst, _∙_, List, [], _∷_, _++_, map, ℕ, zero, suc, _+_, _-_, _*_, _≤_, min, suc-mul, add-comm, arith, T, ℤ, pos, length, take, drop, replicate, take-append-drop, length-map, take-add, length-take-le}
+use Rattle.semantics.specs.Layout.{most-iterations}
 use Rattle.semantics.specs.declared.Analysis.{Analysis}
 use Rattle.semantics.specs.declared.Settings.{Settings}
 use Rattle.semantics.specs.Lists.{each}
@@ -142,7 +135,7 @@ module _ (c : Chart) (y : Layout) (o : LayoutOf c y) (m : Memory) (r : Analysis)
 module _ (ws : List ℤ) (ok : T (well-formed ws)) (y : Layout) (o : LayoutOf (decode ws) y) (m : Memory) (r : Analysis) (t l : List ℤ) where
   -- a run with a budget, from the capacity's words of an analysis in form
   pub run-leaves : m .analysis .capacity * width (decode ws) ≤ length (m .table) → m .analysis .capacity ≤ length (m .waitlist) → T (analysis-ok (decode ws) m) → (budget : ℕ)
-      → Loaded y (length (decode ws .edges)) r t l (run (domain-of ws) (edges-from 0 (length (decode ws .edges))) (min budget (60000 - m .analysis .iterations))
+      → Loaded y (length (decode ws .edges)) r t l (run (domain-of ws) (edges-from 0 (length (decode ws .edges))) (min budget (most-iterations - m .analysis .iterations))
       (load-of y (m .analysis) (take (m .analysis .capacity * y .stride) (m .table)) (take (m .analysis .capacity) (m .waitlist))))
       → put-in (decode ws) (resumed (decode ws) (pos budget) (load (decode ws) m)) m
       ≡ record { table = t ++ drop (m .analysis .capacity * y .stride) (m .table); waitlist = l ++ drop (m .analysis .capacity) (m .waitlist); analysis = r }
@@ -150,7 +143,7 @@ module _ (ws : List ℤ) (ok : T (well-formed ws)) (y : Layout) (o : LayoutOf (d
   run-leaves lt ll form budget h =
       let c = decode ws in
       let v = load c m in
-      let n = min budget (60000 - m .analysis .iterations) in
+      let n = min budget (most-iterations - m .analysis .iterations) in
       let x = load-of y (m .analysis) (take (m .analysis .capacity * y .stride) (m .table)) (take (m .analysis .capacity) (m .waitlist)) in
       let z = edges-say c (well-formed-split ws ok .1) in
       put-is c y o m r t l (resumed c (pos budget) v) (run-stores ws ok y o (length (c .edges)) r t l x v (entry-says c y o m lt ll form) (edges-from 0 (length (c .edges))) z n h)

@@ -12,7 +12,7 @@ use transfer::Move;
 ghost use mathlib.Core.Path.{_≡_};
 ghost use Prim.Native.Nat.{ℕ, _+_, _-_, _*_, _<_, _≤_, min};
 ghost use lib.ListN.{length};
-ghost use Rattle.semantics.specs.Layout.{index-limit};
+ghost use Rattle.semantics.specs.Layout.{most-iterations, index-limit};
 ghost use Rattle.semantics.specs.Algorithm.{arrive, visit, leave, first-verdict, iteration, run, start};
 ghost use Rattle.semantics.specs.Tidy.{Allowed};
 ghost use Rattle.state.specs.Rows.{width-of, most-width, rows-of};
@@ -215,7 +215,7 @@ fn verdict_of(waiting: usize) -> Verdict
 
 // The record after one iteration more.
 fn ended(a: Analysis, used: usize, waiting: usize, verdict: Verdict, edge: EdgeId) -> Analysis
-    requires { ⌜ a .iterations < 60000 ⌝ }
+    requires { ⌜ a .iterations < most-iterations ⌝ }
     ensures { λ r. ⌜ r ≡ ended a used waiting verdict edge ⌝ }
 {
     let settings = a.settings;
@@ -232,7 +232,7 @@ fn ended(a: Analysis, used: usize, waiting: usize, verdict: Verdict, edge: EdgeI
 
 // The end of an iteration that took the slot.
 fn finish(a: Analysis, slot: SlotId, p: Progress, list: &mut [i32]) -> Analysis
-    requires { ⌜ Admits (now list) (p .waiting) (slot .0) × (a .iterations < 60000) ⌝ }
+    requires { ⌜ Admits (now list) (p .waiting) (slot .0) × (a .iterations < most-iterations) ⌝ }
     ensures { λ r. ⌜ Finished a (slot .0) p (now (list .entry)) r (now (list .exit)) ⌝ }
 {
     let settings = a.settings;
@@ -263,7 +263,7 @@ fn iteration_with(
     table: &mut [i32],
     list: &mut [i32],
 ) -> Analysis
-    requires { ⌜ Resumable (outline .layout) (outline .edges) a (now table) (now list) × (a .iterations < 60000) × (0 < a .waiting) × (length (now copy) ≡ width-of (outline .layout)) × Outlined (now chart) outline (now heads) (now nexts) ⌝ }
+    requires { ⌜ Resumable (outline .layout) (outline .edges) a (now table) (now list) × (a .iterations < most-iterations) × (0 < a .waiting) × (length (now copy) ≡ width-of (outline .layout)) × Outlined (now chart) outline (now heads) (now nexts) ⌝ }
     ensures { λ r. ⌜ Loaded (outline .layout) (outline .edges) r (now (table .exit)) (now (list .exit)) (iteration (domain-of (now (chart .entry))) (edges-from 0 (outline .edges)) (load-of (outline .layout) a (now (table .entry)) (now (list .entry)))) × (r .iterations ≡ a .iterations + 1) ⌝ }
 {
     let layout = outline.layout;
@@ -286,7 +286,7 @@ fn iteration(
     table: &mut [i32],
     list: &mut [i32],
 ) -> Analysis
-    requires { ⌜ Resumable (outline .layout) (outline .edges) a (now table) (now list) × (a .iterations < 60000) × (0 < a .waiting) × Outlined (now chart) outline (now heads) (now nexts) ⌝ }
+    requires { ⌜ Resumable (outline .layout) (outline .edges) a (now table) (now list) × (a .iterations < most-iterations) × (0 < a .waiting) × Outlined (now chart) outline (now heads) (now nexts) ⌝ }
     ensures { λ r. ⌜ Loaded (outline .layout) (outline .edges) r (now (table .exit)) (now (list .exit)) (iteration (domain-of (now (chart .entry))) (edges-from 0 (outline .edges)) (load-of (outline .layout) a (now (table .entry)) (now (list .entry)))) × (r .iterations ≡ a .iterations + 1) ⌝ }
 {
     let layout = outline.layout;
@@ -306,8 +306,8 @@ fn iteration(
 
 // How many iterations the budget allows after so many.
 fn iterations_allowed(budget: u32, iterations: u32) -> u32
-    requires { ⌜ iterations ≤ 60000 ⌝ }
-    ensures { λ r. ⌜ r ≡ min budget (60000 - iterations) ⌝ }
+    requires { ⌜ iterations ≤ most-iterations ⌝ }
+    ensures { λ r. ⌜ r ≡ min budget (most-iterations - iterations) ⌝ }
 {
     let most = semantics::MOST_ITERATIONS - iterations;
     if budget < most {
@@ -327,7 +327,7 @@ fn play(
     table: &mut [i32],
     list: &mut [i32],
 ) -> Analysis
-    requires { ⌜ Resumable (outline .layout) (outline .edges) a (now table) (now list) × (a .iterations + most ≤ 60000) × Outlined (now chart) outline (now heads) (now nexts) ⌝ }
+    requires { ⌜ Resumable (outline .layout) (outline .edges) a (now table) (now list) × (a .iterations + most ≤ most-iterations) × Outlined (now chart) outline (now heads) (now nexts) ⌝ }
     ensures { λ r. ⌜ Loaded (outline .layout) (outline .edges) r (now (table .exit)) (now (list .exit)) (run (domain-of (now (chart .entry))) (edges-from 0 (outline .edges)) most (load-of (outline .layout) a (now (table .entry)) (now (list .entry)))) ⌝ }
 {
     let mut rest = most;
@@ -353,8 +353,8 @@ pub fn run_core(
     table: &mut [i32],
     list: &mut [i32],
 ) -> Analysis
-    requires { ⌜ Resumable layout edges a (now table) (now list) × (a .iterations ≤ 60000) × (width-of layout ≤ most-width) × (edge-at (now chart) edges < index-limit) ⌝ }
-    ensures { λ r. ⌜ Loaded layout edges r (now (table .exit)) (now (list .exit)) (run (domain-of (now (chart .entry))) (edges-from 0 edges) (min budget (60000 - a .iterations)) (load-of layout a (now (table .entry)) (now (list .entry)))) ⌝ }
+    requires { ⌜ Resumable layout edges a (now table) (now list) × (a .iterations ≤ most-iterations) × (width-of layout ≤ most-width) × (edge-at (now chart) edges < index-limit) ⌝ }
+    ensures { λ r. ⌜ Loaded layout edges r (now (table .exit)) (now (list .exit)) (run (domain-of (now (chart .entry))) (edges-from 0 edges) (min budget (most-iterations - a .iterations)) (load-of layout a (now (table .entry)) (now (list .entry)))) ⌝ }
 {
     let first = chart::first_edge(chart);
     let outline = Outline {

@@ -1,15 +1,6 @@
 -- The name of a location, as its words have it, and that its numbers are bytes where the words are in form.
 -- Assumes nothing.
-use mathlib.Core.Path.{_≡_, refl, ap, _∙_}
-use mathlib.Core.Bool.{Bool, true, false, _||_}
-use mathlib.Core.List.{List, [], _∷_, map}
-use Prim.Native.Nat.{ℕ, zero, suc, _+_, _*_, _≤_, _<_}
-use native.Mathlib.Omega.{arith}
-use borrow.Author.Tests.{lt-ltb}
-use lib.Dec.{T, leb, eqb, leb→le, eqb→eq}
-use lib.IntN.{ℤ, pos, natAbs}
-use lib.ListN.{length, getD, take, drop}
-use lib.Seq.{drop-drop}
+use Rattle.semantics.proofs.Prelude.{_≡_, refl, ap, _∙_, Bool, true, false, _||_, List, [], _∷_, map, ℕ, zero, suc, _+_, _*_, _≤_, _<_, arith, lt-ltb, T, leb, eqb, leb→le, eqb→eq, ℤ, pos, natAbs, length, getD, take, drop, drop-drop}
 use Rattle.semantics.specs.Layout.{counts-size, variable-size, name-size, location-size, name-place}
 use Rattle.semantics.specs.Lists.{all, pick}
 use Rattle.semantics.specs.Text.{between, name-byte, name-ok}

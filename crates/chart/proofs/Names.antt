@@ -1,15 +1,5 @@
 -- The name in a location's words, byte by byte: the turns of the loops over it. Assumes nothing.
-use mathlib.Core.Path.{_≡_, refl, sym, ap, _∙_}
-use mathlib.Core.Bool.{Bool, true, false, _&&_, not}
-use mathlib.Core.List.{List, [], _∷_}
-use Prim.Native.Nat.{ℕ, zero, suc, _+_, _-_, _<_}
-use native.Mathlib.Omega.{arith}
-use native.Mathlib.Numerals.{add-one}
-use borrow.Author.Tests.{eq-eqb, ne-eqb, eqb-true}
-use lib.Dec.{eqb, eqb·suc-zero}
-use lib.IntN.{ℤ, pos, negsuc, natAbs}
-use lib.ListN.{length, drop}
-use lib.Seq.{drop-nil, drop-cons, drop-drop}
+use Rattle.semantics.proofs.Prelude.{_≡_, refl, sym, ap, _∙_, Bool, true, false, _&&_, not, List, [], _∷_, ℕ, zero, suc, _+_, _-_, _<_, arith, add-one, eq-eqb, ne-eqb, eqb-true, eqb, eqb·suc-zero, ℤ, pos, negsuc, natAbs, length, drop, drop-nil, drop-cons, drop-drop}
 use Rattle.semantics.specs.Layout.{name-size, location-size}
 use Rattle.semantics.specs.Lists.{all, pick}
 use Rattle.semantics.specs.Text.{same-bytes}

@@ -1,14 +1,5 @@
 -- The start, the turn and the end of a loop over rows. Assumes nothing.
-use mathlib.Core.Path.{_≡_, sym, ap, _∙_}
-use mathlib.Core.Bool.{Bool, true, _&&_}
-use mathlib.Core.List.{List}
-use Prim.Native.Nat.{ℕ, suc, _+_, _-_, _*_, _≤_, _<_}
-use native.Mathlib.Nat.{sub-zero, mul-zero, mul-suc}
-use native.Mathlib.Numerals.{add-one}
-use native.Mathlib.Omega.{arith}
-use lib.IntN.{ℤ}
-use lib.ListN.{length, take, drop}
-use lib.Seq.{drop-drop}
+use Rattle.semantics.proofs.Prelude.{_≡_, sym, ap, _∙_, Bool, true, _&&_, List, ℕ, suc, _+_, _-_, _*_, _≤_, _<_, sub-zero, mul-zero, mul-suc, add-one, arith, ℤ, length, take, drop, drop-drop}
 use Rattle.semantics.specs.Lists.{all}
 use Rattle.semantics.specs.Encoding.{several}
 use Rattle.semantics.proofs.Values.{and-true, and-assoc}

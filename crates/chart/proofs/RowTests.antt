@@ -1,22 +1,11 @@
 -- One row: the test of its words is that it is what its decoding encodes to, and that this is what reading can produce.
 -- Assumes nothing.
-use mathlib.Core.Path.{_≡_, refl, sym, ap, _∙_}
-use mathlib.Core.Bool.{Bool, true, false, _&&_, _||_}
-use mathlib.Core.List.{List, [], _∷_, _++_, map}
-use Prim.Native.Nat.{ℕ, zero, suc, _-_, _≤_, _<_}
-use native.Mathlib.Nat.{sub-zero, suc-sub-suc}
-use native.Mathlib.Numerals.{add-one}
-use native.Mathlib.Omega.{arith}
-use borrow.Author.Tests.{le-leb, ne-eqb, lt-leb}
-use lib.Dec.{T, leb, ltb, ltb→lt}
-use lib.IntN.{ℤ, pos, negsuc, natAbs}
-use lib.ListN.{length, take, drop, replicate, length-map}
-use lib.Signed.{nonNeg, leZ}
+use Rattle.semantics.proofs.Prelude.{_≡_, refl, sym, ap, _∙_, Bool, true, false, _&&_, _||_, List, [], _∷_, _++_, map, ℕ, zero, suc, _-_, _≤_, _<_, sub-zero, suc-sub-suc, add-one, arith, le-leb, ne-eqb, lt-leb, T, leb, ltb, ltb→lt, ℤ, pos, negsuc, natAbs, length, take, drop, replicate, length-map, nonNeg, leZ}
 use Rattle.semantics.specs.Layout.{variable-size, name-size, location-size, edge-size}
 use Rattle.semantics.specs.Lists.{pick, all}
 use Rattle.semantics.specs.Text.{name-byte, name-ok}
 use Rattle.semantics.specs.Chart.{Var, Chart, eqZ, small, in-range, Operand, Op, assign, add, sub, input, assume, skip, num, var}
-use Rattle.semantics.specs.Encoding.{kind-word, var-words, loc-words, tag, held, op-words, edge-words, var-in, name-in, loc-in, operand, op-of, edge-in, operand-ok, op-ok, edge-ok, begins-with}
+use Rattle.semantics.specs.Encoding.{kind-word, var-words, loc-words, tag, operand-word, op-words, edge-words, var-in, name-in, loc-in, operand, op-of, edge-in, operand-ok, op-ok, edge-ok, begins-with}
 use Rattle.semantics.specs.Memory.{below, zeros}
 use Rattle.semantics.proofs.Values.{and-left, and-right, and-true, and-assoc}
 use Rattle.semantics.proofs.Reloaded.{word-back}
@@ -133,10 +122,10 @@ not-first skip m ws = refl
 
 -- vars are the variables, and vw their words; t is the target, and a, x, b, y are the operands' words
 module _ (vars : List Var) (vw : List ℤ) (in-words : (k : ℕ) (z : ℤ) → k < length vars → in-range vars k z ≡ ranged vw k z) where
-  operand-row : (a x : ℤ) → eqZ (tag (operand a x)) a && eqZ (held (operand a x)) x && operand-ok vars (operand a x) ≡ operand-fine (length vars) a x
+  operand-row : (a x : ℤ) → eqZ (tag (operand a x)) a && eqZ (operand-word (operand a x)) x && operand-ok vars (operand a x) ≡ operand-fine (length vars) a x
   unfolding operand-fine
   operand-row a x = go (eqZ a (pos 0)) refl where
-    go : (u : Bool) → eqZ a (pos 0) ≡ u → eqZ (tag (pick u (num x) (var (natAbs x)))) a && eqZ (held (pick u (num x) (var (natAbs x)))) x && operand-ok vars (pick u (num x) (var (natAbs x))) ≡ pick u (small x) (eqZ a (pos 1) && below (length vars) x)
+    go : (u : Bool) → eqZ a (pos 0) ≡ u → eqZ (tag (pick u (num x) (var (natAbs x)))) a && eqZ (operand-word (pick u (num x) (var (natAbs x)))) x && operand-ok vars (pick u (num x) (var (natAbs x))) ≡ pick u (small x) (eqZ a (pos 1) && below (length vars) x)
     go true e = rw (eqZ-sym (pos 0) a, e, eqZ-refl x)
     go false e = rw (eqZ-sym (pos 1) a, said x) (sym (and-assoc (eqZ a (pos 1)) (nonNeg x) (ltb (natAbs x) (length vars))))
 
@@ -147,16 +136,16 @@ module _ (vars : List Var) (vw : List ℤ) (in-words : (k : ℕ) (z : ℤ) → k
     abbrev B : Operand
     B = operand b y
 
-    one-row : (eqZ (pos (natAbs t)) t && (eqZ (tag A) a && (eqZ (held A) x && (eqZ (pos 0) b && (eqZ (pos 0) y && true))))) && (ltb (natAbs t) (length vars) && operand-ok vars A)
+    one-row : (eqZ (pos (natAbs t)) t && (eqZ (tag A) a && (eqZ (operand-word A) x && (eqZ (pos 0) b && (eqZ (pos 0) y && true))))) && (ltb (natAbs t) (length vars) && operand-ok vars A)
         ≡ below (length vars) t && (operand-fine (length vars) a x && eqZ b (pos 0) && eqZ y (pos 0))
     one-row =
-        shuffle-one (eqZ (pos (natAbs t)) t) (eqZ (tag A) a) (eqZ (held A) x) (eqZ (pos 0) b) (eqZ (pos 0) y) (ltb (natAbs t) (length vars)) (operand-ok vars A)
+        shuffle-one (eqZ (pos (natAbs t)) t) (eqZ (tag A) a) (eqZ (operand-word A) x) (eqZ (pos 0) b) (eqZ (pos 0) y) (ltb (natAbs t) (length vars)) (operand-ok vars A)
         ∙ rw (said t, operand-row a x, eqZ-sym (pos 0) b, eqZ-sym (pos 0) y)
 
-    two-row : (eqZ (pos (natAbs t)) t && (eqZ (tag A) a && (eqZ (held A) x && (eqZ (tag B) b && (eqZ (held B) y && true))))) && (ltb (natAbs t) (length vars) && operand-ok vars A && operand-ok vars B)
+    two-row : (eqZ (pos (natAbs t)) t && (eqZ (tag A) a && (eqZ (operand-word A) x && (eqZ (tag B) b && (eqZ (operand-word B) y && true))))) && (ltb (natAbs t) (length vars) && operand-ok vars A && operand-ok vars B)
         ≡ below (length vars) t && (operand-fine (length vars) a x && operand-fine (length vars) b y)
     two-row =
-        shuffle-two (eqZ (pos (natAbs t)) t) (eqZ (tag A) a) (eqZ (held A) x) (eqZ (tag B) b) (eqZ (held B) y) (ltb (natAbs t) (length vars)) (operand-ok vars A) (operand-ok vars B)
+        shuffle-two (eqZ (pos (natAbs t)) t) (eqZ (tag A) a) (eqZ (operand-word A) x) (eqZ (tag B) b) (eqZ (operand-word B) y) (ltb (natAbs t) (length vars)) (operand-ok vars A) (operand-ok vars B)
         ∙ rw (said t, operand-row a x, operand-row b y)
 
     input-row : (eqZ (pos (natAbs t)) t && (eqZ (pos 0) a && (eqZ x x && (eqZ (pos 0) b && (eqZ y y && true))))) && op-ok vars (input (natAbs t) x y)

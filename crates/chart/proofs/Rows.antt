@@ -1,15 +1,6 @@
 -- The words begin with the encoding of what they decode to: row by row, each row with the words after it.
 -- Assumes nothing.
-use mathlib.Core.Path.{_≡_, refl, sym, ap, _∙_}
-use mathlib.Core.Bool.{Bool, true, false, _&&_}
-use mathlib.Core.List.{List, [], _∷_, _++_, append-assoc}
-use Prim.Native.Nat.{ℕ, zero, suc, _+_, _*_, _≤_}
-use native.Mathlib.Nat.{mul-zero, mul-suc}
-use native.Mathlib.Omega.{arith}
-use lib.Dec.{T}
-use lib.IntN.{ℤ}
-use lib.ListN.{length, drop, length-drop, length-append}
-use lib.Seq.{drop-drop}
+use Rattle.semantics.proofs.Prelude.{_≡_, refl, sym, ap, _∙_, Bool, true, false, _&&_, List, [], _∷_, _++_, append-assoc, ℕ, zero, suc, _+_, _*_, _≤_, mul-zero, mul-suc, arith, T, ℤ, length, drop, length-drop, length-append, drop-drop}
 use Rattle.semantics.specs.Lists.{all, each}
 use Rattle.semantics.specs.Chart.{eqZ}
 use Rattle.semantics.specs.Encoding.{several, past, begins-with}

@@ -1,12 +1,5 @@
 -- What is left where a row was stored, and a name's bytes stored one by one. Assumes nothing.
-use mathlib.Core.Path.{_≡_, refl, sym, _∙_}
-use mathlib.Core.List.{List, _++_, append-assoc, map}
-use Prim.Native.Nat.{ℕ, zero, suc, _+_, _-_, _≤_, _<_}
-use native.Mathlib.Nat.{sub-zero, zero-sub, suc-sub-suc}
-use native.Mathlib.Numerals.{add-one}
-use lib.ListN.{length, getD, take, drop, set, replicate, length-append, length-map}
-use lib.IntN.{ℤ, pos}
-use lib.Seq.{drop-cons, drop-drop, take-suc-set, append-snoc}
+use Rattle.semantics.proofs.Prelude.{_≡_, refl, sym, _∙_, List, _++_, append-assoc, map, ℕ, zero, suc, _+_, _-_, _≤_, _<_, sub-zero, zero-sub, suc-sub-suc, add-one, length, getD, take, drop, set, replicate, length-append, length-map, ℤ, pos, drop-cons, drop-drop, take-suc-set, append-snoc}
 use Rattle.semantics.specs.Encoding.{padded}
 use Rattle.words.proofs.Rows.{take-put, drop-put}
 use Rattle.chart.specs.Rows.{stored}

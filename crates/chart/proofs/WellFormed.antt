@@ -1,15 +1,5 @@
 -- The tests of the words are the form check: counts first, then room for all rows, then the rows. Assumes nothing.
-use mathlib.Core.Path.{_≡_, refl, sym, ap, _∙_}
-use mathlib.Core.Bool.{Bool, true, false, _&&_}
-use mathlib.Core.List.{List, [], _∷_, _++_, map, append-nil}
-use Prim.Native.Nat.{ℕ, zero, suc, _+_, _*_, _≤_, _<_}
-use native.Mathlib.Omega.{arith}
-use borrow.Author.Tests.{leb-true, leb-false}
-use lib.Dec.{T, leb}
-use lib.IntN.{ℤ, pos}
-use lib.ListN.{length, drop, length-append, length-map, length-drop}
-use lib.Seq.{drop-drop, getD-drop}
-use lib.Signed.{nonNeg}
+use Rattle.semantics.proofs.Prelude.{_≡_, refl, sym, ap, _∙_, Bool, true, false, _&&_, List, [], _∷_, _++_, map, append-nil, ℕ, zero, suc, _+_, _*_, _≤_, _<_, arith, leb-true, leb-false, T, leb, ℤ, pos, length, drop, length-append, length-map, length-drop, drop-drop, getD-drop, nonNeg}
 use Rattle.semantics.specs.Layout.{counts-size, variable-size, name-size, location-size, edge-size, high-place}
 use Rattle.semantics.specs.Lists.{all, each}
 use Rattle.semantics.specs.Text.{name-ok}

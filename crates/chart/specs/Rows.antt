@@ -6,7 +6,7 @@ use lib.ListN.{length, take, drop}
 use lib.IntN.{ℤ, pos}
 use Rattle.semantics.specs.Layout.{variable-size, location-size, edge-size, add-code, sub-code}
 use Rattle.semantics.specs.Chart.{Var, Loc, Edge}
-use Rattle.semantics.specs.Encoding.{val, tag, held}
+use Rattle.semantics.specs.Encoding.{val, tag, operand-word}
 use Rattle.semantics.specs.Operations.{the-operand, the-operation}
 use Rattle.semantics.specs.declared.Arithmetic.{Arithmetic}
 use Rattle.semantics.specs.declared.Arithmetic.the-variants as arithmetic
@@ -43,4 +43,4 @@ abbrev pub split-words : Split → List ℤ
 split-words o =
     let a = the-operand (o .first) in
     let b = the-operand (o .second) in
-    pos (o .code) ∷ pos (o .target) ∷ tag a ∷ held a ∷ tag b ∷ held b ∷ []
+    pos (o .code) ∷ pos (o .target) ∷ tag a ∷ operand-word a ∷ tag b ∷ operand-word b ∷ []

@@ -19,7 +19,7 @@ ghost use Rattle.semantics.specs.Lists.{all};
 ghost use Rattle.semantics.specs.Text.{same-bytes};
 ghost use Rattle.semantics.specs.Chart.{eqZ, small};
 ghost use Rattle.semantics.specs.Layout.{counts-size, variable-size, name-size, location-size, edge-size, variable-at, high-place, init-place, to-place, operation-place, target-place, first-tag-place, first-value-place, second-tag-place, second-value-place, ge-code, index-limit};
-ghost use Rattle.semantics.specs.Encoding.{word-at, count, val, kind-word, rel-code, tag, held, var-words, loc-words, op-words, edge-words, init-ok, var-in, var-ok, loc-in, several, distinct-names, decode, well-formed};
+ghost use Rattle.semantics.specs.Encoding.{word-at, count, val, kind-word, rel-code, tag, operand-word, var-words, loc-words, op-words, edge-words, init-ok, var-in, var-ok, loc-in, several, distinct-names, decode, well-formed};
 ghost use Rattle.semantics.specs.Operations.{the-operand, the-relation, the-operation};
 ghost use Rattle.semantics.specs.Listing.{loc-text};
 ghost use Rattle.chart.specs.Encoded.{rows, at-most, name-word, counts-fine, locations-at, edges-at, location-fine, operand-fine, ranged, two-fine, one-fine, input-fine, operands-fine, operation-fine, edge-fine, rows-fine, byte-of};
@@ -506,7 +506,7 @@ struct OperandWords {
 }
 
 fn operand_words(a: Operand) -> OperandWords
-    ensures { λ r. ⌜ (r .tag ≡ tag (the-operand a)) × (r .value ≡ held (the-operand a)) ⌝ }
+    ensures { λ r. ⌜ (r .tag ≡ tag (the-operand a)) × (r .value ≡ operand-word (the-operand a)) ⌝ }
 {
     match a {
         Operand::Number(z) => OperandWords {

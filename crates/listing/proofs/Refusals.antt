@@ -1,10 +1,5 @@
 -- What a listing that nothing refuses may rely on, and what a listing leaves. Assumes nothing.
-use mathlib.Core.Path.{_≡_, sym}
-use mathlib.Core.List.{List, _++_}
-use Prim.Native.Nat.{ℕ, _≤_}
-use borrow.Author.Tests.{ltb-false}
-use lib.IntN.{ℤ}
-use lib.ListN.{length, drop}
+use Rattle.semantics.proofs.Prelude.{_≡_, sym, List, _++_, ℕ, _≤_, ltb-false, ℤ, length, drop}
 use Rattle.semantics.specs.Encoding.{decode}
 use Rattle.semantics.specs.Memory.{Memory}
 use Rattle.semantics.specs.Outcomes.{Case, refusal, Outcome, fine, refused-by, form-of, text-of, listing-cases, listing-outcome}

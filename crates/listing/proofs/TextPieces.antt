@@ -1,15 +1,5 @@
 -- The listing's text piece by piece: lines as their fields, and what one turn of each loop adds. Assumes nothing.
-use mathlib.Core.Path.{_≡_, refl, sym, ap, subst, _∙_}
-use mathlib.Core.Bool.{Bool, true, false, _||_, or-true, or-false}
-use mathlib.Core.List.{List, [], _∷_, _++_, map, append-assoc}
-use Prim.Native.Nat.{ℕ, zero, suc, _+_, _-_, _≤_, _<_}
-use native.Mathlib.Numerals.{add-one}
-use native.Mathlib.Omega.{arith}
-use borrow.Author.Tests.{eqb-true, eqb-false}
-use lib.Dec.{T, eqb, leb→le}
-use lib.IntN.{ℤ, pos, natAbs}
-use lib.ListN.{length, getD, set, take, drop, replicate, getD-replicate, length-set, length-replicate}
-use lib.Seq.{drop-cons, drop-drop, getD-set-same, getD-set-other}
+use Rattle.semantics.proofs.Prelude.{_≡_, refl, sym, ap, subst, _∙_, Bool, true, false, _||_, or-true, or-false, List, [], _∷_, _++_, map, append-assoc, ℕ, zero, suc, _+_, _-_, _≤_, _<_, add-one, arith, eqb-true, eqb-false, T, eqb, leb→le, ℤ, pos, natAbs, length, getD, set, take, drop, replicate, getD-replicate, length-set, length-replicate, drop-cons, drop-drop, getD-set-same, getD-set-other}
 use Rattle.semantics.specs.Lists.{some-of, each}
 use Rattle.semantics.specs.Text.{bytes, decimal, line-of}
 use Rattle.semantics.specs.Chart.{Chart}

@@ -1,14 +1,6 @@
 -- What reading answers, into 3,163 words: its refusal, or the words of the chart that it accepted; a text put at the
 -- front of bytes that hold it; and the output by the go line. Assumes nothing.
-use mathlib.Core.Path.{_≡_, refl, sym, ap, _∙_}
-use mathlib.Core.List.{List, _++_}
-use Prim.Native.Nat.{ℕ, _-_, _≤_}
-use native.Mathlib.Nat.{zero-add}
-use native.Mathlib.Omega.{arith}
-use lib.Dec.{T, leb, leb→le}
-use lib.IntN.{ℤ}
-use lib.ListN.{length, take, drop, length-drop}
-use lib.Seq.{take-all}
+use Rattle.semantics.proofs.Prelude.{_≡_, refl, sym, ap, _∙_, List, _++_, ℕ, _-_, _≤_, zero-add, arith, T, leb, leb→le, ℤ, length, take, drop, length-drop, take-all}
 use Rattle.semantics.specs.Listing.{refused-text}
 use Rattle.semantics.specs.Program.{go-line, past-line, print-read, output}
 use Rattle.semantics.specs.Reading.{fail, Reading, refused, accepted, read}

@@ -1,12 +1,5 @@
 -- The sizes of capacity and budget are judged alike of a number and of the number cut at 100,000. Assumes nothing.
-use mathlib.Core.Path.{_≡_, refl, ap, _∙_}
-use mathlib.Core.Bool.{Bool, true, false, _&&_}
-use mathlib.Core.Option.{Option, none, some}
-use Prim.Native.Nat.{ℕ, _<_, min}
-use native.Mathlib.Omega.{arith}
-use lib.Dec.{leb}
-use lib.IntN.{ℤ, pos, negsuc}
-use borrow.Author.Tests.{leb-true, leb-false, lt-leb}
+use Rattle.semantics.proofs.Prelude.{_≡_, refl, ap, _∙_, Bool, true, false, _&&_, Option, none, some, ℕ, _<_, min, arith, leb, ℤ, pos, negsuc, leb-true, leb-false, lt-leb}
 use Rattle.semantics.specs.Layout.{most-slots, most-iterations}
 use Rattle.semantics.specs.Chart.{within}
 use Rattle.semantics.specs.Reading.{Res, ok, check, if-ok}

@@ -1,11 +1,6 @@
 -- What a buffer of 32,833 bytes holds of an input is as much of it as matters. Assumes nothing.
-use mathlib.Core.Path.{_≡_, refl, sym, ap, _∙_}
-use mathlib.Core.List.{List, [], _++_, append-nil}
-use Prim.Native.Nat.{ℕ, _≤_, _<_, min}
+use Rattle.semantics.proofs.Prelude.{_≡_, refl, sym, ap, _∙_, List, [], _++_, append-nil, ℕ, _≤_, _<_, min, arith, length, take, length-append, take-all, take-append-le}
 use native.Mathlib.Decide.{decLt}
-use native.Mathlib.Omega.{arith}
-use lib.ListN.{length, take, length-append}
-use lib.Seq.{take-all, take-append-le}
 use Rattle.semantics.specs.Program.{output}
 use Rattle.semantics.proofs.Input.{cut-same}
 use Rattle.program.specs.Responded.{Buffered, Printed}

@@ -1,11 +1,5 @@
 -- The start, the run and the listing go through, and the memory is what was explored. Assumes nothing.
-use mathlib.Core.Path.{_≡_, sym, ap, _∙_}
-use mathlib.Core.Bool.{true, false}
-use mathlib.Core.List.{List}
-use Prim.Native.Nat.{ℕ}
-use lib.Dec.{T}
-use lib.IntN.{ℤ, natAbs}
-use lib.ListN.{length}
+use Rattle.semantics.proofs.Prelude.{_≡_, sym, ap, _∙_, true, false, List, ℕ, T, ℤ, natAbs, length}
 use Rattle.semantics.specs.Layout.{most-slots}
 use Rattle.semantics.specs.Chart.{Chart}
 use Rattle.semantics.specs.Algorithm.{Exploration, has-verdict}

@@ -1,7 +1,5 @@
 -- One field was read: what the definition says of it. Assumes nothing.
-use mathlib.Core.Path.{_≡_, sym, ap, _∙_}
-use mathlib.Core.List.{List}
-use Prim.Native.Nat.{ℕ}
+use Rattle.semantics.proofs.Prelude.{_≡_, sym, ap, _∙_, List, ℕ}
 use Rattle.semantics.specs.Reading.{Res}
 
 -- the field f is g, the answer r says what reading f says, and r is x

@@ -1,11 +1,5 @@
 -- The form of table and waitlist is kept. Assumes nothing.
-use mathlib.Core.Path.{_≡_, refl, _∙_}
-use mathlib.Core.List.{List, [], _∷_, _++_}
-use Prim.Native.Nat.{ℕ, _+_, _-_, _*_, _≤_, _<_}
-use native.Mathlib.Nat.{mul-le-mul-right}
-use native.Mathlib.Omega.{arith}
-use lib.IntN.{ℤ, pos}
-use lib.ListN.{length, drop, replicate}
+use Rattle.semantics.proofs.Prelude.{_≡_, refl, _∙_, List, [], _∷_, _++_, ℕ, _+_, _-_, _*_, _≤_, _<_, mul-le-mul-right, arith, ℤ, pos, length, drop, replicate}
 use Rattle.semantics.specs.Layout.{index-limit}
 use Rattle.semantics.specs.Tidy.{Queue}
 use Rattle.semantics.proofs.Tidy.{more, join-queue}

@@ -1,12 +1,5 @@
 -- The turns of the loops over the slots. Assumes nothing.
-use mathlib.Core.Path.{_≡_}
-use mathlib.Core.Bool.{Bool, true, false}
-use mathlib.Core.List.{List}
-use Prim.Native.Nat.{ℕ, suc, _+_, _≤_, _<_}
-use lib.IntN.{ℤ}
-use native.Mathlib.Omega.{arith}
-use lib.ListN.{length, take, drop}
-use lib.Seq.{drop-drop}
+use Rattle.semantics.proofs.Prelude.{_≡_, Bool, true, false, List, ℕ, suc, _+_, _≤_, _<_, ℤ, arith, length, take, drop, drop-drop}
 use Rattle.semantics.specs.Lists.{some-of}
 use Rattle.semantics.specs.Tidy.{Queue}
 use Rattle.semantics.proofs.Tidy.{wait-queue}

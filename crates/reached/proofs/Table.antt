@@ -1,14 +1,5 @@
 -- Laws of the table as rows: the merge of all slots, the row of a slot, a row stored at the next slot. Assumes nothing.
-use mathlib.Core.Path.{_≡_, refl, sym, ap, _∙_}
-use mathlib.Core.List.{List, [], _∷_, _++_, map, append-assoc}
-use mathlib.Core.Option.{some}
-use Prim.Native.Nat.{ℕ, zero, suc, _+_, _-_, _*_, _≤_, _<_}
-use native.Mathlib.Nat.{suc-mul, add-comm}
-use native.Mathlib.Numerals.{add-one}
-use native.Mathlib.Omega.{arith}
-use lib.IntN.{ℤ, pos}
-use lib.ListN.{length, take, drop, replicate, length-drop}
-use lib.Seq.{take-at, drop-at, drop-drop, take-add, take-take, take-append-le, length-take-le}
+use Rattle.semantics.proofs.Prelude.{_≡_, refl, sym, ap, _∙_, List, [], _∷_, _++_, map, append-assoc, some, ℕ, zero, suc, _+_, _-_, _*_, _≤_, _<_, suc-mul, add-comm, add-one, arith, ℤ, pos, length, take, drop, replicate, length-drop, take-at, drop-at, drop-drop, take-add, take-take, take-append-le, length-take-le}
 use Rattle.semantics.specs.Lists.{get}
 use Rattle.semantics.specs.Tidy.{Every, Queue}
 use Rattle.words.proofs.Rows.{put-here, drop-put}

@@ -1,12 +1,5 @@
 -- The rows and the names after one more variable, location or edge. Assumes nothing.
-use mathlib.Core.Path.{_≡_, refl, sym, ap, _∙_}
-use mathlib.Core.Bool.{false}
-use mathlib.Core.List.{List, [], _∷_, _++_, append-assoc, append-nil}
-use Prim.Native.Nat.{ℕ, zero, suc, _+_, _*_, _≤_, _<_}
-use native.Mathlib.Omega.{arith}
-use lib.Dec.{T}
-use lib.ListN.{length, take, drop, length-append, take-append-drop}
-use lib.IntN.{ℤ}
+use Rattle.semantics.proofs.Prelude.{_≡_, refl, sym, ap, _∙_, false, List, [], _∷_, _++_, append-assoc, append-nil, ℕ, zero, suc, _+_, _*_, _≤_, _<_, arith, T, length, take, drop, length-append, take-append-drop, ℤ}
 use Rattle.semantics.specs.Lists.{all, each}
 use Rattle.semantics.specs.Text.{name-ok}
 use Rattle.semantics.specs.Layout.{variable-size, location-size, edge-size, high-place}

@@ -1,14 +1,5 @@
 -- From the rows to the words lent. Assumes nothing.
-use mathlib.Core.Path.{_≡_, refl, ap}
-use mathlib.Core.Bool.{true, false}
-use mathlib.Core.List.{List, [], _∷_, _++_}
-use Prim.Native.Nat.{_+_, _≤_, _<_}
-use native.Mathlib.Omega.{arith}
-use lib.Dec.{ltb}
-use lib.ListN.{length, take, drop}
-use lib.IntN.{ℤ, pos}
-use lib.Seq.{length-take-le}
-use borrow.Author.Tests.{lt-ltb, le-ltb}
+use Rattle.semantics.proofs.Prelude.{_≡_, refl, ap, true, false, List, [], _∷_, _++_, _+_, _≤_, _<_, arith, ltb, length, take, drop, ℤ, pos, length-take-le, lt-ltb, le-ltb}
 use Rattle.semantics.specs.Lists.{is-empty}
 use Rattle.semantics.specs.Chart.{Chart}
 use Rattle.semantics.specs.Encoding.{encode}

@@ -1,8 +1,5 @@
 -- A judgement passed or failed, and what follows it. Assumes nothing.
-use mathlib.Core.Path.{_≡_, refl, sym, ap, _∙_}
-use mathlib.Core.Bool.{Bool, true, false}
-use mathlib.Core.List.{List}
-use Prim.Native.Nat.{ℕ}
+use Rattle.semantics.proofs.Prelude.{_≡_, refl, sym, ap, _∙_, Bool, true, false, List, ℕ}
 use Rattle.semantics.specs.Reading.{Res, fail, ok, check, if-ok}
 
 module _ {A : Type 0} {b : Bool} (n : ℕ) (r : Res A) where

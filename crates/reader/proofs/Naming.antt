@@ -1,13 +1,5 @@
 -- A new name is looked for among the rows that hold the names before it. Assumes nothing.
-use mathlib.Core.Path.{_≡_, refl, sym, ap, _∙_}
-use mathlib.Core.Bool.{Bool, true, false, _&&_, not}
-use mathlib.Core.List.{List, [], _∷_, _++_, append-assoc, append-nil}
-use Prim.Native.Nat.{ℕ, _+_, _-_, _*_}
-use native.Mathlib.Omega.{arith}
-use lib.Dec.{T}
-use lib.ListN.{length, take, drop, length-append}
-use lib.IntN.{ℤ, pos}
-use lib.Seq.{drop-drop, drop-at}
+use Rattle.semantics.proofs.Prelude.{_≡_, refl, sym, ap, _∙_, Bool, true, false, _&&_, not, List, [], _∷_, _++_, append-assoc, append-nil, ℕ, _+_, _-_, _*_, arith, T, length, take, drop, length-append, ℤ, pos, drop-drop, drop-at}
 use Rattle.semantics.specs.Lists.{all, each}
 use Rattle.semantics.specs.Text.{same-bytes, name-ok}
 use Rattle.semantics.specs.Layout.{location-size}

@@ -1,12 +1,5 @@
 -- A line by its kind, and reading goes on by one line. Assumes nothing.
-use mathlib.Core.Path.{_≡_, refl, _∙_}
-use mathlib.Core.Bool.{Bool, true, false}
-use mathlib.Core.List.{List, map}
-use Prim.Native.Nat.{ℕ, suc, _+_, _-_, _≤_, _<_}
-use native.Mathlib.Numerals.{add-one}
-use native.Mathlib.Omega.{arith}
-use lib.ListN.{length, take, drop}
-use lib.IntN.{ℤ}
+use Rattle.semantics.proofs.Prelude.{_≡_, refl, _∙_, Bool, true, false, List, map, ℕ, suc, _+_, _-_, _≤_, _<_, add-one, arith, length, take, drop, ℤ}
 use Rattle.semantics.specs.Lists.{is-empty}
 use Rattle.semantics.specs.Text.{bytes, same-bytes, lines, fields}
 use Rattle.semantics.specs.Reading.{fail, ok, nth, So-far, nothing-read, var-line, loc-line, edge-line, judge, refused, ended, judged}

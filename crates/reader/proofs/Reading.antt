@@ -1,15 +1,6 @@
 -- The words that the code reads of a line are those of the variable, location or edge that the definitions read.
 -- Assumes nothing.
-use mathlib.Core.Path.{_≡_, refl, sym, ap, _∙_}
-use mathlib.Core.Bool.{true, false, _&&_}
-use mathlib.Core.List.{List}
-use Prim.Native.Nat.{ℕ, _<_, _≤_}
-use native.Mathlib.Omega.{arith}
-use lib.Dec.{eqb, leb, ltb→lt}
-use lib.ListN.{length}
-use lib.IntN.{ℤ}
-use lib.Signed.{leZ}
-use borrow.Author.Tests.{lt-ltb, le-ltb}
+use Rattle.semantics.proofs.Prelude.{_≡_, refl, sym, ap, _∙_, true, false, _&&_, List, ℕ, _<_, _≤_, arith, eqb, leb, ltb→lt, length, ℤ, leZ, lt-ltb, le-ltb}
 use Rattle.semantics.specs.Lists.{is-empty}
 use Rattle.semantics.specs.Chart.{Var, input, Edge, Op, Chart, in-range}
 use Rattle.semantics.specs.Reading.{Res, fail, ok, check, if-ok, nth, none-empty, number-field, target-field, op-word-field, OpWord, field-count, op-fields-read, So-far, with-edge, var-line, loc-line, edge-line}

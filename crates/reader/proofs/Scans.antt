@@ -1,14 +1,5 @@
 -- The scans of a whole file go on by one byte. Assumes nothing.
-use mathlib.Core.Path.{_≡_}
-use mathlib.Core.Bool.{Bool, true, false}
-use mathlib.Core.List.{List}
-use mathlib.Core.Option.{none, some}
-use Prim.Native.Nat.{ℕ, suc, _+_, _≤_, _<_}
-use native.Mathlib.Omega.{arith}
-use native.Mathlib.Numerals.{add-one}
-use lib.Dec.{eqb}
-use lib.ListN.{length, getD, drop, drop-of-length-le}
-use lib.Seq.{drop-cons}
+use Rattle.semantics.proofs.Prelude.{_≡_, Bool, true, false, List, none, some, ℕ, suc, _+_, _≤_, _<_, arith, add-one, eqb, length, getD, drop, drop-of-length-le, drop-cons}
 use Rattle.semantics.specs.Lists.{pick}
 use Rattle.semantics.specs.Reading.{byte-ok, bad-byte-line, open-line}
 

@@ -1,6 +1,7 @@
 -- What holds of the definitions: over any domain (to Simulate), of the constants (to Executions), of words (Stored,
 -- Reloaded), of a chart's text and its words (to Exactness), of the calls (to Realisable), of the program (to
 -- ProgramSafe). The claims are in Verdicts, Executions, Exactness, WholeWalks, ProgramSafe and MarkedCases.
+pub mod Prelude
 pub mod ListFacts
 pub mod Waitlist
 pub mod Covering

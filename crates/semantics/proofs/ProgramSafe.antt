@@ -1,11 +1,6 @@
 -- Where the program's output says `safe`, no execution of the chart in its input meets an error location. Assumes
 -- nothing.
-use mathlib.Core.Path.{_≡_, refl, sym, ap, _∙_}
-use mathlib.Core.List.{List, [], _∷_, _++_, append-nil, append-assoc}
-use Prim.Native.Nat.{ℕ}
-use native.Mathlib.Omega.{arith}
-use lib.Dec.{T}
-use lib.ListN.{getD}
+use Rattle.semantics.proofs.Prelude.{_≡_, refl, sym, ap, _∙_, List, [], _∷_, _++_, append-nil, append-assoc, ℕ, arith, T, getD}
 use Rattle.semantics.specs.Lists.{all}
 use Rattle.semantics.specs.Text.{bytes, decimal, fields, line-of}
 use Rattle.semantics.specs.Chart.{Chart}

@@ -1,15 +1,5 @@
 -- Facts of values, of any number of variables. Assumes nothing.
-use mathlib.Core.Path.{_≡_, refl, sym, ap, _∙_, subst}
-use mathlib.Core.Bool.{Bool, true, false, _&&_}
-use mathlib.Core.List.{List, [], _∷_}
-use mathlib.Core.Option.{Option, some, none}
-use Prim.Native.Nat.{ℕ, zero, suc}
-use native.Mathlib.Omega.{arith}
-use native.Mathlib.Nat.{le-antisymm}
-use lib.Dec.{T, eqb→eq, leb→le}
-use lib.ListN.{length, getD, set}
-use lib.IntN.{ℤ, pos, negsuc, _+ℤ_, _-ℤ_}
-use lib.Signed.{leZ}
+use Rattle.semantics.proofs.Prelude.{_≡_, refl, sym, ap, _∙_, subst, Bool, true, false, _&&_, List, [], _∷_, Option, some, none, ℕ, zero, suc, arith, le-antisymm, T, eqb→eq, leb→le, length, getD, set, ℤ, pos, negsuc, _+ℤ_, _-ℤ_, leZ}
 use Rattle.semantics.specs.Lists.{all-pairs, pick}
 use Rattle.semantics.specs.Chart.{Value, known, top, Var, Operand, num, var, Rel, eq, ne, lt, le, gt, ge, Op, assign, add, sub, input, assume, skip, eqZ, within, holds, Ranged, Matches₁, Matches, value, Becomes, in-range}
 use Rattle.semantics.specs.Constants.{equal-value, leq-value, value-or-top, join-values, operand-value, both, assign-value, refine, one-known, tested, one-of, effect}

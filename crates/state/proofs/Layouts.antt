@@ -1,10 +1,5 @@
 -- The layout of a chart's tables, and the words of a row by place. Assumes nothing.
-use mathlib.Core.Path.{_≡_, sym, subst}
-use mathlib.Core.List.{List}
-use Prim.Native.Nat.{ℕ, _*_, _≤_, _<_}
-use native.Mathlib.Omega.{arith}
-use borrow.Author.Tests.{lt-ltb}
-use lib.IntN.{ℤ, pos}
+use Rattle.semantics.proofs.Prelude.{_≡_, sym, subst, List, ℕ, _*_, _≤_, _<_, arith, lt-ltb, ℤ, pos}
 use Rattle.semantics.specs.Chart.{Chart}
 use Rattle.semantics.specs.Encoding.{decode}
 use Rattle.semantics.specs.Memory.{width}

@@ -1,13 +1,5 @@
 -- The turns of the loops over the words of a row. Assumes nothing.
-use mathlib.Core.Path.{_≡_, refl, ap}
-use mathlib.Core.Bool.{Bool, true, false, _&&_}
-use mathlib.Core.List.{List, [], _∷_, _++_, append-nil}
-use Prim.Native.Nat.{ℕ, suc, _+_, _≤_, _<_}
-use native.Mathlib.Numerals.{add-one}
-use native.Mathlib.Omega.{arith}
-use lib.IntN.{ℤ, pos}
-use lib.ListN.{length, take, drop, set, drop-of-length-le}
-use lib.Seq.{drop-cons, take-all, take-suc-set, drop-set-lt, append-snoc}
+use Rattle.semantics.proofs.Prelude.{_≡_, refl, ap, Bool, true, false, _&&_, List, [], _∷_, _++_, append-nil, ℕ, suc, _+_, _≤_, _<_, add-one, arith, ℤ, pos, length, take, drop, set, drop-of-length-le, drop-cons, take-all, take-suc-set, drop-set-lt, append-snoc}
 use Rattle.semantics.specs.Lists.{pick}
 use Rattle.semantics.specs.Chart.{eqZ}
 use Rattle.semantics.specs.Encoding.{word-at}

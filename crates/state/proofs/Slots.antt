@@ -1,14 +1,6 @@
 -- Loops over the slots of a table: slot and first word go together; what a state put into its slot leaves of the rest.
 -- Assumes nothing.
-use mathlib.Core.Path.{_≡_, sym, ap, _∙_}
-use mathlib.Core.List.{List, _++_, append-assoc}
-use Prim.Native.Nat.{ℕ, suc, _+_, _-_, _*_, _≤_, _<_}
-use native.Mathlib.Nat.{suc-mul}
-use native.Mathlib.Numerals.{add-one}
-use native.Mathlib.Omega.{arith}
-use lib.IntN.{ℤ}
-use lib.ListN.{length, take, drop, length-append, length-drop, take-append-drop}
-use lib.Seq.{length-take-le, drop-append-le}
+use Rattle.semantics.proofs.Prelude.{_≡_, sym, ap, _∙_, List, _++_, append-assoc, ℕ, suc, _+_, _-_, _*_, _≤_, _<_, suc-mul, add-one, arith, ℤ, length, take, drop, length-append, length-drop, take-append-drop, length-take-le, drop-append-le}
 use Rattle.words.proofs.Rows.{row-in, take-put, drop-put}
 use Rattle.state.specs.Rows.{width-of, row-merge, slot-merge, rows-merge}
 use Rattle.state.specs.declared.Layout.{Layout}

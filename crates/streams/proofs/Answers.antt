@@ -1,17 +1,5 @@
 -- What an answer of read or write says to a loop that has moved some of the bytes: it goes on, or it stops. Assumes nothing.
-use mathlib.Core.Path.{_≡_, sym, subst}
-use mathlib.Core.Bool.{true, false}
-use mathlib.Core.List.{List}
-use Prim.Native.Nat.{ℕ, zero, suc, _+_, _-_, _≤_, _<_}
-use native.Mathlib.Omega.{arith}
-use lib.Dec.{T, leb→le}
-use lib.IntN.{ℤ, pos, negsuc, natAbs}
-use lib.ListN.{length, take, drop, length-drop}
-use lib.Seq.{length-take-le}
-use lib.Signed.{leZ, nonNeg}
-use mir.Syntax.{w64}
-use mir.Val.{Fits, SFits, toZ, ofZ}
-use mir.ValLaws.{toZ-ofZ}
+use Rattle.semantics.proofs.Prelude.{_≡_, sym, subst, true, false, List, ℕ, zero, suc, _+_, _-_, _≤_, _<_, arith, T, leb→le, ℤ, pos, negsuc, natAbs, length, take, drop, length-drop, length-take-le, leZ, nonNeg, w64, Fits, SFits, toZ, ofZ, toZ-ofZ}
 use Rattle.libc.specs.Io.{Moved}
 use Rattle.streams.specs.Transfer.{Ends}
 

@@ -1,12 +1,6 @@
 -- The record of an analysis reads back as that analysis, and a record with a code that names nothing is out of form.
 -- Assumes nothing.
-use mathlib.Core.Path.{_≡_, refl, ap}
-use mathlib.Core.Bool.{Bool, true, false, _&&_}
-use mathlib.Core.List.{List, [], _∷_, _++_}
-use Prim.Native.Nat.{_+_}
-use lib.Dec.{leb, ltb}
-use lib.IntN.{ℤ}
-use lib.ListN.{length}
+use Rattle.semantics.proofs.Prelude.{_≡_, refl, ap, Bool, true, false, _&&_, List, [], _∷_, _++_, _+_, leb, ltb, ℤ, length}
 use Rattle.semantics.specs.Layout.{most-iterations}
 use Rattle.semantics.specs.Lists.{pick, all-of}
 use Rattle.semantics.specs.Chart.{Chart}

@@ -1,21 +1,7 @@
 -- Numbers, digit by digit, and what stays the same where a number is cut at 100,000. Assumes nothing.
-use mathlib.Core.Path.{_≡_, refl, ap, _∙_}
-use mathlib.Core.Bool.{Bool, true, false}
-use mathlib.Core.Logic.{_⊎_, inl, inr, ⊎-elim}
-use mathlib.Core.List.{List, [], _∷_}
-use mathlib.Core.Option.{Option, some, none}
-use Prim.Native.Nat.{ℕ, zero, suc, _+_, _-_, _*_, _≤_, _<_, min}
+use Rattle.semantics.proofs.Prelude.{_≡_, refl, ap, _∙_, Bool, true, false, _⊎_, inl, inr, ⊎-elim, List, [], _∷_, Option, some, none, ℕ, zero, suc, _+_, _-_, _*_, _≤_, _<_, min, add-one, arith, length, getD, take, drop, drop-of-length-le, drop-cons, take-length, ℤ, pos, negsuc, negℤ, _-ℤ_, +ℤ-idl, w32, SFits, toZ, ofZ, toZ-ofZ, eq-eqb, ne-eqb, le-leb, lt-leb, le-ltb}
 use native.Mathlib.Decide.{decLt}
-use native.Mathlib.Numerals.{add-one}
-use native.Mathlib.Omega.{arith}
-use lib.ListN.{length, getD, take, drop, drop-of-length-le}
-use lib.Seq.{drop-cons, take-length}
-use lib.IntN.{ℤ, pos, negsuc, negℤ, _-ℤ_, +ℤ-idl}
-use mir.Syntax.{w32}
-use mir.Val.{SFits, toZ, ofZ}
-use mir.ValLaws.{toZ-ofZ}
 use mir.Facts.{toZ-pos}
-use borrow.Author.Tests.{eq-eqb, ne-eqb, le-leb, lt-leb, le-ltb}
 use Rattle.semantics.specs.Lists.{pick}
 use Rattle.semantics.specs.Text.{between, digits, natural-of, nonnegative, negative, number-of}
 use Rattle.semantics.specs.Chart.{small}

@@ -1,16 +1,5 @@
 -- One field by its tests: a number below a count, `$k`, an operand, an initial value, a word. Assumes nothing.
-use mathlib.Core.Path.{_≡_, refl, sym, ap, subst, _∙_}
-use mathlib.Core.Bool.{Bool, true, false}
-use mathlib.Core.List.{List, [], _∷_}
-use mathlib.Core.Option.{Option, some, none}
-use Prim.Native.Nat.{ℕ, _-_, _≤_, _<_}
-use native.Mathlib.Omega.{arith}
-use lib.Dec.{T}
-use lib.ListN.{length, getD, take, drop}
-use lib.Seq.{take-length}
-use lib.IntN.{ℤ, pos, negsuc, natAbs}
-use lib.Signed.{ltZ}
-use borrow.Author.Tests.{eq-eqb, ne-eqb, lt-ltb, le-ltb, ltb-true}
+use Rattle.semantics.proofs.Prelude.{_≡_, refl, sym, ap, subst, _∙_, Bool, true, false, List, [], _∷_, Option, some, none, ℕ, _-_, _≤_, _<_, arith, T, length, getD, take, drop, take-length, ℤ, pos, negsuc, natAbs, ltZ, eq-eqb, ne-eqb, lt-ltb, le-ltb, ltb-true}
 use Rattle.semantics.specs.Lists.{pick}
 use Rattle.semantics.specs.Text.{bytes, same-bytes, natural-of, nonnegative, number-of}
 use Rattle.semantics.specs.Chart.{known, top, num, var, small, within}

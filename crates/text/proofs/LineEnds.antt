@@ -1,14 +1,5 @@
 -- The first of some byte in a text, and the lines of a text one at a time. Assumes nothing.
-use mathlib.Core.Path.{_≡_, refl, ap}
-use mathlib.Core.Bool.{Bool, true, false}
-use mathlib.Core.List.{List, [], _∷_}
-use Prim.Native.Nat.{ℕ, suc, _+_, _-_, _≤_, _<_, zero-le}
-use native.Mathlib.Numerals.{add-one}
-use native.Mathlib.Omega.{arith}
-use lib.Dec.{eqb}
-use lib.ListN.{length, getD, take, drop, drop-of-length-le, length-drop}
-use lib.Seq.{drop-cons, drop-drop}
-use borrow.Author.Tests.{eq-eqb, ne-eqb}
+use Rattle.semantics.proofs.Prelude.{_≡_, refl, ap, Bool, true, false, List, [], _∷_, ℕ, suc, _+_, _-_, _≤_, _<_, zero-le, add-one, arith, eqb, length, getD, take, drop, drop-of-length-le, length-drop, drop-cons, drop-drop, eq-eqb, ne-eqb}
 use Rattle.semantics.specs.Lists.{pick}
 use Rattle.semantics.specs.Text.{onto, lines}
 use Rattle.text.specs.Fields.{up-to}

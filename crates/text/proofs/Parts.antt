@@ -1,13 +1,5 @@
 -- The fields of a line, one at a time, and how many there are. Assumes nothing.
-use mathlib.Core.Path.{_≡_, refl, ap, _∙_}
-use mathlib.Core.Bool.{Bool, true, false}
-use mathlib.Core.List.{List, [], _∷_}
-use Prim.Native.Nat.{ℕ, zero, suc, _+_, _-_, _≤_, _<_}
-use native.Mathlib.Numerals.{add-one, sub-one}
-use native.Mathlib.Omega.{arith}
-use lib.Dec.{eqb}
-use lib.ListN.{length, getD, take, drop, drop-of-length-le, length-drop, length-take}
-use lib.Seq.{drop-cons, drop-drop, take-nil}
+use Rattle.semantics.proofs.Prelude.{_≡_, refl, ap, _∙_, Bool, true, false, List, [], _∷_, ℕ, zero, suc, _+_, _-_, _≤_, _<_, add-one, sub-one, arith, eqb, length, getD, take, drop, drop-of-length-le, length-drop, length-take, drop-cons, drop-drop, take-nil}
 use Rattle.semantics.specs.Lists.{pick}
 use Rattle.semantics.specs.Text.{onto, fields}
 use Rattle.semantics.specs.Reading.{nth, none-empty}

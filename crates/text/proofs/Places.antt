@@ -1,12 +1,5 @@
 -- Where a line lies, by the test of the reader's place, and back. Assumes nothing.
-use mathlib.Core.Path.{_≡_, refl}
-use mathlib.Core.Bool.{Bool, true, false}
-use mathlib.Core.List.{List}
-use Prim.Native.Nat.{ℕ, _+_, _≤_, _<_}
-use native.Mathlib.Omega.{arith}
-use lib.Dec.{leb}
-use lib.ListN.{length, drop, length-drop}
-use borrow.Author.Tests.{le-leb, lt-leb, leb-true, leb-false}
+use Rattle.semantics.proofs.Prelude.{_≡_, refl, Bool, true, false, List, ℕ, _+_, _≤_, _<_, arith, leb, length, drop, length-drop, le-leb, lt-leb, leb-true, leb-false}
 use Rattle.semantics.specs.Lists.{pick}
 use Rattle.text.proofs.LineEnds.{up-to-le}
 use Rattle.text.specs.Places.{end-of, line-at}

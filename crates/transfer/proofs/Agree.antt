@@ -1,15 +1,6 @@
 -- The rows of words, with the transfer by the encoded chart, agree with the abstract states of the chart.
 -- Assumes nothing.
-use mathlib.Core.Path.{_≡_, refl, sym, ap, subst, _∙_}
-use mathlib.Core.Bool.{Bool, true, false, _&&_}
-use mathlib.Core.List.{List, [], _∷_, _++_, map}
-use mathlib.Core.Option.{Option, none, some}
-use Prim.Native.Nat.{ℕ, suc, _+_, _<_}
-use native.Mathlib.Nat.{zero-add}
-use native.Mathlib.Omega.{arith}
-use lib.Dec.{T, eqb, eqb-refl, ltb→lt}
-use lib.IntN.{ℤ, pos, natAbs}
-use lib.ListN.{length, drop}
+use Rattle.semantics.proofs.Prelude.{_≡_, refl, sym, ap, subst, _∙_, Bool, true, false, _&&_, List, [], _∷_, _++_, map, Option, none, some, ℕ, suc, _+_, _<_, zero-add, arith, T, eqb, eqb-refl, ltb→lt, ℤ, pos, natAbs, length, drop}
 use Rattle.semantics.specs.Layout.{top-word, from-place, to-place}
 use Rattle.semantics.specs.Lists.{At, pick, all, all-pairs}
 use Rattle.semantics.specs.Chart.{Value, known, top, Edge, Numbered, number-from, numbered, Chart, eqZ, error-location}

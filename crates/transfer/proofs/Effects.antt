@@ -1,21 +1,11 @@
 -- The effect of an operation on a row's words is its effect on the values that they say. Assumes nothing.
-use mathlib.Core.Path.{_≡_, refl, sym, ap, _∙_}
-use mathlib.Core.Bool.{Bool, true, false, _||_}
-use mathlib.Core.List.{List, [], _∷_, _++_, map}
-use mathlib.Core.Option.{Option, none, some}
-use Prim.Native.Nat.{ℕ, zero, suc, _+_, _<_}
-use native.Mathlib.Numerals.{add-one}
-use native.Mathlib.Omega.{arith}
-use lib.Dec.{T, ltb→lt}
-use lib.IntN.{ℤ, pos, natAbs, _+ℤ_, _-ℤ_}
-use lib.ListN.{length, getD, set, List·getD-map}
-use lib.Signed.{leZ}
+use Rattle.semantics.proofs.Prelude.{_≡_, refl, sym, ap, _∙_, Bool, true, false, _||_, List, [], _∷_, _++_, map, Option, none, some, ℕ, zero, suc, _+_, _<_, add-one, arith, T, ltb→lt, ℤ, pos, natAbs, _+ℤ_, _-ℤ_, length, getD, set, List·getD-map, leZ}
 use Rattle.semantics.specs.Layout.{top-word, edge-size, operation-place, target-place, first-tag-place, first-value-place, second-tag-place, second-value-place, add-code, sub-code}
 use Rattle.semantics.specs.Lists.{pick, all}
 use Rattle.semantics.specs.Chart.{Value, known, top, Var, Operand, num, var, Rel, eq, ne, lt, le, gt, ge, Op, assign, add, sub, input, assume, skip, Chart, eqZ, small, holds, in-range}
 use Rattle.semantics.specs.Algorithm.{Step, halt, to}
 use Rattle.semantics.specs.Constants.{operand-value, both, assign-value, one-of, one-known, tested, effect}
-use Rattle.semantics.specs.Encoding.{word, word-at, tag, held, rel-code, op-words, encode, count, var-ok, operand-ok, op-ok, chart-ok}
+use Rattle.semantics.specs.Encoding.{word, word-at, tag, operand-word, rel-code, op-words, encode, count, var-ok, operand-ok, op-ok, chart-ok}
 use Rattle.semantics.proofs.Values.{and-left, and-right}
 use Rattle.semantics.proofs.StatesOk.{ValOk, ValsOk}
 use Rattle.semantics.proofs.Stored.{not-any}
@@ -140,7 +130,7 @@ module _ (c : Chart) (ok : T (chart-ok c)) (rest : List ℤ) (l : ℤ) (xs : Lis
   Sided (var j) y = Unit
 
   tested-is : (r : Rel) (k : ℕ) (a : Operand) (x y : Value) → k < length (c .vars) → T (operand-ok (c .vars) a) → Plain x → Plain y → Sided a y
-      → tested-by ws (rel-code r) k (natAbs (held a)) (word x) (word y) e ≡ row-step l (tested (c .vars) r (var k) a x y xs)
+      → tested-by ws (rel-code r) k (natAbs (operand-word a)) (word x) (word y) e ≡ row-step l (tested (c .vars) r (var k) a x y xs)
   unfolding tested-by
   tested-is r k a (known x) (known y) h o p q s = rw (p, q, holds-is r x y) (step-if l (holds r x y) xs)
   tested-is r k (num z) (known x) top h o p q s = absurd s
@@ -158,7 +148,7 @@ module _ (c : Chart) (ok : T (chart-ok c)) (rest : List ℤ) (l : ℤ) (xs : Lis
   operand-sided (num z) = tt
   operand-sided (var j) = tt
 
-  operand-is : (a : Operand) → operand-by (tag a) (held a) e ≡ word (operand-value a xs)
+  operand-is : (a : Operand) → operand-by (tag a) (operand-word a) e ≡ word (operand-value a xs)
   operand-is (num z) = refl
   operand-is (var k) = get-word k
 
@@ -169,7 +159,7 @@ module _ (c : Chart) (ok : T (chart-ok c)) (rest : List ℤ) (l : ℤ) (xs : Lis
 
     -- add and sub, by their code
     both-effect : (f : ℤ → ℤ → ℤ) (n v : ℕ) (a b : Operand) → T (op-ok (c .vars) (add v a b))
-        → ((j : ℕ) → j < edge-size → word-at ws (i + j) ≡ getD (from ∷ goal ∷ pos n ∷ pos v ∷ tag a ∷ held a ∷ tag b ∷ held b ∷ []) j (pos 0))
+        → ((j : ℕ) → j < edge-size → word-at ws (i + j) ≡ getD (from ∷ goal ∷ pos n ∷ pos v ∷ tag a ∷ operand-word a ∷ tag b ∷ operand-word b ∷ []) j (pos 0))
         → both-at f ws i e ≡ row-step l (assign-value (c .vars) v (both f (operand-value a xs) (operand-value b xs)) xs)
     unfolding both-at set-result
     both-effect f n v a b t r =

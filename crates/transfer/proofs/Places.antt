@@ -1,14 +1,6 @@
 -- Where the words of an encoded chart stand: those of a variable, of a location and of an edge, with any words after.
 -- Assumes nothing.
-use mathlib.Core.Path.{_≡_, refl, sym, ap, _∙_}
-use mathlib.Core.List.{List, [], _∷_, _++_, map, append-assoc}
-use Prim.Native.Nat.{ℕ, zero, suc, _+_, _*_, _<_}
-use native.Mathlib.Nat.{mul-suc}
-use native.Mathlib.Omega.{arith}
-use lib.Dec.{T}
-use lib.IntN.{ℤ, pos}
-use lib.ListN.{length, length-append, List·getD-append}
-use lib.Seq.{getD-append-add}
+use Rattle.semantics.proofs.Prelude.{_≡_, refl, sym, ap, _∙_, List, [], _∷_, _++_, map, append-assoc, ℕ, zero, suc, _+_, _*_, _<_, mul-suc, arith, T, ℤ, pos, length, length-append, List·getD-append, getD-append-add}
 use Rattle.semantics.specs.Layout.{counts-size, variable-size, location-size, edge-size, variable-at, low-place, high-place, init-place}
 use Rattle.semantics.specs.Lists.{At, each}
 use Rattle.semantics.specs.Text.{name-ok}

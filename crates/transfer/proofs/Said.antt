@@ -1,10 +1,5 @@
 -- Rows in form say the abstract states that are read in them. Assumes nothing.
-use mathlib.Core.Path.{sym, subst}
-use mathlib.Core.List.{List}
-use Prim.Native.Nat.{ℕ, zero, suc}
-use lib.Dec.{T}
-use lib.IntN.{ℤ}
-use lib.ListN.{take, drop}
+use Rattle.semantics.proofs.Prelude.{sym, subst, List, ℕ, zero, suc, T, ℤ, take, drop}
 use Rattle.semantics.specs.Chart.{Chart}
 use Rattle.semantics.specs.Memory.{width, state-in, states-in, row-ok, rows-ok}
 use Rattle.semantics.proofs.Values.{and-left, and-right}

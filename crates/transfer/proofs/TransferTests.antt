@@ -1,16 +1,5 @@
 -- What the tests of the transfer tell, and the turn of the loop that writes the initial row. Assumes nothing.
-use mathlib.Core.Path.{_≡_}
-use mathlib.Core.Bool.{true}
-use mathlib.Core.List.{List, _++_, append-nil}
-use Prim.Native.Nat.{ℕ, suc, _+_, _-_, _≤_, _<_}
-use native.Mathlib.Numerals.{add-one}
-use native.Mathlib.Omega.{arith}
-use lib.IntN.{ℤ, pos}
-use lib.Signed.{leZ}
-use lib.ListN.{length, take, set}
-use lib.Seq.{take-all, take-suc-set, append-snoc}
-use mir.Syntax.{w32}
-use mir.Val.{SFits}
+use Rattle.semantics.proofs.Prelude.{_≡_, true, List, _++_, append-nil, ℕ, suc, _+_, _-_, _≤_, _<_, add-one, arith, ℤ, pos, leZ, length, take, set, take-all, take-suc-set, append-snoc, w32, SFits}
 use Rattle.semantics.specs.Layout.{variable-size, variable-at, init-place}
 use Rattle.semantics.specs.Chart.{within}
 use Rattle.semantics.specs.Encoding.{word-at, count}

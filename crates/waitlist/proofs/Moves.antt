@@ -1,15 +1,5 @@
 -- Laws of the waitlist's words that move: the front taken or put, the last taken, a slot taken out. Assumes nothing.
-use mathlib.Core.Path.{_≡_, refl, sym, ap, _∙_}
-use mathlib.Core.Bool.{Bool, true, false}
-use mathlib.Core.List.{List, [], _∷_, _++_, map, append-assoc, append-nil}
-use mathlib.Core.Option.{some}
-use Prim.Native.Nat.{ℕ, zero, suc, _+_, _-_, _≤_, _<_}
-use native.Mathlib.Numerals.{add-one}
-use native.Mathlib.Omega.{arith}
-use lib.Dec.{eqb}
-use lib.IntN.{ℤ, pos}
-use lib.ListN.{length, take, drop, getD, set, replicate, length-map, length-append, length-replicate, length-set, drop-of-length-le, take-append-drop, replicate-append-replicate}
-use lib.Seq.{take-at, drop-at, drop-cons, set-at, append-snoc, take-suc, take-suc-set, drop-set-lt, getD-drop, getD-at, take-all, length-take-le}
+use Rattle.semantics.proofs.Prelude.{_≡_, refl, sym, ap, _∙_, Bool, true, false, List, [], _∷_, _++_, map, append-assoc, append-nil, some, ℕ, zero, suc, _+_, _-_, _≤_, _<_, add-one, arith, eqb, ℤ, pos, length, take, drop, getD, set, replicate, length-map, length-append, length-replicate, length-set, drop-of-length-le, take-append-drop, replicate-append-replicate, take-at, drop-at, drop-cons, set-at, append-snoc, take-suc, take-suc-set, drop-set-lt, getD-drop, getD-at, take-all, length-take-le}
 use Rattle.semantics.specs.Chart.{eqZ}
 use Rattle.semantics.specs.declared.Order.the-variants.{Old, New}
 use Rattle.semantics.specs.Algorithm.{without, take-last, later}

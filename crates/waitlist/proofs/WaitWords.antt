@@ -1,14 +1,5 @@
 -- Laws of the waitlist's words: what they hold, a word more, and room for a slot that does not wait. Assumes nothing.
-use mathlib.Core.Path.{_≡_, refl, sym, ap, subst, _∙_}
-use mathlib.Core.Logic.{inl, inr}
-use mathlib.Core.Bool.{Bool, true, false}
-use mathlib.Core.List.{List, [], _∷_, _++_, map}
-use Prim.Native.Nat.{ℕ, suc, _+_, _-_, _<_}
-use native.Mathlib.Omega.{arith}
-use lib.Dec.{eqb}
-use lib.IntN.{ℤ, pos, natAbs}
-use lib.ListN.{length, take, drop, set, replicate, length-map, length-append, length-set}
-use lib.Seq.{take-at, drop-at, set-at, append-snoc}
+use Rattle.semantics.proofs.Prelude.{_≡_, refl, sym, ap, subst, _∙_, inl, inr, Bool, true, false, List, [], _∷_, _++_, map, ℕ, suc, _+_, _-_, _<_, arith, eqb, ℤ, pos, natAbs, length, take, drop, set, replicate, length-map, length-append, length-set, take-at, drop-at, set-at, append-snoc}
 use Rattle.semantics.specs.Chart.{eqZ}
 use Rattle.semantics.specs.Lists.{In, some-of}
 use Rattle.semantics.specs.Algorithm.{without}

@@ -1,14 +1,5 @@
 -- Rows of a table: parts of it, what a row put at a place changes, and turns of loops over words. Assumes nothing.
-use mathlib.Core.Path.{_≡_, refl, sym, ap, subst, _∙_}
-use mathlib.Core.Bool.{Bool, true, false, _||_}
-use mathlib.Core.List.{List, [], _∷_, _++_, append-assoc}
-use Prim.Native.Nat.{ℕ, zero, suc, _+_, _-_, _*_, _≤_, _<_}
-use native.Mathlib.Nat.{suc-mul, mul-le-mul-right, sub-zero, zero-sub, suc-sub-suc}
-use native.Mathlib.Omega.{arith}
-use native.Mathlib.Numerals.{add-one}
-use lib.IntN.{ℤ, pos}
-use lib.ListN.{length, getD, take, drop, length-take, length-drop, length-append, set, replicate}
-use lib.Seq.{take-at, drop-at, drop-nil, take-nil, take-all, drop-cons, length-take-le, take-suc-set}
+use Rattle.semantics.proofs.Prelude.{_≡_, refl, sym, ap, subst, _∙_, Bool, true, false, _||_, List, [], _∷_, _++_, append-assoc, ℕ, zero, suc, _+_, _-_, _*_, _≤_, _<_, suc-mul, mul-le-mul-right, sub-zero, zero-sub, suc-sub-suc, arith, add-one, ℤ, pos, length, getD, take, drop, length-take, length-drop, length-append, set, replicate, take-at, drop-at, drop-nil, take-nil, take-all, drop-cons, length-take-le, take-suc-set}
 use Rattle.semantics.specs.Lists.{some-of}
 
 pub drop-take : (b a : ℕ) (l : List ℤ) → drop b (take a l) ≡ take (a - b) (drop b l)

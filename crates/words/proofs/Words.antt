@@ -1,17 +1,5 @@
 -- Signed words: the machine's tests and casts, which go by bits, told of the whole numbers themselves. Assumes nothing.
-use mathlib.Core.Path.{_≡_, refl, sym, ap, subst, _∙_}
-use mathlib.Core.Bool.{Bool, true, false, cond}
-use Prim.Native.Nat.{ℕ, zero, suc, _+_, _<_, _≤_}
-use native.Mathlib.Omega.{arith}
-use native.Mathlib.Nat.{lt-of-le-of-lt, zero-add}
-use lib.Dec.{eqb, ltb, T}
-use lib.IntN.{ℤ, pos, negsuc, natAbs, negℤ, _+ℤ_, _-ℤ_}
-use lib.Signed.{nonNeg, mag, leZ, ltZ}
-use mir.Syntax.{Width, w32, w64}
-use mir.Val.{SFits, ofZ, toZ}
-use mir.ValLaws.{toZ-ofZ}
-use mir.Facts.{sfits-widen, sfits-lit}
-use borrow.Author.Tests.{eqb-true, eq-eqb, ne-eqb, le-leb, leb-true, ltb-true}
+use Rattle.semantics.proofs.Prelude.{_≡_, refl, sym, ap, subst, _∙_, Bool, true, false, cond, ℕ, zero, suc, _+_, _<_, _≤_, arith, lt-of-le-of-lt, zero-add, eqb, ltb, T, ℤ, pos, negsuc, natAbs, negℤ, _+ℤ_, _-ℤ_, nonNeg, mag, leZ, ltZ, Width, w32, w64, SFits, ofZ, toZ, toZ-ofZ, sfits-widen, sfits-lit, eqb-true, eq-eqb, ne-eqb, le-leb, leb-true, ltb-true}
 use Rattle.semantics.specs.Chart.{eqZ}
 
 -- the test for a sign

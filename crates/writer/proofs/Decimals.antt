@@ -1,13 +1,5 @@
 -- The decimal digits of a number: those of its tenth, and its last. Assumes nothing.
-use mathlib.Core.Path.{_≡_, refl, sym, ap, subst, _∙_}
-use mathlib.Core.Bool.{Bool, true, false}
-use mathlib.Core.List.{List, [], _∷_, _++_, append-assoc}
-use Prim.Native.Nat.{ℕ, zero, suc, _+_, _/_, _%_, _≤_, _<_}
-use native.Mathlib.Omega.{arith}
-use lib.Dec.{T, ltb}
-use lib.IntN.{ℤ, pos, negsuc, natAbs}
-use lib.Signed.{ltZ}
-use borrow.Author.Tests.{lt-ltb, le-ltb, ltb-true, ltb-false}
+use Rattle.semantics.proofs.Prelude.{_≡_, refl, sym, ap, subst, _∙_, Bool, true, false, List, [], _∷_, _++_, append-assoc, ℕ, zero, suc, _+_, _/_, _%_, _≤_, _<_, arith, T, ltb, ℤ, pos, negsuc, natAbs, ltZ, lt-ltb, le-ltb, ltb-true, ltb-false}
 use Rattle.semantics.specs.Text.{digits-of, decimal, decimalZ}
 
 abbrev last : ℕ → ℕ

@@ -1,11 +1,6 @@
 -- Writing goes on where it stopped; what fits is written whole. Assumes nothing.
-use mathlib.Core.Path.{_≡_, refl, sym, ap, subst, _∙_}
-use mathlib.Core.List.{List, [], _∷_, _++_}
-use Prim.Native.Nat.{ℕ, zero, suc, _+_, _≤_, _<_}
-use native.Mathlib.Nat.{zero-add, suc-add}
+use Rattle.semantics.proofs.Prelude.{_≡_, refl, sym, ap, subst, _∙_, List, [], _∷_, _++_, ℕ, zero, suc, _+_, _≤_, _<_, zero-add, suc-add, arith, length, take, drop, set, length-append}
 use native.Mathlib.Decide.{decLt}
-use native.Mathlib.Omega.{arith}
-use lib.ListN.{length, take, drop, set, length-append}
 use Rattle.writer.specs.Writing.{overwritten, written, limit, Put}
 
 pub written-none : (at : ℕ) (out : List ℕ) → written at [] out ≡ out

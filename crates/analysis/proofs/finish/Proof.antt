@@ -1,7 +1,5 @@
 -- `analysis::finish` meets its contract. Assumes nothing.
-use mathlib.Core.Path.{refl}
-use native.Mathlib.Numerals.{add-one}
-use borrow.Author.Needs.{needs}
+use Rattle.semantics.proofs.Prelude.{refl, add-one, needs}
 use Rattle.waitlist.specs.Waits.{waits}
 use Rattle.waitlist.proofs.WaitWords.{waits-are, kept}
 use Rattle.analysis.proofs.finish.Statement.{statement}

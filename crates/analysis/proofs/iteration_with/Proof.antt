@@ -1,11 +1,5 @@
 -- `analysis::iteration_with` meets its contract. Assumes nothing.
-use mathlib.Core.Path.{_≡_, ap, _∙_}
-use mathlib.Core.List.{List}
-use Prim.Native.Nat.{ℕ, _-_, _*_, _<_}
-use native.Mathlib.Omega.{arith}
-use borrow.Author.Needs.{needs}
-use lib.IntN.{ℤ}
-use lib.ListN.{length, take, drop}
+use Rattle.semantics.proofs.Prelude.{_≡_, ap, _∙_, List, ℕ, _-_, _*_, _<_, arith, needs, ℤ, length, take, drop}
 use Rattle.semantics.specs.declared.Analysis.{Analysis}
 use Rattle.semantics.specs.Algorithm.{leave}
 use Rattle.semantics.specs.Tidy.{Queue}

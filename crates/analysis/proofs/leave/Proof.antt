@@ -1,14 +1,5 @@
 -- `analysis::leave` meets its contract. Assumes nothing.
-use mathlib.Core.Path.{_≡_, refl, sym, ap, _∙_}
-use mathlib.Core.List.{List}
-use Prim.Native.Nat.{ℕ, suc, _+_, _-_, _≤_, max}
-use native.Mathlib.Numerals.{add-one}
-use native.Mathlib.Omega.{arith}
-use borrow.Author.Needs.{needs}
-use borrow.Author.Tests.{leb-true, leb-false}
-use lib.IntN.{ℤ}
-use lib.ListN.{length, getD, take}
-use lib.Seq.{length-take-le, length-front}
+use Rattle.semantics.proofs.Prelude.{_≡_, refl, sym, ap, _∙_, List, ℕ, suc, _+_, _-_, _≤_, max, add-one, arith, needs, leb-true, leb-false, ℤ, length, getD, take, length-take-le, length-front}
 use Rattle.semantics.specs.Algorithm.{Out, then, visit, leave}
 use Rattle.state.specs.Rows.{most-width, location-in, rows-of}
 use Rattle.waitlist.specs.Waits.{waits}

@@ -1,9 +1,5 @@
 -- `analysis::merge_by` meets its contract. Assumes nothing.
-use mathlib.Core.Path.{_∙_}
-use Prim.Native.Nat.{_+_, _≤_}
-use native.Mathlib.Omega.{arith}
-use borrow.Author.Needs.{needs}
-use lib.ListN.{length}
+use Rattle.semantics.proofs.Prelude.{_∙_, _+_, _≤_, arith, needs, length}
 use Rattle.state.specs.Rows.{rows-of}
 use Rattle.waitlist.specs.Waits.{waits}
 use Rattle.waitlist.proofs.WaitWords.{waits-are}

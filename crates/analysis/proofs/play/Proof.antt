@@ -1,11 +1,6 @@
 -- `analysis::play` meets its contract. Assumes nothing.
-use mathlib.Core.Path.{_≡_, refl, sym, _∙_}
-use mathlib.Core.List.{List}
-use Prim.Native.Nat.{ℕ, suc, _+_, _-_, _≤_}
-use native.Mathlib.Omega.{arith}
-use borrow.Author.Needs.{needs}
-use lib.IntN.{ℤ}
-use lib.ListN.{length}
+use Rattle.semantics.proofs.Prelude.{_≡_, refl, sym, _∙_, List, ℕ, suc, _+_, _-_, _≤_, arith, needs, ℤ, length}
+use Rattle.semantics.specs.Layout.{most-iterations}
 use Rattle.semantics.specs.Algorithm.{Domain, Exploration, run}
 use Rattle.transfer.specs.Transfer.{edges-from}
 use Rattle.analysis.specs.Loaded.{domain-of, load-of, Resumable}
@@ -18,7 +13,7 @@ Inv-loop chart outline heads nexts most table₀ list₀ rest₀ at₀ table lis
     Resumable (outline .layout) (outline .edges) at table list
     × (length table ≡ length table₀)
     × (length list ≡ length list₀)
-    × (at .iterations + rest ≤ 60000)
+    × (at .iterations + rest ≤ most-iterations)
     × (run (domain-of chart) (edges-from 0 (outline .edges)) rest₀ (load-of (outline .layout) at₀ table₀ list₀)
     ≡ run (domain-of chart) (edges-from 0 (outline .edges)) rest (load-of (outline .layout) at table list))
 

@@ -1,6 +1,5 @@
 -- `analysis::run_core` meets its contract. Assumes nothing.
-use native.Mathlib.Omega.{arith}
-use borrow.Author.Needs.{needs}
+use Rattle.semantics.proofs.Prelude.{arith, needs}
 use Rattle.analysis.proofs.Chaining.{unchained}
 use Rattle.analysis.proofs.run_core.Statement.{statement}
 use Rattle.analysis.proofs.run_core.Tie as tie

@@ -1,11 +1,5 @@
 -- `analysis::start_core` meets its contract. Assumes nothing.
-use mathlib.Core.Path.{_≡_, refl, sym, ap, _∙_}
-use mathlib.Core.List.{List}
-use Prim.Native.Nat.{ℕ, _*_, _<_}
-use native.Mathlib.Omega.{arith}
-use borrow.Author.Needs.{needs}
-use lib.IntN.{ℤ, pos}
-use lib.ListN.{length, replicate}
+use Rattle.semantics.proofs.Prelude.{_≡_, refl, sym, ap, _∙_, List, ℕ, _*_, _<_, arith, needs, ℤ, pos, length, replicate}
 use Rattle.reached.specs.Reached.{Kept}
 use Rattle.reached.proofs.Forms.{empty-kept, next-slot-in}
 use Rattle.analysis.proofs.Begin.{begun}

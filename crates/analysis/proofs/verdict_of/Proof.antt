@@ -1,5 +1,5 @@
 -- `analysis::verdict_of` meets its contract. Assumes nothing.
-use native.Mathlib.Omega.{arith}
+use Rattle.semantics.proofs.Prelude.{arith}
 use Rattle.analysis.proofs.Iterations.{none-safe, some-open}
 use Rattle.analysis.proofs.verdict_of.Statement.{statement}
 use Rattle.analysis.proofs.verdict_of.Tie as tie

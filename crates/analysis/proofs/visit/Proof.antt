@@ -1,11 +1,5 @@
 -- `analysis::visit` meets its contract. Assumes nothing.
-use mathlib.Core.Path.{_≡_, sym, ap, _∙_}
-use mathlib.Core.Bool.{true, false}
-use mathlib.Core.List.{List}
-use native.Mathlib.Omega.{arith}
-use borrow.Author.Needs.{needs}
-use lib.IntN.{ℤ}
-use lib.ListN.{length}
+use Rattle.semantics.proofs.Prelude.{_≡_, sym, ap, _∙_, true, false, List, arith, needs, ℤ, length}
 use Rattle.transfer.specs.declared.Move.{Move}
 use Rattle.transfer.specs.declared.Move.the-variants.{Halt, Fault, Successor}
 use Rattle.transfer.specs.Transfer.{step-of, post-at, error-row}

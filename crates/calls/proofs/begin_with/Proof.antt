@@ -1,9 +1,5 @@
 -- `calls::begin_with` meets its contract: the row lent is the initial state's, of the same length. Assumes nothing.
-use mathlib.Core.Path.{_≡_, sym, ap, _∙_}
-use native.Mathlib.Omega.{arith}
-use borrow.Author.Needs.{needs}
-use denote.Ref.{now}
-use lib.ListN.{length}
+use Rattle.semantics.proofs.Prelude.{_≡_, sym, ap, _∙_, arith, needs, now, length}
 use Rattle.state.specs.Rows.{width-of}
 use Rattle.state.proofs.Layouts.{is-layout}
 use Rattle.calls.proofs.begin_with.Statement.{statement}

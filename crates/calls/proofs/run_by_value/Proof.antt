@@ -1,13 +1,6 @@
 -- `calls::run_by_value` meets its contract: refused, nothing has changed; else the run is put into the words lent.
 -- Assumes nothing.
-use mathlib.Core.Path.{_≡_, sym, ap, _∙_}
-use mathlib.Core.List.{[]}
-use native.Mathlib.Omega.{arith}
-use borrow.Author.Needs.{needs}
-use denote.Ref.{now}
-use lib.Dec.{T}
-use mir.Syntax.{w32}
-use mir.ValLaws.{toZ-ofZ}
+use Rattle.semantics.proofs.Prelude.{_≡_, sym, ap, _∙_, [], arith, needs, now, T, w32, toZ-ofZ}
 use Rattle.semantics.specs.Outcomes.{budget-ok, form-of, run-cases, refusal, run-outcome}
 use Rattle.checks.specs.Form.{lent, InForm}
 use Rattle.calls.proofs.Refusals.{run-passes, ends-refused, ends-through}

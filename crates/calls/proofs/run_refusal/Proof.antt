@@ -1,12 +1,5 @@
 -- `calls::run_refusal` meets its contract: 13, what the shared ladder says, 22 and 23. Assumes nothing.
-use mathlib.Core.Path.{_≡_, refl, sym, ap, _∙_}
-use mathlib.Core.Bool.{Bool, true}
-use mathlib.Core.List.{List, [], _∷_}
-use borrow.Author.Needs.{needs}
-use borrow.Author.Tests.{not-true, not-false, eq-eqb, ne-eqb}
-use lib.Dec.{eqb}
-use mir.Syntax.{w32}
-use mir.ValLaws.{toZ-ofZ}
+use Rattle.semantics.proofs.Prelude.{_≡_, refl, sym, ap, _∙_, Bool, true, List, [], _∷_, needs, not-true, not-false, eq-eqb, ne-eqb, eqb, w32, toZ-ofZ}
 use Rattle.semantics.specs.Layout.{most-iterations}
 use Rattle.semantics.specs.Outcomes.{Case, case, refusal, budget-ok, form-of, run-cases}
 use Rattle.semantics.proofs.FirstCase.{none-holds, later, sooner}

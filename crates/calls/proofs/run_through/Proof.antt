@@ -1,12 +1,6 @@
 -- `calls::run_through` meets its contract: the capacity's words, in form, are lent, and the run is put into them.
 -- Assumes nothing.
-use mathlib.Core.Path.{_≡_, sym, _∙_}
-use Prim.Native.Nat.{_*_, _≤_}
-use native.Mathlib.Omega.{arith}
-use borrow.Author.Needs.{needs}
-use denote.Ref.{now}
-use lib.ListN.{length}
-use lib.Seq.{length-take-le}
+use Rattle.semantics.proofs.Prelude.{_≡_, sym, _∙_, _*_, _≤_, arith, needs, now, length, length-take-le}
 use Rattle.semantics.specs.Encoding.{decode}
 use Rattle.semantics.specs.Memory.{Memory}
 use Rattle.semantics.proofs.Decoded.{edges-count}

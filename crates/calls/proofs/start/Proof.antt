@@ -1,14 +1,6 @@
 -- `calls::start` meets its contract: refused, nothing has changed; else the start is put into the words lent.
 -- Assumes nothing.
-use mathlib.Core.Path.{_≡_, sym, ap, _∙_}
-use mathlib.Core.List.{[]}
-use native.Mathlib.Omega.{arith}
-use borrow.Author.Needs.{needs}
-use denote.Ref.{now}
-use lib.IntN.{natAbs}
-use lib.ListN.{length}
-use mir.Syntax.{w32}
-use mir.ValLaws.{toZ-ofZ}
+use Rattle.semantics.proofs.Prelude.{_≡_, sym, ap, _∙_, [], arith, needs, now, natAbs, length, w32, toZ-ofZ}
 use Rattle.semantics.specs.Outcomes.{size-of, start-cases, refusal, start-outcome}
 use Rattle.checks.specs.Form.{lent}
 use Rattle.calls.proofs.Refusals.{StartPasses, start-passes, ends-refused, ends-through}

@@ -1,11 +1,5 @@
 -- `calls::start_refusal` meets its contract: 11 and 12, then what the shared ladder says. Assumes nothing.
-use mathlib.Core.Path.{_≡_, refl, sym, ap, _∙_}
-use mathlib.Core.Bool.{true}
-use native.Mathlib.Omega.{arith}
-use borrow.Author.Needs.{needs}
-use borrow.Author.Tests.{not-true, not-false}
-use mir.Syntax.{w32}
-use mir.ValLaws.{toZ-ofZ}
+use Rattle.semantics.proofs.Prelude.{_≡_, refl, sym, ap, _∙_, true, arith, needs, not-true, not-false, w32, toZ-ofZ}
 use Rattle.semantics.specs.Algorithm.{allowed}
 use Rattle.semantics.specs.Memory.{capacity-ok}
 use Rattle.semantics.proofs.ListFacts.{from-true}

@@ -1,12 +1,6 @@
 -- `calls::start_through` meets its contract: the capacity's words are lent, and the start is put into them. Assumes
 -- nothing.
-use mathlib.Core.Path.{sym}
-use Prim.Native.Nat.{_*_, _≤_}
-use native.Mathlib.Omega.{arith}
-use borrow.Author.Needs.{needs}
-use denote.Ref.{now}
-use lib.ListN.{length}
-use lib.Seq.{length-take-le}
+use Rattle.semantics.proofs.Prelude.{sym, _*_, _≤_, arith, needs, now, length, length-take-le}
 use Rattle.semantics.specs.Encoding.{decode}
 use Rattle.state.proofs.Layouts.{LayoutOf, is-layout, slots-in}
 use Rattle.checks.specs.Form.{lent}

@@ -1,8 +1,6 @@
 -- `chart::byte_word` meets its contract. Assumes nothing.
-use native.Mathlib.Omega.{arith}
+use Rattle.semantics.proofs.Prelude.{arith, w32, needs}
 use mir.Facts.{toZ-pos}
-use mir.Syntax.{w32}
-use borrow.Author.Needs.{needs}
 use Rattle.chart.proofs.byte_word.Statement.{statement}
 use Rattle.chart.proofs.byte_word.Tie as tie
 

@@ -1,8 +1,5 @@
 -- `chart::edges_ok` meets its contract. Assumes nothing.
-use mathlib.Core.Path.{sym}
-use Prim.Native.Nat.{_-_}
-use native.Mathlib.Omega.{arith}
-use lib.ListN.{length-take, length-drop}
+use Rattle.semantics.proofs.Prelude.{sym, _-_, arith, length-take, length-drop}
 use Rattle.semantics.specs.Layout.{edge-size}
 use Rattle.chart.specs.Encoded.{edge-fine}
 use Rattle.chart.proofs.RowLoops.{Passed, rows-start, rows-turn, rows-end}

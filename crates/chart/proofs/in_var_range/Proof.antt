@@ -1,8 +1,5 @@
 -- `chart::in_var_range` meets its contract. Assumes nothing.
-use mathlib.Core.Path.{_∙_}
-use borrow.Author.Needs.{needs, sfits-of}
-use mir.Syntax.{w32}
-use mir.ValLaws.{toZ-ofZ}
+use Rattle.semantics.proofs.Prelude.{_∙_, needs, sfits-of, w32, toZ-ofZ}
 use Rattle.semantics.specs.Encoding.{word-at}
 use Rattle.chart.specs.Encoded.{ranged}
 use Rattle.words.proofs.Words.{told}

@@ -1,9 +1,5 @@
 -- `chart::init_word_ok` meets its contract. Assumes nothing.
-use borrow.Author.Needs.{needs}
-use lib.IntN.{pos}
-use mir.Syntax.{w32}
-use mir.Facts.{sfits-lit}
-use mir.ValLaws.{toZ-ofZ}
+use Rattle.semantics.proofs.Prelude.{needs, pos, w32, sfits-lit, toZ-ofZ}
 use Rattle.words.proofs.Words.{bits-eq, bits-ne}
 use Rattle.chart.proofs.init_word_ok.Statement.{statement}
 use Rattle.chart.proofs.init_word_ok.Tie as tie

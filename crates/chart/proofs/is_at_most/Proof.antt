@@ -1,7 +1,5 @@
 -- `chart::is_at_most` meets its contract. Assumes nothing.
-use borrow.Author.Needs.{needs}
-use mir.Syntax.{w32}
-use mir.ValLaws.{toZ-ofZ}
+use Rattle.semantics.proofs.Prelude.{needs, w32, toZ-ofZ}
 use Rattle.words.proofs.Words.{from-zero}
 use Rattle.chart.proofs.is_at_most.Statement.{statement}
 use Rattle.chart.proofs.is_at_most.Tie as tie

@@ -1,9 +1,5 @@
 -- `chart::is_name_byte` meets its contract. Assumes nothing.
-use borrow.Author.Needs.{needs}
-use lib.IntN.{pos}
-use mir.Syntax.{w32}
-use mir.Facts.{sfits-lit}
-use mir.ValLaws.{toZ-ofZ}
+use Rattle.semantics.proofs.Prelude.{needs, pos, w32, sfits-lit, toZ-ofZ}
 use Rattle.words.proofs.Words.{bits-eqb}
 use Rattle.chart.specs.Encoded.{name-word}
 use Rattle.chart.proofs.is_name_byte.Statement.{statement}

@@ -1,5 +1,5 @@
 -- `chart::kind_word` meets its contract. Assumes nothing.
-use mathlib.Core.Path.{sym, ap}
+use Rattle.semantics.proofs.Prelude.{sym, ap}
 use Rattle.semantics.specs.Encoding.{kind-word}
 use Rattle.chart.proofs.kind_word.Statement.{statement}
 use Rattle.chart.proofs.kind_word.Tie as tie

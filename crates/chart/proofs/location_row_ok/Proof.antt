@@ -1,10 +1,5 @@
 -- `chart::location_row_ok` meets its contract. Assumes nothing.
-use mathlib.Core.Path.{_≡_}
-use Prim.Native.Nat.{_+_, _-_}
-use native.Mathlib.Omega.{arith}
-use borrow.Author.Needs.{needs, sfits-of}
-use lib.IntN.{pos}
-use mir.Facts.{sfits-lit}
+use Rattle.semantics.proofs.Prelude.{_≡_, _+_, _-_, arith, needs, sfits-of, pos, sfits-lit}
 use Rattle.semantics.specs.Encoding.{word-at}
 use Rattle.semantics.specs.Layout.{name-size, location-size}
 use Rattle.chart.specs.Encoded.{location-fine}

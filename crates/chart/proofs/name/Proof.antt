@@ -1,12 +1,5 @@
 -- `chart::name` meets its contract. Assumes nothing.
-use mathlib.Core.Path.{_≡_, sym, ap, _∙_}
-use mathlib.Core.List.{List}
-use mathlib.Core.Logic.{⊎-elim}
-use Prim.Native.Nat.{ℕ, _+_, _-_, _*_, _≤_, _<_}
-use native.Mathlib.Omega.{arith}
-use borrow.Author.Needs.{needs}
-use lib.IntN.{ℤ}
-use lib.ListN.{length, take, drop, length-drop, drop-of-length-le}
+use Rattle.semantics.proofs.Prelude.{_≡_, sym, ap, _∙_, List, ⊎-elim, ℕ, _+_, _-_, _*_, _≤_, _<_, arith, needs, ℤ, length, take, drop, length-drop, drop-of-length-le}
 use Rattle.semantics.specs.Layout.{location-size, name-place}
 use Rattle.semantics.specs.Encoding.{loc-in, count}
 use Rattle.words.proofs.Rows.{tail}

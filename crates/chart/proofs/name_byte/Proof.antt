@@ -1,10 +1,5 @@
 -- `chart::name_byte` meets its contract. Assumes nothing.
-use mathlib.Core.Path.{_≡_, sym, ap, _∙_}
-use borrow.Author.Needs.{needs}
-use borrow.Author.Tests.{lt-ltb, le-ltb}
-use lib.IntN.{natAbs}
-use mir.Syntax.{w32}
-use mir.ValLaws.{toZ-ofZ}
+use Rattle.semantics.proofs.Prelude.{_≡_, sym, ap, _∙_, needs, lt-ltb, le-ltb, natAbs, w32, toZ-ofZ}
 use Rattle.chart.specs.Encoded.{byte-of}
 use Rattle.chart.proofs.name_byte.Statement.{statement}
 use Rattle.chart.proofs.name_byte.Tie as tie

@@ -1,12 +1,5 @@
 -- `chart::name_bytes_ok` meets its contract. Assumes nothing.
-use mathlib.Core.Path.{_≡_, refl, sym, ap, _∙_}
-use mathlib.Core.Bool.{_&&_}
-use Prim.Native.Nat.{_-_, _≤_}
-use native.Mathlib.Omega.{arith}
-use borrow.Author.Needs.{needs, sfits-of}
-use lib.ListN.{length, drop, drop-of-length-le}
-use mir.Syntax.{w32}
-use mir.ValLaws.{toZ-ofZ}
+use Rattle.semantics.proofs.Prelude.{_≡_, refl, sym, ap, _∙_, _&&_, _-_, _≤_, arith, needs, sfits-of, length, drop, drop-of-length-le, w32, toZ-ofZ}
 use Rattle.semantics.specs.Encoding.{word-at}
 use Rattle.semantics.specs.Lists.{all}
 use Rattle.chart.specs.Encoded.{name-word}

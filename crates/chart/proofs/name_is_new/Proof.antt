@@ -1,9 +1,5 @@
 -- `chart::name_is_new` meets its contract. Assumes nothing.
-use mathlib.Core.Path.{sym, ap}
-use Prim.Native.Nat.{_-_}
-use native.Mathlib.Omega.{arith}
-use mathlib.Core.Bool.{not}
-use borrow.Author.Needs.{needs}
+use Rattle.semantics.proofs.Prelude.{sym, ap, _-_, arith, not, needs}
 use Rattle.semantics.specs.Layout.{location-size}
 use Rattle.semantics.specs.Encoding.{loc-in}
 use Rattle.chart.proofs.RowLoops.{Passed, rows-start, rows-turn, rows-end}

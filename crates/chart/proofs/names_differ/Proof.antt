@@ -1,11 +1,5 @@
 -- `chart::names_differ` meets its contract: each location left is compared with those after it. Assumes nothing.
-use mathlib.Core.Path.{_≡_, refl, sym, ap, _∙_}
-use mathlib.Core.Bool.{_&&_}
-use mathlib.Core.List.{List}
-use Prim.Native.Nat.{_+_, _-_, _*_, _≤_}
-use native.Mathlib.Omega.{arith}
-use lib.IntN.{ℤ}
-use lib.ListN.{length, take, drop, length-take, length-drop}
+use Rattle.semantics.proofs.Prelude.{_≡_, refl, sym, ap, _∙_, _&&_, List, _+_, _-_, _*_, _≤_, arith, ℤ, length, take, drop, length-take, length-drop}
 use Rattle.semantics.specs.Layout.{location-size}
 use Rattle.semantics.specs.Lists.{all}
 use Rattle.semantics.specs.Encoding.{loc-in, several, distinct-names}

@@ -1,7 +1,5 @@
 -- `chart::one_operand_ok` meets its contract. Assumes nothing.
-use borrow.Author.Needs.{needs, sfits-of}
-use lib.IntN.{pos}
-use mir.Facts.{sfits-lit}
+use Rattle.semantics.proofs.Prelude.{needs, sfits-of, pos, sfits-lit}
 use Rattle.semantics.specs.Encoding.{word-at}
 use Rattle.chart.specs.Encoded.{one-fine}
 use Rattle.words.proofs.Words.{told, tested}

@@ -1,9 +1,5 @@
 -- `chart::operand_ok` meets its contract. Assumes nothing.
-use borrow.Author.Needs.{needs}
-use lib.IntN.{pos}
-use mir.Syntax.{w32}
-use mir.Facts.{sfits-lit}
-use mir.ValLaws.{toZ-ofZ}
+use Rattle.semantics.proofs.Prelude.{needs, pos, w32, sfits-lit, toZ-ofZ}
 use Rattle.words.proofs.Words.{bits-eq, bits-ne, bits-eqb}
 use Rattle.chart.specs.Encoded.{operand-fine}
 use Rattle.chart.proofs.operand_ok.Statement.{statement}

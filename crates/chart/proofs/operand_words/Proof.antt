@@ -1,9 +1,6 @@
 -- `chart::operand_words` meets its contract. Assumes nothing.
-use mathlib.Core.Path.{refl}
-use native.Mathlib.Omega.{arith}
+use Rattle.semantics.proofs.Prelude.{refl, arith, w32, needs}
 use mir.Facts.{toZ-pos}
-use mir.Syntax.{w32}
-use borrow.Author.Needs.{needs}
 use Rattle.chart.proofs.operand_words.Statement.{statement}
 use Rattle.chart.proofs.operand_words.Tie as tie
 

@@ -1,7 +1,5 @@
 -- `chart::operands_ok` meets its contract. Assumes nothing.
-use mathlib.Core.Path.{_≡_}
-use borrow.Author.Needs.{needs}
-use borrow.Author.Tests.{ne-eqb}
+use Rattle.semantics.proofs.Prelude.{_≡_, needs, ne-eqb}
 use Rattle.semantics.specs.Layout.{add-code, sub-code, in-code}
 use Rattle.chart.specs.Encoded.{operands-fine}
 use Rattle.chart.proofs.operands_ok.Statement.{statement}

@@ -1,7 +1,5 @@
 -- `chart::operation_ok` meets its contract. Assumes nothing.
-use mathlib.Core.Path.{sym, _∙_}
-use borrow.Author.Needs.{needs, sfits-of}
-use borrow.Author.Tests.{eq-eqb, ne-eqb}
+use Rattle.semantics.proofs.Prelude.{sym, _∙_, needs, sfits-of, eq-eqb, ne-eqb}
 use Rattle.semantics.specs.Encoding.{word-at, count}
 use Rattle.chart.specs.Encoded.{operation-fine}
 use Rattle.words.proofs.Words.{told}

@@ -1,15 +1,5 @@
 -- `chart::put_bytes` meets its contract. Assumes nothing.
-use mathlib.Core.List.{_++_, map, append-nil}
-use mathlib.Core.Path.{_≡_, refl, sym, _∙_}
-use Prim.Native.Nat.{_-_, _≤_}
-use native.Mathlib.Omega.{arith}
-use lib.IntN.{pos}
-use lib.ListN.{length, getD, take, drop, length-set, drop-of-length-le}
-use lib.Seq.{take-all}
-use denote.Ref.{now}
-use mir.Val.{toZ, ofZ}
-use mir.Syntax.{w32}
-use borrow.Author.Needs.{needs}
+use Rattle.semantics.proofs.Prelude.{_++_, map, append-nil, _≡_, refl, sym, _∙_, _-_, _≤_, arith, pos, length, getD, take, drop, length-set, drop-of-length-le, take-all, now, toZ, ofZ, w32, needs}
 use Rattle.chart.proofs.Storing.{bytes-turn}
 use Rattle.chart.proofs.put_bytes.Statement.{statement}
 use Rattle.chart.proofs.put_bytes.Tie as tie

@@ -1,13 +1,6 @@
 -- `chart::put_chart` meets its contract. Assumes nothing.
-use mathlib.Core.List.{[], _∷_}
-use mathlib.Core.Path.{_≡_, _∙_}
-use native.Mathlib.Omega.{arith}
-use lib.IntN.{pos}
-use denote.Ref.{now}
-use mir.Val.{toZ}
+use Rattle.semantics.proofs.Prelude.{[], _∷_, _≡_, _∙_, arith, pos, now, toZ, w32, needs}
 use mir.Facts.{toZ-pos}
-use mir.Syntax.{w32}
-use borrow.Author.Needs.{needs}
 use Rattle.chart.proofs.Storing.{stored-then}
 use Rattle.chart.proofs.put_chart.Statement.{statement}
 use Rattle.chart.proofs.put_chart.Tie as tie

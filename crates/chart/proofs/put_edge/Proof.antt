@@ -1,11 +1,6 @@
 -- `chart::put_edge` meets its contract. Assumes nothing.
-use mathlib.Core.Path.{_≡_, _∙_}
-use native.Mathlib.Omega.{arith}
-use lib.IntN.{pos}
-use mir.Val.{toZ, ofZ}
+use Rattle.semantics.proofs.Prelude.{_≡_, _∙_, arith, pos, toZ, ofZ, w32, needs}
 use mir.Facts.{toZ-pos}
-use mir.Syntax.{w32}
-use borrow.Author.Needs.{needs}
 use Rattle.chart.proofs.put_edge.Statement.{statement}
 use Rattle.chart.proofs.put_edge.Tie as tie
 

@@ -1,12 +1,5 @@
 -- `chart::put_location` meets its contract. Assumes nothing.
-use mathlib.Core.List.{List, map}
-use mathlib.Core.Path.{_≡_, sym, ap, _∙_}
-use Prim.Native.Nat.{ℕ, suc, _+_, _-_}
-use native.Mathlib.Omega.{arith}
-use lib.IntN.{pos}
-use lib.ListN.{length, length-map}
-use denote.Ref.{now}
-use borrow.Author.Needs.{needs, sfits-of}
+use Rattle.semantics.proofs.Prelude.{List, map, _≡_, sym, ap, _∙_, ℕ, suc, _+_, _-_, arith, pos, length, length-map, now, needs, sfits-of}
 use Rattle.semantics.specs.Layout.{name-size}
 use Rattle.semantics.specs.Encoding.{padded}
 use Rattle.semantics.proofs.Stored.{padded-length}

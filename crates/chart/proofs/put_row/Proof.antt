@@ -1,5 +1,5 @@
 -- `chart::put_row` meets its contract. Assumes nothing.
-use borrow.Author.Needs.{needs}
+use Rattle.semantics.proofs.Prelude.{needs}
 use Rattle.words.proofs.Rows.{span, part-length}
 use Rattle.chart.specs.Rows.{stored}
 use Rattle.chart.proofs.put_row.Statement.{statement}

@@ -1,8 +1,5 @@
 -- `chart::put_variable` meets its contract. Assumes nothing.
-use mathlib.Core.Path.{_≡_, _∙_}
-use mir.Syntax.{w32}
-use mir.Val.{toZ, ofZ}
-use borrow.Author.Needs.{needs}
+use Rattle.semantics.proofs.Prelude.{_≡_, _∙_, w32, toZ, ofZ, needs}
 use Rattle.semantics.proofs.Reloaded.{word-back}
 use Rattle.chart.proofs.put_variable.Statement.{statement}
 use Rattle.chart.proofs.put_variable.Tie as tie

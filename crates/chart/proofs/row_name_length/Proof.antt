@@ -1,12 +1,5 @@
 -- `chart::row_name_length` meets its contract. Assumes nothing.
-use mathlib.Core.Path.{_≡_, sym, _∙_}
-use Prim.Native.Nat.{_+_, _-_, _≤_}
-use native.Mathlib.Omega.{arith}
-use borrow.Author.Needs.{needs, sfits-of}
-use lib.IntN.{pos}
-use lib.ListN.{length, drop}
-use mir.Syntax.{w32}
-use mir.Facts.{sfits-lit}
+use Rattle.semantics.proofs.Prelude.{_≡_, sym, _∙_, _+_, _-_, _≤_, arith, needs, sfits-of, pos, length, drop, w32, sfits-lit}
 use Rattle.semantics.specs.Layout.{name-size}
 use Rattle.semantics.specs.Encoding.{word-at, name-in, loc-in}
 use Rattle.words.proofs.Words.{bits-eq, bits-ne}

@@ -1,5 +1,5 @@
 -- `chart::rows_ok` meets its contract. Assumes nothing.
-use borrow.Author.Needs.{needs}
+use Rattle.semantics.proofs.Prelude.{needs}
 use Rattle.semantics.specs.Layout.{counts-size}
 use Rattle.chart.specs.Encoded.{rows-fine}
 use Rattle.words.proofs.Rows.{tail}

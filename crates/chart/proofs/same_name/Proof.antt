@@ -1,9 +1,5 @@
 -- `chart::same_name` meets its contract. Assumes nothing.
-use mathlib.Core.Path.{_≡_, refl, sym, _∙_}
-use Prim.Native.Nat.{_+_, _-_, _≤_}
-use native.Mathlib.Omega.{arith}
-use borrow.Author.Needs.{needs}
-use lib.ListN.{drop}
+use Rattle.semantics.proofs.Prelude.{_≡_, refl, sym, _∙_, _+_, _-_, _≤_, arith, needs, drop}
 use Rattle.semantics.specs.Layout.{name-size}
 use Rattle.semantics.specs.Text.{same-bytes}
 use Rattle.semantics.specs.Encoding.{name-in, loc-in}

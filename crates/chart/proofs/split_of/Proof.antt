@@ -1,11 +1,7 @@
 -- `chart::split_of` meets its contract. Assumes nothing.
-use mathlib.Core.Path.{_≡_, refl}
-use mathlib.Core.List.{[], _∷_}
-use Prim.Native.Nat.{ℕ}
-use lib.IntN.{pos}
-use borrow.Author.Needs.{needs}
+use Rattle.semantics.proofs.Prelude.{_≡_, refl, [], _∷_, ℕ, pos, needs}
 use Rattle.semantics.specs.Chart.{Operand}
-use Rattle.semantics.specs.Encoding.{tag, held, op-words}
+use Rattle.semantics.specs.Encoding.{tag, operand-word, op-words}
 use Rattle.semantics.specs.Operations.{the-sum}
 use Rattle.semantics.specs.declared.Arithmetic.{Arithmetic}
 use Rattle.semantics.specs.declared.Arithmetic.the-variants as arithmetic
@@ -13,7 +9,7 @@ use Rattle.chart.specs.Rows.{sum-code}
 use Rattle.chart.proofs.split_of.Statement.{statement}
 use Rattle.chart.proofs.split_of.Tie as tie
 
-sum-words : (s : Arithmetic) (v : ℕ) (a b : Operand) → pos (sum-code s) ∷ pos v ∷ tag a ∷ held a ∷ tag b ∷ held b ∷ [] ≡ op-words (the-sum s v a b)
+sum-words : (s : Arithmetic) (v : ℕ) (a b : Operand) → pos (sum-code s) ∷ pos v ∷ tag a ∷ operand-word a ∷ tag b ∷ operand-word b ∷ [] ≡ op-words (the-sum s v a b)
 sum-words arithmetic.Add v a b = refl
 sum-words arithmetic.Sub v a b = refl
 

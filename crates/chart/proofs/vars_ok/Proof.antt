@@ -1,8 +1,5 @@
 -- `chart::vars_ok` meets its contract. Assumes nothing.
-use mathlib.Core.Path.{sym}
-use Prim.Native.Nat.{_-_}
-use native.Mathlib.Omega.{arith}
-use borrow.Author.Needs.{needs}
+use Rattle.semantics.proofs.Prelude.{sym, _-_, arith, needs}
 use Rattle.semantics.specs.Layout.{variable-size}
 use Rattle.semantics.specs.Encoding.{var-in, var-ok}
 use Rattle.chart.proofs.RowLoops.{Passed, rows-start, rows-turn, rows-end}

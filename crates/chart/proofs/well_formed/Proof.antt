@@ -1,9 +1,5 @@
 -- `chart::well_formed` meets its contract. Assumes nothing.
-use mathlib.Core.Path.{sym, _∙_}
-use Prim.Native.Nat.{_*_, _+_, _≤_}
-use native.Mathlib.Omega.{arith}
-use borrow.Author.Needs.{needs}
-use lib.ListN.{length}
+use Rattle.semantics.proofs.Prelude.{sym, _∙_, _*_, _+_, _≤_, arith, needs, length}
 use Rattle.semantics.specs.Layout.{edge-size}
 use Rattle.semantics.specs.Encoding.{count}
 use Rattle.chart.specs.Encoded.{edges-at}

@@ -1,8 +1,5 @@
 -- `checks::analysis_ok` meets its contract. Assumes nothing.
-use mathlib.Core.Path.{ap, _∙_}
-use mathlib.Core.Bool.{_&&_}
-use Prim.Native.Nat.{ℕ}
-use borrow.Author.Needs.{needs}
+use Rattle.semantics.proofs.Prelude.{ap, _∙_, _&&_, ℕ, needs}
 use Rattle.semantics.specs.Lists.{all-of}
 use Rattle.semantics.specs.Memory.{record-tests}
 use Rattle.checks.proofs.FormTests.{both-parts}

@@ -1,5 +1,5 @@
 -- `checks::edge_ok` meets its contract. Assumes nothing.
-use borrow.Author.Needs.{needs}
+use Rattle.semantics.proofs.Prelude.{needs}
 use Rattle.checks.proofs.edge_ok.Statement.{statement}
 use Rattle.checks.proofs.edge_ok.Tie as tie
 

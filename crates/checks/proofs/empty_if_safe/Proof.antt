@@ -1,5 +1,5 @@
 -- `checks::empty_if_safe` meets its contract. Assumes nothing.
-use borrow.Author.Needs.{needs}
+use Rattle.semantics.proofs.Prelude.{needs}
 use Rattle.checks.proofs.empty_if_safe.Statement.{statement}
 use Rattle.checks.proofs.empty_if_safe.Tie as tie
 

@@ -1,10 +1,5 @@
 -- `checks::form_refusal` meets its contract: 21 where 20 and 14 refuse nothing. Assumes nothing.
-use mathlib.Core.Path.{_≡_, sym, ap, _∙_}
-use mathlib.Core.Bool.{Bool, not}
-use mathlib.Core.List.{List, [], _∷_}
-use borrow.Author.Needs.{needs}
-use borrow.Author.Tests.{not-true, not-false}
-use lib.ListN.{length}
+use Rattle.semantics.proofs.Prelude.{_≡_, sym, ap, _∙_, Bool, not, List, [], _∷_, needs, not-true, not-false, length}
 use Rattle.semantics.specs.Encoding.{decode}
 use Rattle.semantics.specs.Memory.{analysis-ok}
 use Rattle.semantics.specs.Outcomes.{Case, case, refusal, size-of, form-of}

@@ -1,13 +1,5 @@
 -- `checks::lent_ok` meets its contract: the counts first, then all the rest. Assumes nothing.
-use mathlib.Core.Path.{sym, ap, _∙_}
-use mathlib.Core.Bool.{_&&_, and-assoc, and-true}
-use Prim.Native.Nat.{ℕ, _*_, _≤_}
-use native.Mathlib.Nat.{mul-le-mul-right}
-use native.Mathlib.Omega.{arith}
-use borrow.Author.Needs.{needs}
-use borrow.Author.Tests.{le-leb, lt-leb}
-use lib.ListN.{length, take, drop}
-use lib.Seq.{length-take-le}
+use Rattle.semantics.proofs.Prelude.{sym, ap, _∙_, _&&_, and-assoc, and-true, ℕ, _*_, _≤_, mul-le-mul-right, arith, needs, le-leb, lt-leb, length, take, drop, length-take-le}
 use Rattle.semantics.specs.Memory.{zeros}
 use Rattle.words.proofs.Rows.{drop-take}
 use Rattle.state.proofs.Layouts.{is-layout}

@@ -1,6 +1,5 @@
 -- `checks::record_ok` meets its contract. Assumes nothing.
-use mathlib.Core.Bool.{and-assoc, and-true}
-use borrow.Author.Needs.{needs}
+use Rattle.semantics.proofs.Prelude.{and-assoc, and-true, needs}
 use Rattle.checks.proofs.record_ok.Statement.{statement}
 use Rattle.checks.proofs.record_ok.Tie as tie
 

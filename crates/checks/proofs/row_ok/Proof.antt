@@ -1,11 +1,5 @@
 -- `checks::row_ok` meets its contract. Assumes nothing.
-use mathlib.Core.Path.{ap, _∙_}
-use mathlib.Core.Bool.{_&&_}
-use native.Mathlib.Omega.{arith}
-use borrow.Author.Needs.{needs, sfits-of}
-use lib.ListN.{length, drop, length-drop}
-use mir.Syntax.{w32}
-use mir.ValLaws.{toZ-ofZ}
+use Rattle.semantics.proofs.Prelude.{ap, _∙_, _&&_, arith, needs, sfits-of, length, drop, length-drop, w32, toZ-ofZ}
 use Rattle.semantics.specs.Lists.{all-pairs}
 use Rattle.semantics.specs.Layout.{counts-size, variable-size}
 use Rattle.semantics.specs.Encoding.{several, var-in}

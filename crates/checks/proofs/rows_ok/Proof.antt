@@ -1,16 +1,6 @@
 -- `checks::rows_ok` meets its contract. The invariant: `from` is the first word of slot s, and the slots in use pass
 -- exactly when those from s on do. Assumes nothing.
-use mathlib.Core.Path.{_≡_, sym, ap, _∙_}
-use mathlib.Core.Bool.{Bool, true, false, _&&_}
-use mathlib.Core.List.{List}
-use Prim.Native.Nat.{ℕ, suc, _+_, _-_, _*_, _≤_}
-use native.Mathlib.Nat.{sub-zero, suc-mul, zero-mul}
-use native.Mathlib.Numerals.{add-one}
-use native.Mathlib.Omega.{arith}
-use borrow.Author.Needs.{needs}
-use borrow.Author.Tests.{not-true, not-false}
-use lib.IntN.{ℤ}
-use lib.ListN.{length, drop}
+use Rattle.semantics.proofs.Prelude.{_≡_, sym, ap, _∙_, Bool, true, false, _&&_, List, ℕ, suc, _+_, _-_, _*_, _≤_, sub-zero, suc-mul, zero-mul, add-one, arith, needs, not-true, not-false, ℤ, length, drop}
 use Rattle.semantics.specs.Encoding.{decode}
 use Rattle.semantics.specs.Memory.{width, rows-ok}
 use Rattle.words.proofs.Rows.{span, part-length, row-in}

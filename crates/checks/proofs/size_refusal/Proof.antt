@@ -1,12 +1,5 @@
 -- `checks::size_refusal` meets its contract. Assumes nothing.
-use mathlib.Core.Path.{_≡_, refl, sym, _∙_}
-use mathlib.Core.Bool.{Bool, true, _||_, not}
-use mathlib.Core.List.{[], _∷_}
-use Prim.Native.Nat.{_*_}
-use native.Mathlib.Omega.{arith}
-use lib.Dec.{ltb}
-use borrow.Author.Needs.{needs}
-use borrow.Author.Tests.{not-true, not-false}
+use Rattle.semantics.proofs.Prelude.{_≡_, refl, sym, _∙_, Bool, true, _||_, not, [], _∷_, _*_, arith, ltb, needs, not-true, not-false}
 use Rattle.semantics.specs.Encoding.{decode, well-formed}
 use Rattle.semantics.specs.Outcomes.{case, refusal, too-few, size-of}
 use Rattle.state.proofs.Layouts.{is-layout}

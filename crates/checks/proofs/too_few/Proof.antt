@@ -1,7 +1,5 @@
 -- `checks::too_few` meets its contract. Assumes nothing.
-use native.Mathlib.Nat.{mul-le-mul}
-use native.Mathlib.Omega.{arith}
-use borrow.Author.Needs.{needs}
+use Rattle.semantics.proofs.Prelude.{mul-le-mul, arith, needs}
 use Rattle.semantics.specs.Layout.{index-limit}
 use Rattle.checks.proofs.too_few.Statement.{statement}
 use Rattle.checks.proofs.too_few.Tie as tie

@@ -1,8 +1,5 @@
 -- `checks::value_ok` meets its contract. Assumes nothing.
-use borrow.Author.Needs.{needs}
-use mir.Syntax.{w32}
-use mir.Facts.{sfits-lit}
-use mir.ValLaws.{toZ-ofZ}
+use Rattle.semantics.proofs.Prelude.{needs, w32, sfits-lit, toZ-ofZ}
 use Rattle.semantics.specs.Layout.{top-word}
 use Rattle.words.proofs.Words.{bits-eqb}
 use Rattle.checks.proofs.value_ok.Statement.{statement}

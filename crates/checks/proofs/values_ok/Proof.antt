@@ -1,17 +1,6 @@
 -- `checks::values_ok` meets its contract. The invariant: the values pass exactly when what is left passes.
 -- Assumes nothing.
-use mathlib.Core.Path.{_≡_, sym, ap, _∙_}
-use mathlib.Core.Bool.{Bool, true, false, _&&_, _||_}
-use mathlib.Core.List.{List}
-use Prim.Native.Nat.{ℕ, suc, _+_, _-_, _≤_}
-use native.Mathlib.Nat.{sub-zero}
-use native.Mathlib.Omega.{arith}
-use borrow.Author.Needs.{needs, sfits-of}
-use borrow.Author.Tests.{not-true, not-false}
-use lib.IntN.{ℤ}
-use lib.ListN.{length, drop, drop-of-length-le}
-use mir.Syntax.{w32}
-use mir.ValLaws.{toZ-ofZ}
+use Rattle.semantics.proofs.Prelude.{_≡_, sym, ap, _∙_, Bool, true, false, _&&_, _||_, List, ℕ, suc, _+_, _-_, _≤_, sub-zero, arith, needs, sfits-of, not-true, not-false, ℤ, length, drop, drop-of-length-le, w32, toZ-ofZ}
 use Rattle.semantics.specs.Lists.{all-pairs}
 use Rattle.semantics.specs.Chart.{eqZ, within}
 use Rattle.semantics.specs.Layout.{top-word, counts-size, variable-size, variable-at, high-place}

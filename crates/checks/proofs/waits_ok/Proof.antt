@@ -1,15 +1,5 @@
 -- `checks::waits_ok` meets its contract. The invariant: the list passes exactly when what is left passes. Assumes nothing.
-use mathlib.Core.Path.{_≡_, refl, sym, _∙_}
-use mathlib.Core.Bool.{Bool, true, false, _&&_, not}
-use mathlib.Core.List.{List}
-use Prim.Native.Nat.{ℕ, _+_, _-_, _≤_}
-use native.Mathlib.Omega.{arith}
-use borrow.Author.Needs.{needs, sfits-of}
-use borrow.Author.Tests.{not-true, not-false}
-use lib.IntN.{ℤ}
-use lib.ListN.{length, drop, drop-of-length-le}
-use mir.Syntax.{w32}
-use mir.ValLaws.{toZ-ofZ}
+use Rattle.semantics.proofs.Prelude.{_≡_, refl, sym, _∙_, Bool, true, false, _&&_, not, List, ℕ, _+_, _-_, _≤_, arith, needs, sfits-of, not-true, not-false, ℤ, length, drop, drop-of-length-le, w32, toZ-ofZ}
 use Rattle.semantics.specs.Lists.{all, some-of}
 use Rattle.semantics.specs.Chart.{eqZ}
 use Rattle.semantics.specs.Encoding.{word-at}

@@ -1,12 +1,5 @@
 -- `listing::listing` meets its contract. Assumes nothing.
-use mathlib.Core.Path.{_≡_, sym, ap, _∙_}
-use mathlib.Core.List.{List, _++_}
-use Prim.Native.Nat.{ℕ, _+_, _≤_}
-use native.Mathlib.Nat.{zero-add}
-use native.Mathlib.Omega.{arith}
-use borrow.Author.Needs.{needs}
-use lib.IntN.{ℤ}
-use lib.ListN.{length, drop}
+use Rattle.semantics.proofs.Prelude.{_≡_, sym, ap, _∙_, List, _++_, ℕ, _+_, _≤_, zero-add, arith, needs, ℤ, length, drop}
 use Rattle.semantics.specs.Encoding.{decode}
 use Rattle.semantics.specs.Memory.{Memory}
 use Rattle.semantics.specs.Outcomes.{Outcome, fine, refusal, text-of}

@@ -1,14 +1,5 @@
 -- `listing::listing_refusal` meets its contract: what the shared ladder says, then 15. Assumes nothing.
-use mathlib.Core.Path.{_≡_, sym, ap, _∙_}
-use mathlib.Core.Bool.{Bool}
-use mathlib.Core.List.{List, [], _∷_}
-use Prim.Native.Nat.{ℕ}
-use native.Mathlib.Omega.{arith}
-use borrow.Author.Needs.{needs}
-use borrow.Author.Tests.{lt-ltb, le-ltb}
-use lib.Dec.{ltb}
-use lib.IntN.{ℤ}
-use lib.ListN.{length}
+use Rattle.semantics.proofs.Prelude.{_≡_, sym, ap, _∙_, Bool, List, [], _∷_, ℕ, arith, needs, lt-ltb, le-ltb, ltb, ℤ, length}
 use Rattle.semantics.specs.Encoding.{decode}
 use Rattle.semantics.specs.Memory.{Memory}
 use Rattle.semantics.specs.Outcomes.{Case, case, refusal, form-of, text-of, listing-cases}

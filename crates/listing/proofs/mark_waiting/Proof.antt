@@ -1,15 +1,6 @@
 -- `listing::mark_waiting` meets its contract. The invariant: setting the marks of the slots left gives those of the
 -- whole list. Assumes nothing.
-use mathlib.Core.Path.{_≡_, refl, sym, ap, _∙_}
-use mathlib.Core.Bool.{Bool, true}
-use mathlib.Core.List.{List, map}
-use Prim.Native.Nat.{ℕ, _+_, _-_, _≤_}
-use native.Mathlib.Omega.{arith}
-use borrow.Author.Needs.{needs, sfits-of}
-use lib.IntN.{ℤ, natAbs}
-use lib.ListN.{length, drop, set, drop-of-length-le}
-use mir.Syntax.{w32}
-use mir.ValLaws.{toZ-ofZ}
+use Rattle.semantics.proofs.Prelude.{_≡_, refl, sym, ap, _∙_, Bool, true, List, map, ℕ, _+_, _-_, _≤_, arith, needs, sfits-of, ℤ, natAbs, length, drop, set, drop-of-length-le, w32, toZ-ofZ}
 use Rattle.semantics.specs.Encoding.{count}
 use Rattle.listing.specs.Pieces.{marked}
 use Rattle.listing.proofs.TextPieces.{marks-turn}

@@ -1,5 +1,5 @@
 -- `listing::put_header` meets its contract. Assumes nothing.
-use borrow.Author.Needs.{needs}
+use Rattle.semantics.proofs.Prelude.{needs}
 use Rattle.writer.proofs.Written.{put-then, put-same}
 use Rattle.listing.proofs.TextPieces.{header-is}
 use Rattle.listing.proofs.put_header.Statement.{statement}

@@ -1,5 +1,5 @@
 -- `listing::put_mark` meets its contract. Assumes nothing.
-use borrow.Author.Needs.{needs}
+use Rattle.semantics.proofs.Prelude.{needs}
 use Rattle.listing.proofs.put_mark.Statement.{statement}
 use Rattle.listing.proofs.put_mark.Tie as tie
 

@@ -1,5 +1,5 @@
 -- `listing::put_mode` meets its contract. Assumes nothing.
-use borrow.Author.Needs.{needs}
+use Rattle.semantics.proofs.Prelude.{needs}
 use Rattle.listing.proofs.put_mode.Statement.{statement}
 use Rattle.listing.proofs.put_mode.Tie as tie
 

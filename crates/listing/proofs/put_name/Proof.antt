@@ -1,16 +1,6 @@
 -- `listing::put_name` meets its contract. The invariant: with the bytes left, the name is written after the tab.
 -- Assumes nothing.
-use mathlib.Core.Path.{_≡_, refl, sym, ap, _∙_}
-use mathlib.Core.List.{List, map}
-use Prim.Native.Nat.{ℕ, _-_, _≤_}
-use native.Mathlib.Numerals.{add-one}
-use native.Mathlib.Omega.{arith}
-use borrow.Author.Needs.{needs, sfits-of}
-use lib.IntN.{pos, natAbs}
-use lib.ListN.{length, getD, length-map, List·getD-map, drop-of-length-le, drop}
-use lib.Seq.{drop-cons}
-use mir.Syntax.{w32}
-use mir.ValLaws.{toZ-ofZ}
+use Rattle.semantics.proofs.Prelude.{_≡_, refl, sym, ap, _∙_, List, map, ℕ, _-_, _≤_, add-one, arith, needs, sfits-of, pos, natAbs, length, getD, length-map, List·getD-map, drop-of-length-le, drop, drop-cons, w32, toZ-ofZ}
 use Rattle.chart.specs.Encoded.{byte-of}
 use Rattle.chart.proofs.NameBytes.{names-are-bytes}
 use Rattle.writer.proofs.Written.{put-then, put-same, Completes, one-more, all-put}

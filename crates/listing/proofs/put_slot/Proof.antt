@@ -1,6 +1,5 @@
 -- `listing::put_slot` meets its contract. Assumes nothing.
-use mathlib.Core.Path.{ap}
-use borrow.Author.Needs.{needs}
+use Rattle.semantics.proofs.Prelude.{ap, needs}
 use Rattle.semantics.specs.Encoding.{decode}
 use Rattle.writer.proofs.Written.{put-then, put-same}
 use Rattle.listing.specs.Pieces.{values-text}

@@ -1,16 +1,6 @@
 -- `listing::put_slots` meets its contract. The invariant: `from` is the first word of slot s, and the lines of the
 -- slots before it are written. Assumes nothing.
-use mathlib.Core.Path.{_≡_, refl, sym, ap, _∙_}
-use mathlib.Core.Bool.{Bool, false}
-use mathlib.Core.List.{List, _++_, map}
-use Prim.Native.Nat.{ℕ, _+_, _-_, _*_, _≤_, suc}
-use native.Mathlib.Nat.{suc-mul, zero-mul, sub-zero}
-use native.Mathlib.Numerals.{add-one}
-use native.Mathlib.Omega.{arith}
-use borrow.Author.Needs.{needs}
-use lib.Dec.{eqb}
-use lib.IntN.{ℤ, natAbs}
-use lib.ListN.{length, take, drop, getD}
+use Rattle.semantics.proofs.Prelude.{_≡_, refl, sym, ap, _∙_, Bool, false, List, _++_, map, ℕ, _+_, _-_, _*_, _≤_, suc, suc-mul, zero-mul, sub-zero, add-one, arith, needs, eqb, ℤ, natAbs, length, take, drop, getD}
 use Rattle.semantics.specs.Layout.{most-slots}
 use Rattle.semantics.specs.Lists.{some-of}
 use Rattle.semantics.specs.Encoding.{decode}

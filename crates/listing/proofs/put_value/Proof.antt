@@ -1,8 +1,5 @@
 -- `listing::put_value` meets its contract. Assumes nothing.
-use borrow.Author.Needs.{needs}
-use mir.Syntax.{w32}
-use mir.Facts.{sfits-lit}
-use mir.ValLaws.{toZ-ofZ}
+use Rattle.semantics.proofs.Prelude.{needs, w32, sfits-lit, toZ-ofZ}
 use Rattle.semantics.specs.Layout.{top-word}
 use Rattle.words.proofs.Words.{bits-eq, bits-ne}
 use Rattle.writer.proofs.Written.{put-then}

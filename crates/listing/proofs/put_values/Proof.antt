@@ -1,11 +1,5 @@
 -- `listing::put_values` meets its contract. The invariant: with the values left, all are written. Assumes nothing.
-use mathlib.Core.Path.{_≡_, refl, _∙_}
-use Prim.Native.Nat.{_-_, _≤_}
-use native.Mathlib.Omega.{arith}
-use borrow.Author.Needs.{needs, sfits-of}
-use lib.ListN.{length, drop, drop-of-length-le}
-use mir.Syntax.{w32}
-use mir.ValLaws.{toZ-ofZ}
+use Rattle.semantics.proofs.Prelude.{_≡_, refl, _∙_, _-_, _≤_, arith, needs, sfits-of, length, drop, drop-of-length-le, w32, toZ-ofZ}
 use Rattle.writer.proofs.Written.{Completes, one-more, all-put}
 use Rattle.listing.specs.Pieces.{values-text}
 use Rattle.listing.proofs.TextPieces.{values-turn}

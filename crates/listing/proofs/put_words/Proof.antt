@@ -1,5 +1,5 @@
 -- `listing::put_words` meets its contract. Assumes nothing.
-use borrow.Author.Needs.{needs}
+use Rattle.semantics.proofs.Prelude.{needs}
 use Rattle.writer.proofs.Written.{put-then}
 use Rattle.listing.specs.Pieces.{words-text}
 use Rattle.listing.proofs.put_words.Statement.{statement}

@@ -1,6 +1,5 @@
 -- `listing::set_mark` meets its contract. Assumes nothing.
-use mathlib.Core.Bool.{true}
-use borrow.Author.Needs.{needs}
+use Rattle.semantics.proofs.Prelude.{true, needs}
 use Rattle.listing.proofs.TextPieces.{set-past}
 use Rattle.listing.proofs.set_mark.Statement.{statement}
 use Rattle.listing.proofs.set_mark.Tie as tie

@@ -1,10 +1,5 @@
 -- `listing::write_listing` meets its contract. Assumes nothing.
-use mathlib.Core.Path.{sym}
-use Prim.Native.Nat.{_≤_}
-use native.Mathlib.Omega.{arith}
-use native.Mathlib.Nat.{mul-le-mul-right}
-use borrow.Author.Needs.{needs}
-use lib.Seq.{length-take-le}
+use Rattle.semantics.proofs.Prelude.{sym, _≤_, arith, mul-le-mul-right, needs, length-take-le}
 use Rattle.semantics.specs.Encoding.{decode}
 use Rattle.semantics.specs.Memory.{width}
 use Rattle.semantics.proofs.Listed.{few-used}

@@ -1,8 +1,5 @@
 -- `program::begin` meets its contract. Assumes nothing.
-use borrow.Author.Needs.{needs, sfits-of}
-use denote.Ref.{now}
-use mir.Syntax.{w32}
-use mir.ValLaws.{toZ-ofZ}
+use Rattle.semantics.proofs.Prelude.{needs, sfits-of, now, w32, toZ-ofZ}
 use Rattle.checks.specs.Form.{lent}
 use Rattle.program.proofs.GoThrough.{begun}
 use Rattle.program.proofs.begin.Statement.{statement}

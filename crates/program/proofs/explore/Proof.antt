@@ -1,9 +1,5 @@
 -- `program::explore` meets its contract. Assumes nothing.
-use mathlib.Core.Path.{sym, _∙_}
-use borrow.Author.Needs.{needs, sfits-of}
-use denote.Ref.{now}
-use mir.Syntax.{w32}
-use mir.ValLaws.{toZ-ofZ}
+use Rattle.semantics.proofs.Prelude.{sym, _∙_, needs, sfits-of, now, w32, toZ-ofZ}
 use Rattle.program.proofs.GoThrough.{stays, ran}
 use Rattle.program.proofs.explore.Statement.{statement}
 use Rattle.program.proofs.explore.Tie as tie

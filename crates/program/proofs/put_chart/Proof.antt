@@ -1,11 +1,5 @@
 -- `program::put_chart` meets its contract. Assumes nothing.
-use mathlib.Core.Path.{_≡_, refl}
-use mathlib.Core.List.{List}
-use Prim.Native.Nat.{ℕ, _≤_}
-use native.Mathlib.Omega.{arith}
-use borrow.Author.Needs.{needs}
-use lib.Dec.{T}
-use lib.ListN.{length}
+use Rattle.semantics.proofs.Prelude.{_≡_, refl, List, ℕ, _≤_, arith, needs, T, length}
 use Rattle.semantics.specs.Encoding.{decode, well-formed}
 use Rattle.semantics.specs.Reading.{refused, accepted, read}
 use Rattle.semantics.specs.Program.{print-read}

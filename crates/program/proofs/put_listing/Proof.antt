@@ -1,7 +1,5 @@
 -- `program::put_listing` meets its contract. Assumes nothing.
-use mathlib.Core.Path.{ap}
-use borrow.Author.Needs.{needs}
-use denote.Ref.{now}
+use Rattle.semantics.proofs.Prelude.{ap, needs, now}
 use Rattle.semantics.specs.declared.Answer.{Answer}
 use Rattle.program.proofs.GoThrough.{shown}
 use Rattle.program.proofs.put_listing.Statement.{statement}

@@ -1,5 +1,5 @@
 -- `program::put_refusal` meets its contract. Assumes nothing.
-use borrow.Author.Needs.{needs}
+use Rattle.semantics.proofs.Prelude.{needs}
 use Rattle.semantics.specs.Text.{line-of}
 use Rattle.program.proofs.put_refusal.Statement.{statement}
 use Rattle.program.proofs.put_refusal.Tie as tie

@@ -1,9 +1,5 @@
 -- `program::respond` meets its contract. Assumes nothing.
-use mathlib.Core.Path.{_≡_, subst}
-use native.Mathlib.Omega.{arith}
-use borrow.Author.Needs.{needs}
-use denote.Ref.{now}
-use lib.ListN.{length}
+use Rattle.semantics.proofs.Prelude.{_≡_, subst, arith, needs, now, length}
 use Rattle.semantics.proofs.OutputShort.{output-short}
 use Rattle.program.specs.declared.go_line.GoLine.{GoLine}
 use Rattle.program.specs.Asked.{Asks, GoRead}

@@ -1,10 +1,5 @@
 -- `program::respond_to` meets its contract. Assumes nothing.
-use mathlib.Core.Path.{_≡_, sym}
-use native.Mathlib.Omega.{arith}
-use borrow.Author.Needs.{needs}
-use denote.Ref.{now}
-use lib.ListN.{length, take}
-use lib.Seq.{length-take-le}
+use Rattle.semantics.proofs.Prelude.{_≡_, sym, arith, needs, now, length, take, length-take-le}
 use Rattle.semantics.specs.Program.{output}
 use Rattle.program.proofs.Enough.{enough}
 use Rattle.program.proofs.respond_to.Statement.{statement}

@@ -1,5 +1,5 @@
 -- `reached::get_row` meets its contract. Assumes nothing.
-use borrow.Author.Needs.{needs}
+use Rattle.semantics.proofs.Prelude.{needs}
 use Rattle.words.proofs.Rows.{span}
 use Rattle.reached.proofs.get_row.Statement.{statement}
 use Rattle.reached.proofs.get_row.Tie as tie

@@ -1,10 +1,5 @@
 -- `reached::merge_slots` meets its contract. Assumes nothing.
-use mathlib.Core.Path.{_≡_, refl, sym, _∙_}
-use mathlib.Core.List.{_++_}
-use Prim.Native.Nat.{suc, _+_, _-_, _≤_}
-use native.Mathlib.Numerals.{add-one}
-use native.Mathlib.Omega.{arith}
-use lib.ListN.{length, take, drop, take-append-drop}
+use Rattle.semantics.proofs.Prelude.{_≡_, refl, sym, _∙_, _++_, suc, _+_, _-_, _≤_, add-one, arith, length, take, drop, take-append-drop}
 use Rattle.semantics.specs.Tidy.{Queue}
 use Rattle.semantics.proofs.Tidy.{more}
 use Rattle.words.proofs.Rows.{span, part-length, length-put, drop-put}

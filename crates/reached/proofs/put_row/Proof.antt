@@ -1,5 +1,5 @@
 -- `reached::put_row` meets its contract. Assumes nothing.
-use borrow.Author.Needs.{needs}
+use Rattle.semantics.proofs.Prelude.{needs}
 use Rattle.words.proofs.Rows.{span}
 use Rattle.reached.proofs.put_row.Statement.{statement}
 use Rattle.reached.proofs.put_row.Tie as tie

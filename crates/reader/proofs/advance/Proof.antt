@@ -1,9 +1,5 @@
 -- `reader::advance` meets its contract. Assumes nothing.
-use mathlib.Core.Path.{_≡_, sym, _∙_}
-use Prim.Native.Nat.{ℕ}
-use native.Mathlib.Omega.{arith}
-use denote.Ref.{now}
-use borrow.Author.Needs.{needs}
+use Rattle.semantics.proofs.Prelude.{_≡_, sym, _∙_, ℕ, arith, now, needs}
 use Rattle.text.proofs.Places.{Lies, some-line, no-line}
 use Rattle.reader.specs.ReadSoFar.{Along}
 use Rattle.reader.specs.declared.tally.Tally.{Tally}

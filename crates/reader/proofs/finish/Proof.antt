@@ -1,6 +1,5 @@
 -- `reader::finish` meets its contract. Assumes nothing.
-use native.Mathlib.Omega.{arith}
-use borrow.Author.Needs.{needs}
+use Rattle.semantics.proofs.Prelude.{arith, needs}
 use Rattle.reader.proofs.Holding.{none-empty-list, some-list}
 use Rattle.reader.proofs.finish.Statement.{statement}
 use Rattle.reader.proofs.finish.Tie as tie

@@ -1,11 +1,5 @@
 -- `reader::hold` meets its contract. Assumes nothing.
-use mathlib.Core.Path.{_≡_, sym, _∙_}
-use Prim.Native.Nat.{_+_, _≤_}
-use native.Mathlib.Omega.{arith}
-use lib.ListN.{take, length}
-use lib.Seq.{length-take-le}
-use denote.Ref.{now}
-use borrow.Author.Needs.{needs}
+use Rattle.semantics.proofs.Prelude.{_≡_, sym, _∙_, _+_, _≤_, arith, take, length, length-take-le, now, needs}
 use Rattle.semantics.specs.Layout.{counts-size}
 use Rattle.reader.specs.ReadSoFar.{used-words}
 use Rattle.reader.proofs.Holding.{held-words, too-few, enough}

@@ -1,6 +1,5 @@
 -- `reader::read` meets its contract. Assumes nothing.
-use borrow.Author.Tests.{lt-ltb, le-ltb}
-use borrow.Author.Needs.{needs}
+use Rattle.semantics.proofs.Prelude.{lt-ltb, le-ltb, needs}
 use Rattle.semantics.specs.Outcomes.{read-outcome}
 use Rattle.semantics.specs.Reading.{read}
 use Rattle.reader.proofs.read.Statement.{statement}

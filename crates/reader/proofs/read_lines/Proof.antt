@@ -1,7 +1,5 @@
 -- `reader::read_lines` meets its contract. Assumes nothing.
-use mathlib.Core.Path.{_≡_}
-use denote.Ref.{now}
-use borrow.Author.Needs.{needs}
+use Rattle.semantics.proofs.Prelude.{_≡_, now, needs}
 use Rattle.semantics.specs.Reading.{refused}
 use Rattle.reader.specs.ReadSoFar.{Through, lines-judged}
 use Rattle.reader.proofs.read_lines.Statement.{statement}

@@ -1,6 +1,5 @@
 -- `reader::read_text` meets its contract. Assumes nothing.
-use mathlib.Core.Path.{sym, ap, _∙_}
-use borrow.Author.Needs.{needs}
+use Rattle.semantics.proofs.Prelude.{sym, ap, _∙_, needs}
 use Rattle.reader.specs.Answers.{fault-line}
 use Rattle.reader.proofs.read_text.Statement.{statement}
 use Rattle.reader.proofs.read_text.Tie as tie

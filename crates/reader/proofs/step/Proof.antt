@@ -1,10 +1,5 @@
 -- `reader::step` meets its contract. Assumes nothing.
-use mathlib.Core.List.{List}
-use mathlib.Core.Path.{_≡_}
-use mathlib.Core.Bool.{Bool, false}
-use Prim.Native.Nat.{ℕ}
-use denote.Ref.{now}
-use borrow.Author.Needs.{needs}
+use Rattle.semantics.proofs.Prelude.{List, _≡_, Bool, false, ℕ, now, needs}
 use Rattle.semantics.specs.Text.{bytes, same-bytes, fields}
 use Rattle.semantics.specs.Reading.{nth}
 use Rattle.reader.proofs.NextLine.{kind-var, kind-loc, kind-edge, kind-none}

@@ -1,8 +1,5 @@
 -- `state::id_word` meets its contract. Assumes nothing.
-use mathlib.Core.Path.{sym, _∙_}
-use borrow.Author.Needs.{needs}
-use borrow.Author.Tests.{le-ltb}
-use mir.Syntax.{w32}
+use Rattle.semantics.proofs.Prelude.{sym, _∙_, needs, le-ltb, w32}
 use mir.Facts.{toZ-pos}
 use Rattle.state.specs.Rows.{word-limit, id-word}
 use Rattle.state.proofs.Layouts.{id-fits}

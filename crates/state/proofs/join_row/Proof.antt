@@ -1,14 +1,6 @@
 -- `state::join_row` meets its contract: the row is what is joined so far, and then what is left to join.
 -- Assumes nothing.
-use mathlib.Core.Path.{_≡_, sym, refl, _∙_}
-use mathlib.Core.Bool.{_&&_}
-use mathlib.Core.List.{_++_}
-use Prim.Native.Nat.{_-_, _≤_, _<_}
-use native.Mathlib.Omega.{arith}
-use borrow.Author.Needs.{needs, sfits-of}
-use lib.ListN.{length, take, drop, length-set}
-use mir.Syntax.{w32}
-use mir.ValLaws.{toZ-ofZ}
+use Rattle.semantics.proofs.Prelude.{_≡_, sym, refl, _∙_, _&&_, _++_, _-_, _≤_, _<_, arith, needs, sfits-of, length, take, drop, length-set, w32, toZ-ofZ}
 use Rattle.semantics.specs.Encoding.{word-at}
 use Rattle.words.proofs.Words.{bits-eqb}
 use Rattle.state.specs.Rows.{head-size, word-join, words-join, same-words, row-join}

@@ -1,6 +1,5 @@
 -- `state::join_word` meets its contract. Assumes nothing.
-use mir.Syntax.{w32}
-use mir.ValLaws.{toZ-ofZ}
+use Rattle.semantics.proofs.Prelude.{w32, toZ-ofZ}
 use Rattle.words.proofs.Words.{bits-eq, bits-ne}
 use Rattle.state.proofs.join_word.Statement.{statement}
 use Rattle.state.proofs.join_word.Tie as tie

@@ -1,6 +1,5 @@
 -- `state::layout_of` meets its contract. Assumes nothing.
-use native.Mathlib.Omega.{arith}
-use borrow.Author.Needs.{needs}
+use Rattle.semantics.proofs.Prelude.{arith, needs}
 use Rattle.state.proofs.layout_of.Statement.{statement}
 use Rattle.state.proofs.layout_of.Tie as tie
 

@@ -1,6 +1,5 @@
 -- `state::leq_row` meets its contract. Assumes nothing.
-use borrow.Author.Needs.{needs, sfits-of}
-use mir.Syntax.{w32}
+use Rattle.semantics.proofs.Prelude.{needs, sfits-of, w32}
 use Rattle.semantics.specs.Encoding.{word-at}
 use Rattle.words.proofs.Words.{bits-eq, bits-ne}
 use Rattle.state.proofs.leq_row.Statement.{statement}

@@ -1,13 +1,6 @@
 -- `state::leq_values` meets its contract: what is said of the whole is said of the words passed and of what is left.
 -- Assumes nothing.
-use mathlib.Core.Path.{_≡_, sym, refl, _∙_}
-use mathlib.Core.Bool.{_&&_}
-use Prim.Native.Nat.{_-_, _≤_}
-use native.Mathlib.Omega.{arith}
-use borrow.Author.Needs.{needs, sfits-of}
-use lib.ListN.{length, drop}
-use mir.Syntax.{w32}
-use mir.ValLaws.{toZ-ofZ}
+use Rattle.semantics.proofs.Prelude.{_≡_, sym, refl, _∙_, _&&_, _-_, _≤_, arith, needs, sfits-of, length, drop, w32, toZ-ofZ}
 use Rattle.semantics.specs.Encoding.{word-at}
 use Rattle.state.specs.Rows.{head-size, values-of, word-leq, words-leq}
 use Rattle.state.proofs.RowLoops.{leq-turn, leq-end}

@@ -1,6 +1,5 @@
 -- `state::leq_word` meets its contract. Assumes nothing.
-use mir.Syntax.{w32}
-use mir.Facts.{sfits-lit}
+use Rattle.semantics.proofs.Prelude.{w32, sfits-lit}
 use Rattle.semantics.specs.Layout.{top-word}
 use Rattle.words.proofs.Words.{bits-eqb}
 use Rattle.state.proofs.leq_word.Statement.{statement}

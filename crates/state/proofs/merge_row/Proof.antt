@@ -1,7 +1,5 @@
 -- `state::merge_row` meets its contract. Assumes nothing.
-use mathlib.Core.Path.{sym}
-use borrow.Author.Needs.{needs, sfits-of}
-use mir.Syntax.{w32}
+use Rattle.semantics.proofs.Prelude.{sym, needs, sfits-of, w32}
 use Rattle.semantics.specs.Encoding.{word-at}
 use Rattle.words.proofs.Words.{bits-eq, bits-ne}
 use Rattle.state.proofs.RowLoops.{same-refl}

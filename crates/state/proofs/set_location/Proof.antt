@@ -1,7 +1,5 @@
 -- `state::set_location` meets its contract. Assumes nothing.
-use borrow.Author.Needs.{needs, sfits-of}
-use mir.Syntax.{w32}
-use mir.ValLaws.{toZ-ofZ}
+use Rattle.semantics.proofs.Prelude.{needs, sfits-of, w32, toZ-ofZ}
 use Rattle.state.proofs.set_location.Statement.{statement}
 use Rattle.state.proofs.set_location.Tie as tie
 

@@ -1,7 +1,5 @@
 -- `state::set_value` meets its contract. Assumes nothing.
-use mathlib.Core.Path.{sym}
-use borrow.Author.Needs.{needs}
-use lib.Seq.{set-out}
+use Rattle.semantics.proofs.Prelude.{sym, needs, set-out}
 use Rattle.state.specs.Rows.{value-place}
 use Rattle.state.proofs.set_value.Statement.{statement}
 use Rattle.state.proofs.set_value.Tie as tie

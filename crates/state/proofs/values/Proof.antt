@@ -1,5 +1,5 @@
 -- `state::values` meets its contract. Assumes nothing.
-use borrow.Author.Needs.{needs}
+use Rattle.semantics.proofs.Prelude.{needs}
 use Rattle.words.proofs.Rows.{tail}
 use Rattle.state.specs.Rows.{head-size}
 use Rattle.state.proofs.values.Statement.{statement}

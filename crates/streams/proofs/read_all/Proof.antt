@@ -1,12 +1,6 @@
 -- `streams::read_all` meets its contract, and ends: the bytes that are left become fewer. Assumes nothing.
-use mathlib.Core.Path.{_≡_, refl, _∙_}
-use Prim.Native.Nat.{_-_, _≤_}
-use native.Mathlib.Omega.{arith}
-use borrow.Author.Needs.{needs, sfits-of}
+use Rattle.semantics.proofs.Prelude.{_≡_, refl, _∙_, _-_, _≤_, arith, needs, sfits-of, length, w64, toZ, ofZ}
 use borrow.Rule.Slice.PartMut.{putMid, same-len-mid}
-use lib.ListN.{length}
-use mir.Syntax.{w64}
-use mir.Val.{toZ, ofZ}
 use Rattle.streams.proofs.Answers.{Onward, onward, stopped, all-moved}
 use Rattle.streams.proofs.read_all.Statement.{statement}
 use Rattle.streams.proofs.read_all.Tie as tie

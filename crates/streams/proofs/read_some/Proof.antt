@@ -1,10 +1,5 @@
 -- `streams::read_some` meets its contract, and ends: the interruptions that are still allowed become fewer. Assumes nothing.
-use mathlib.Core.Path.{_≡_, refl, sym, _∙_}
-use native.Mathlib.Omega.{arith}
-use borrow.Author.Needs.{needs, sfits-of}
-use lib.ListN.{length}
-use mir.Syntax.{w64}
-use mir.Val.{toZ}
+use Rattle.semantics.proofs.Prelude.{_≡_, refl, sym, _∙_, arith, needs, sfits-of, length, w64, toZ}
 use Rattle.libc.specs.Io.{Moved}
 use Rattle.streams.proofs.Answers.{answered}
 use Rattle.streams.proofs.read_some.Statement.{statement}

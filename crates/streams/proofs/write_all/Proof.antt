@@ -1,10 +1,5 @@
 -- `streams::write_all` meets its contract, and ends: the bytes that are left become fewer. Assumes nothing.
-use Prim.Native.Nat.{_-_, _≤_}
-use native.Mathlib.Omega.{arith}
-use borrow.Author.Needs.{needs, sfits-of}
-use lib.ListN.{length}
-use mir.Syntax.{w64}
-use mir.Val.{toZ, ofZ}
+use Rattle.semantics.proofs.Prelude.{_-_, _≤_, arith, needs, sfits-of, length, w64, toZ, ofZ}
 use Rattle.streams.proofs.Answers.{Onward, onward, stopped, all-moved}
 use Rattle.streams.proofs.write_all.Statement.{statement}
 use Rattle.streams.proofs.write_all.Tie as tie

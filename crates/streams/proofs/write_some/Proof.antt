@@ -1,10 +1,5 @@
 -- `streams::write_some` meets its contract, and ends: the interruptions that are still allowed become fewer. Assumes nothing.
-use mathlib.Core.Path.{refl}
-use native.Mathlib.Omega.{arith}
-use borrow.Author.Needs.{needs, sfits-of}
-use lib.ListN.{length}
-use mir.Syntax.{w64}
-use mir.Val.{toZ}
+use Rattle.semantics.proofs.Prelude.{refl, arith, needs, sfits-of, length, w64, toZ}
 use Rattle.libc.specs.Io.{Moved}
 use Rattle.streams.proofs.Answers.{answered}
 use Rattle.streams.proofs.write_some.Statement.{statement}

@@ -1,5 +1,5 @@
 -- `tarknotter::analysis_in` meets its contract: field by field. Assumes nothing.
-use borrow.Author.Needs.{needs}
+use Rattle.semantics.proofs.Prelude.{needs}
 use Rattle.tarknotter.proofs.analysis_in.Statement.{statement}
 use Rattle.tarknotter.proofs.analysis_in.Tie as tie
 

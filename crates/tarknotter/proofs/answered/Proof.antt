@@ -1,6 +1,5 @@
 -- `tarknotter::answered` meets its contract. Assumes nothing.
-use borrow.Author.Needs.{needs}
-use borrow.Author.Tests.{eq-eqb, ne-eqb}
+use Rattle.semantics.proofs.Prelude.{needs, eq-eqb, ne-eqb}
 use Rattle.tarknotter.proofs.answered.Statement.{statement}
 use Rattle.tarknotter.proofs.answered.Tie as tie
 

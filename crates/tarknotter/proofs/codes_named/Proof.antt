@@ -1,8 +1,5 @@
 -- `tarknotter::codes_named` meets its contract. Assumes nothing.
-use mathlib.Core.Path.{ap}
-use mathlib.Core.Bool.{Bool, _&&_}
-use borrow.Author.Needs.{needs}
-use lib.Dec.{ltb}
+use Rattle.semantics.proofs.Prelude.{ap, Bool, _&&_, needs, ltb}
 use Rattle.tarknotter.proofs.codes_named.Statement.{statement}
 use Rattle.tarknotter.proofs.codes_named.Tie as tie
 

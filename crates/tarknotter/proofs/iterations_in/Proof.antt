@@ -1,8 +1,5 @@
 -- `tarknotter::iterations_in` meets its contract. Assumes nothing.
-use mathlib.Core.Path.{sym, ap, _∙_}
-use mathlib.Core.Bool.{Bool}
-use Prim.Native.Nat.{_+_}
-use borrow.Author.Needs.{needs}
+use Rattle.semantics.proofs.Prelude.{sym, ap, _∙_, Bool, _+_, needs}
 use Rattle.semantics.specs.Layout.{most-iterations}
 use Rattle.semantics.specs.Lists.{pick}
 use Rattle.tarknotter.proofs.iterations_in.Statement.{statement}

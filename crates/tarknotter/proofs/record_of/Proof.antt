@@ -1,5 +1,5 @@
 -- `tarknotter::record_of` meets its contract: field by field. Assumes nothing.
-use borrow.Author.Needs.{needs}
+use Rattle.semantics.proofs.Prelude.{needs}
 use Rattle.tarknotter.proofs.record_of.Statement.{statement}
 use Rattle.tarknotter.proofs.record_of.Tie as tie
 

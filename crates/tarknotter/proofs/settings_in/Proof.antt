@@ -1,5 +1,5 @@
 -- `tarknotter::settings_in` meets its contract: field by field. Assumes nothing.
-use borrow.Author.Needs.{needs}
+use Rattle.semantics.proofs.Prelude.{needs}
 use Rattle.tarknotter.proofs.settings_in.Statement.{statement}
 use Rattle.tarknotter.proofs.settings_in.Tie as tie
 

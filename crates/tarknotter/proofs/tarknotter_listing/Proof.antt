@@ -1,7 +1,6 @@
 -- `tarknotter::tarknotter_listing` meets its contract: the reply is that of what `listing::listing` answers. Assumes
 -- nothing.
-use mathlib.Core.Path.{ap, _∙_}
-use borrow.Author.Needs.{needs}
+use Rattle.semantics.proofs.Prelude.{ap, _∙_, needs}
 use Rattle.tarknotter.specs.Replies.{as-reply}
 use Rattle.tarknotter.proofs.tarknotter_listing.Statement.{statement}
 use Rattle.tarknotter.proofs.tarknotter_listing.Tie as tie

@@ -1,6 +1,5 @@
 -- `tarknotter::tarknotter_read` meets its contract: the reply is that of what `reader::read` answers. Assumes nothing.
-use borrow.Author.Needs.{needs}
-use mathlib.Core.Path.{ap, _∙_}
+use Rattle.semantics.proofs.Prelude.{needs, ap, _∙_}
 use Rattle.tarknotter.specs.Replies.{as-reply}
 use Rattle.tarknotter.proofs.tarknotter_read.Statement.{statement}
 use Rattle.tarknotter.proofs.tarknotter_read.Tie as tie

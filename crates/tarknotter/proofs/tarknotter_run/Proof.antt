@@ -1,7 +1,5 @@
 -- `tarknotter::tarknotter_run` meets its contract: `calls::run` on the record as it is read. Assumes nothing.
-use borrow.Author.Needs.{needs}
-use mir.Syntax.{w32}
-use mir.ValLaws.{toZ-ofZ}
+use Rattle.semantics.proofs.Prelude.{needs, w32, toZ-ofZ}
 use Rattle.tarknotter.proofs.ByCodes.{by-codes}
 use Rattle.tarknotter.proofs.tarknotter_run.Statement.{statement}
 use Rattle.tarknotter.proofs.tarknotter_run.Tie as tie

@@ -1,11 +1,6 @@
 -- `tarknotter::tarknotter_start` meets its contract: 6, or `calls::start` on the settings and the record as they are
 -- read. Assumes nothing.
-use mathlib.Core.Path.{sym, _∙_}
-use borrow.Author.Needs.{needs}
-use borrow.Author.Tests.{not-true, not-false}
-use denote.Ref.{now}
-use mir.Syntax.{w32}
-use mir.ValLaws.{toZ-ofZ}
+use Rattle.semantics.proofs.Prelude.{sym, _∙_, needs, not-true, not-false, now, w32, toZ-ofZ}
 use Rattle.semantics.specs.Memory.{Memory}
 use Rattle.checks.specs.Form.{lent}
 use Rattle.tarknotter.specs.Records.{analysis-in}

@@ -1,11 +1,5 @@
 -- `text::below` meets its contract. Assumes nothing.
-use borrow.Author.Needs.{needs}
-use mathlib.Core.Path.{_≡_, sym}
-use mathlib.Core.Bool.{true, false}
-use lib.IntN.{pos, natAbs}
-use lib.Signed.{ltZ}
-use mir.Syntax.{w32}
-use mir.Val.{toZ, ofZ}
+use Rattle.semantics.proofs.Prelude.{needs, _≡_, sym, true, false, pos, natAbs, ltZ, w32, toZ, ofZ}
 use Rattle.text.specs.Fields.{number-said, variable-res}
 use Rattle.text.proofs.Judged.{below-neg, below-yes, below-no}
 use Rattle.text.proofs.below.Statement.{statement}

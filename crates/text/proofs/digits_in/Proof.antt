@@ -1,9 +1,5 @@
 -- `text::digits_in` meets its contract: the digits passed, cut, say as much of the answer as all. Assumes nothing.
-use borrow.Author.Needs.{needs}
-use native.Mathlib.Omega.{arith}
-use mathlib.Core.Path.{_≡_, refl, sym, ap, _∙_}
-use lib.ListN.{length, drop}
-use Prim.Native.Nat.{_-_, _≤_}
+use Rattle.semantics.proofs.Prelude.{needs, arith, _≡_, refl, sym, ap, _∙_, length, drop, _-_, _≤_}
 use Rattle.semantics.specs.Text.{digits}
 use Rattle.text.specs.Fields.{natural-read}
 use Rattle.text.specs.declared.Natural.the-variants as natural

@@ -1,9 +1,5 @@
 -- `text::field` meets its contract: the fields that are left, counted from where it stands. Assumes nothing.
-use borrow.Author.Needs.{needs}
-use native.Mathlib.Omega.{arith}
-use mathlib.Core.Path.{_≡_, refl, sym, _∙_}
-use lib.ListN.{length, drop}
-use Prim.Native.Nat.{_-_, _≤_}
+use Rattle.semantics.proofs.Prelude.{needs, arith, _≡_, refl, sym, _∙_, length, drop, _-_, _≤_}
 use Rattle.semantics.specs.Text.{fields}
 use Rattle.semantics.specs.Reading.{nth}
 use Rattle.text.proofs.Parts.{field-here, field-none, field-next}

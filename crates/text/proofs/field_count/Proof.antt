@@ -1,14 +1,8 @@
 -- `text::field_count` meets its contract: the fields passed and those that are left are as many as all. Assumes
 -- nothing.
-use borrow.Author.Needs.{needs}
-use mathlib.Core.Path.{_≡_}
-use Prim.Native.Nat.{_+_, _-_, _≤_}
-use lib.Dec.{eqb}
-use lib.ListN.{length, drop, getD}
-use denote.Ref.{now}
+use Rattle.semantics.proofs.Prelude.{needs, _≡_, _+_, _-_, _≤_, eqb, length, drop, getD, now, arith}
 use Rattle.semantics.specs.Text.{fields}
 use Rattle.text.proofs.Parts.{count-next, count-last, tab-few}
-use native.Mathlib.Omega.{arith}
 use Rattle.text.proofs.field_count.Statement.{statement}
 use Rattle.text.proofs.field_count.Tie as tie
 

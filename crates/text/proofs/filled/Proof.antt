@@ -1,5 +1,5 @@
 -- `text::filled` meets its contract. Assumes nothing.
-use borrow.Author.Needs.{needs}
+use Rattle.semantics.proofs.Prelude.{needs}
 use Rattle.text.proofs.filled.Statement.{statement}
 use Rattle.text.proofs.filled.Tie as tie
 

@@ -1,12 +1,7 @@
 -- `text::find` meets its contract: the first b is as far from each place passed as from the start. Assumes nothing.
-use borrow.Author.Needs.{needs}
-use mathlib.Core.Path.{_≡_}
-use Prim.Native.Nat.{_+_, _-_, _≤_, max}
-use lib.ListN.{length, drop}
-use denote.Ref.{now}
+use Rattle.semantics.proofs.Prelude.{needs, _≡_, _+_, _-_, _≤_, max, length, drop, now, arith}
 use Rattle.text.specs.Fields.{up-to}
 use Rattle.text.proofs.LineEnds.{up-to-here, up-to-skip, up-to-end}
-use native.Mathlib.Omega.{arith}
 use Rattle.text.proofs.find.Statement.{statement}
 use Rattle.text.proofs.find.Tie as tie
 

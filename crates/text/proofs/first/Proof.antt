@@ -1,9 +1,5 @@
 -- `text::first` meets its contract. Assumes nothing.
-use borrow.Author.Needs.{needs}
-use mathlib.Core.Path.{sym}
-use denote.Ref.{now}
-use lib.ListN.{List·getD-eq-default}
-use native.Mathlib.Omega.{arith}
+use Rattle.semantics.proofs.Prelude.{needs, sym, now, List·getD-eq-default, arith}
 use Rattle.text.proofs.first.Statement.{statement}
 use Rattle.text.proofs.first.Tie as tie
 

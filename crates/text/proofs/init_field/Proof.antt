@@ -1,8 +1,5 @@
 -- `text::init_field` meets its contract: `*` is top. Assumes nothing.
-use borrow.Author.Needs.{needs}
-use mathlib.Core.Path.{sym, _∙_}
-use mir.Syntax.{w32}
-use mir.ValLaws.{toZ-ofZ}
+use Rattle.semantics.proofs.Prelude.{needs, sym, _∙_, w32, toZ-ofZ}
 use Rattle.text.specs.Fields.{init-res}
 use Rattle.text.proofs.Judged.{init-star, init-other}
 use Rattle.text.proofs.init_field.Statement.{statement}

@@ -1,11 +1,5 @@
 -- `text::init_number` meets its contract. Assumes nothing.
-use borrow.Author.Needs.{needs}
-use mathlib.Core.Path.{_≡_, sym, ap, _∙_}
-use mathlib.Core.Bool.{true, false}
-use denote.Ref.{now}
-use mir.Syntax.{w32}
-use mir.Val.{toZ, ofZ}
-use mir.ValLaws.{toZ-ofZ}
+use Rattle.semantics.proofs.Prelude.{needs, _≡_, sym, ap, _∙_, true, false, now, w32, toZ, ofZ, toZ-ofZ}
 use Rattle.semantics.specs.Chart.{within}
 use Rattle.semantics.specs.Reading.{ok, if-ok, number-field}
 use Rattle.text.specs.Fields.{word-res, init-res}

@@ -1,5 +1,5 @@
 -- `text::is_name_byte` meets its contract. Assumes nothing.
-use mathlib.Core.Path.{refl}
+use Rattle.semantics.proofs.Prelude.{refl}
 use Rattle.semantics.specs.Text.{name-byte}
 use Rattle.text.proofs.is_name_byte.Statement.{statement}
 use Rattle.text.proofs.is_name_byte.Tie as tie

@@ -1,5 +1,5 @@
 -- `text::kind_field` meets its contract. Assumes nothing.
-use borrow.Author.Needs.{needs}
+use Rattle.semantics.proofs.Prelude.{needs}
 use Rattle.semantics.specs.Reading.{kind-field}
 use Rattle.text.specs.Fields.{kind-res}
 use Rattle.text.proofs.Judged.{word-by-word}

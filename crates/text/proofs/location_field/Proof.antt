@@ -1,7 +1,5 @@
 -- `text::location_field` meets its contract: the test cannot tell a cut number from the number. Assumes nothing.
-use borrow.Author.Needs.{needs}
-use mathlib.Core.Path.{_≡_, sym, ap, _∙_}
-use denote.Ref.{now}
+use Rattle.semantics.proofs.Prelude.{needs, _≡_, sym, ap, _∙_, now}
 use Rattle.semantics.specs.Reading.{below-or, location-field}
 use Rattle.text.specs.Fields.{number-said, variable-res, location-res}
 use Rattle.text.specs.declared.NumberRead.{NumberRead}

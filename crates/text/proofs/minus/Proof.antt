@@ -1,9 +1,5 @@
 -- `text::minus` meets its contract: the machine takes the cut number from 0. Assumes nothing.
-use borrow.Author.Needs.{needs}
-use native.Mathlib.Omega.{arith}
-use mathlib.Core.Path.{ap, _∙_}
-use lib.IntN.{pos, negℤ}
-use Prim.Native.Nat.{ℕ}
+use Rattle.semantics.proofs.Prelude.{needs, arith, ap, _∙_, pos, negℤ, ℕ}
 use Rattle.text.specs.Fields.{number-read, natural-said}
 use Rattle.text.specs.declared.NumberRead.the-variants as number
 use Rattle.text.proofs.Digits.{sub-fits, sub-back, minus-is}

@@ -1,14 +1,8 @@
 -- `text::name_ok` meets its contract: the bytes that are left say whether all are bytes of a name. Assumes nothing.
-use borrow.Author.Needs.{needs}
-use mathlib.Core.Path.{_≡_, refl, sym, _∙_}
-use Prim.Native.Nat.{_-_, _≤_}
-use lib.ListN.{length, drop}
-use denote.Ref.{now}
-use borrow.Author.Tests.{not-true, not-false}
+use Rattle.semantics.proofs.Prelude.{needs, _≡_, refl, sym, _∙_, _-_, _≤_, length, drop, now, not-true, not-false, arith}
 use Rattle.semantics.specs.Lists.{all}
 use Rattle.semantics.specs.Text.{name-byte}
 use Rattle.text.proofs.Bytes.{all-step, all-stop, all-end, name-short, name-long, name-all}
-use native.Mathlib.Omega.{arith}
 use Rattle.text.proofs.name_ok.Statement.{statement}
 use Rattle.text.proofs.name_ok.Tie as tie
 

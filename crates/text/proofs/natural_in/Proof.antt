@@ -1,6 +1,5 @@
 -- `text::natural_in` meets its contract: by the first byte. Assumes nothing.
-use borrow.Author.Needs.{needs}
-use mathlib.Core.Path.{sym, ap, _∙_}
+use Rattle.semantics.proofs.Prelude.{needs, sym, ap, _∙_}
 use Rattle.text.specs.Fields.{natural-read}
 use Rattle.text.proofs.Digits.{natural-empty, natural-zero, natural-lead, natural-digits}
 use Rattle.text.proofs.natural_in.Statement.{statement}

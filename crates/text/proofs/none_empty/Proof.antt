@@ -1,9 +1,5 @@
 -- `text::none_empty` meets its contract: the fields that are left say whether one is empty. Assumes nothing.
-use borrow.Author.Needs.{needs}
-use native.Mathlib.Omega.{arith}
-use mathlib.Core.Path.{_≡_, refl, sym, _∙_}
-use lib.ListN.{length, drop}
-use Prim.Native.Nat.{_-_, _≤_}
+use Rattle.semantics.proofs.Prelude.{needs, arith, _≡_, refl, sym, _∙_, length, drop, _-_, _≤_}
 use Rattle.semantics.specs.Text.{fields}
 use Rattle.semantics.specs.Reading.{none-empty}
 use Rattle.text.proofs.Parts.{full-stop, full-last, full-next}

@@ -1,6 +1,5 @@
 -- `text::number` meets its contract: by the first byte. Assumes nothing.
-use borrow.Author.Needs.{needs}
-use mathlib.Core.Path.{sym, ap, _∙_}
+use Rattle.semantics.proofs.Prelude.{needs, sym, ap, _∙_}
 use Rattle.semantics.specs.Text.{negative}
 use Rattle.text.specs.Fields.{number-read, natural-said}
 use Rattle.text.specs.declared.Natural.{Natural}

@@ -1,6 +1,5 @@
 -- `text::number_field` meets its contract: the tests cannot tell a cut number from the number. Assumes nothing.
-use borrow.Author.Needs.{needs}
-use mathlib.Core.Path.{ap, _∙_}
+use Rattle.semantics.proofs.Prelude.{needs, ap, _∙_}
 use Rattle.semantics.specs.Reading.{small-or, number-field}
 use Rattle.text.specs.Fields.{number-said}
 use Rattle.text.specs.declared.NumberRead.{NumberRead}

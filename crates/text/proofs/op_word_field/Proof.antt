@@ -1,5 +1,5 @@
 -- `text::op_word_field` meets its contract. Assumes nothing.
-use borrow.Author.Needs.{needs}
+use Rattle.semantics.proofs.Prelude.{needs}
 use Rattle.semantics.specs.Reading.{op-word-field}
 use Rattle.text.specs.Fields.{op-word-res}
 use Rattle.text.proofs.Judged.{word-not, word-by-word}

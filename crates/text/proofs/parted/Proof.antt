@@ -1,5 +1,5 @@
 -- `text::parted` meets its contract. Assumes nothing.
-use borrow.Author.Tests.{eq-eqb, ne-eqb}
+use Rattle.semantics.proofs.Prelude.{eq-eqb, ne-eqb}
 use Rattle.text.proofs.parted.Statement.{statement}
 use Rattle.text.proofs.parted.Tie as tie
 

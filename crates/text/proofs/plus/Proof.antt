@@ -1,9 +1,5 @@
 -- `text::plus` meets its contract. Assumes nothing.
-use borrow.Author.Needs.{needs}
-use native.Mathlib.Omega.{arith}
-use mathlib.Core.Path.{ap, _∙_}
-use lib.IntN.{pos}
-use mir.Syntax.{w32}
+use Rattle.semantics.proofs.Prelude.{needs, arith, ap, _∙_, pos, w32}
 use mir.Facts.{toZ-pos}
 use Rattle.text.specs.Fields.{number-read, natural-said}
 use Rattle.text.specs.declared.NumberRead.the-variants as number

@@ -1,5 +1,5 @@
 -- `text::rel_field` meets its contract. Assumes nothing.
-use borrow.Author.Needs.{needs}
+use Rattle.semantics.proofs.Prelude.{needs}
 use Rattle.semantics.specs.Reading.{rel-field}
 use Rattle.text.specs.Fields.{rel-res}
 use Rattle.text.proofs.Judged.{word-not, word-by-word}

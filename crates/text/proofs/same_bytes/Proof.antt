@@ -1,12 +1,7 @@
 -- `text::same_bytes` meets its contract: what is left of the texts says whether they are the same. Assumes nothing.
-use borrow.Author.Needs.{needs}
-use mathlib.Core.Path.{_≡_, refl, sym, _∙_}
-use Prim.Native.Nat.{_-_, _≤_}
-use lib.ListN.{length, drop}
-use denote.Ref.{now}
+use Rattle.semantics.proofs.Prelude.{needs, _≡_, refl, sym, _∙_, _-_, _≤_, length, drop, now, arith}
 use Rattle.semantics.specs.Text.{same-bytes}
 use Rattle.text.proofs.Bytes.{same-short, same-step, same-stop, same-end}
-use native.Mathlib.Omega.{arith}
 use Rattle.text.proofs.same_bytes.Statement.{statement}
 use Rattle.text.proofs.same_bytes.Tie as tie
 

@@ -1,9 +1,5 @@
 -- `text::small_word` meets its contract. Assumes nothing.
-use borrow.Author.Needs.{needs}
-use mathlib.Core.Path.{_≡_, sym, _∙_}
-use mathlib.Core.Bool.{true, false}
-use mir.Syntax.{w32}
-use mir.Val.{toZ, ofZ}
+use Rattle.semantics.proofs.Prelude.{needs, _≡_, sym, _∙_, true, false, w32, toZ, ofZ}
 use Rattle.semantics.specs.Chart.{small}
 use Rattle.semantics.specs.Reading.{check}
 use Rattle.text.specs.Fields.{number-said, word-res}

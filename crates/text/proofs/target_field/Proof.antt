@@ -1,6 +1,5 @@
 -- `text::target_field` meets its contract: a `$`, and a number without sign. Assumes nothing.
-use borrow.Author.Needs.{needs}
-use mathlib.Core.Path.{sym, ap, _∙_}
+use Rattle.semantics.proofs.Prelude.{needs, sym, ap, _∙_}
 use Rattle.semantics.specs.Reading.{below-or}
 use Rattle.text.specs.Fields.{number-said, variable-res}
 use Rattle.text.specs.declared.NumberRead.{NumberRead}

@@ -1,6 +1,5 @@
 -- `text::unsigned` meets its contract. Assumes nothing.
-use borrow.Author.Needs.{needs}
-use mathlib.Core.Path.{ap, _∙_}
+use Rattle.semantics.proofs.Prelude.{needs, ap, _∙_}
 use Rattle.semantics.specs.Text.{nonnegative}
 use Rattle.text.specs.Fields.{number-read, natural-said}
 use Rattle.text.specs.declared.Natural.{Natural}

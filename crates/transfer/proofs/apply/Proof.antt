@@ -1,8 +1,5 @@
 -- `transfer::apply` meets its contract. Assumes nothing.
-use mathlib.Core.Path.{_≡_, sym, ap, _∙_}
-use Prim.Native.Nat.{ℕ, _+_}
-use borrow.Author.Needs.{needs}
-use borrow.Author.Tests.{ne-eqb}
+use Rattle.semantics.proofs.Prelude.{_≡_, sym, ap, _∙_, ℕ, _+_, needs, ne-eqb}
 use Rattle.semantics.specs.Layout.{operation-place, skip-code, set-code, add-code, sub-code, in-code}
 use Rattle.semantics.specs.Encoding.{count}
 use Rattle.transfer.specs.Transfer.{assume-at, op-by}

@@ -1,11 +1,5 @@
 -- `transfer::assume` meets its contract. Assumes nothing.
-use mathlib.Core.Path.{_≡_, sym, ap, _∙_}
-use mathlib.Core.Bool.{Bool, true, false}
-use borrow.Author.Needs.{needs, sfits-of}
-use lib.IntN.{ℤ}
-use mir.Syntax.{w32}
-use mir.Facts.{sfits-lit}
-use mir.Val.{SFits, ofZ}
+use Rattle.semantics.proofs.Prelude.{_≡_, sym, ap, _∙_, Bool, true, false, needs, sfits-of, ℤ, w32, sfits-lit, SFits, ofZ}
 use Rattle.semantics.specs.Layout.{top-word}
 use Rattle.words.proofs.Words.{bits-eq, bits-ne, told}
 use Rattle.semantics.specs.Lists.{pick}

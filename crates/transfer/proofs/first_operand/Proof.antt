@@ -1,5 +1,5 @@
 -- `transfer::first_operand` meets its contract. Assumes nothing.
-use borrow.Author.Needs.{needs, sfits-of}
+use Rattle.semantics.proofs.Prelude.{needs, sfits-of}
 use Rattle.words.proofs.Words.{told}
 use Rattle.transfer.proofs.first_operand.Statement.{statement}
 use Rattle.transfer.proofs.first_operand.Tie as tie

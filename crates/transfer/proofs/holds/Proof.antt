@@ -1,11 +1,5 @@
 -- `transfer::holds` meets its contract. Assumes nothing.
-use mathlib.Core.Path.{_≡_, ap, _∙_}
-use mathlib.Core.Bool.{not}
-use Prim.Native.Nat.{ℕ}
-use borrow.Author.Tests.{ne-eqb}
-use mir.Syntax.{w32}
-use mir.Val.{toZ, ofZ}
-use mir.ValLaws.{toZ-ofZ}
+use Rattle.semantics.proofs.Prelude.{_≡_, ap, _∙_, not, ℕ, ne-eqb, w32, toZ, ofZ, toZ-ofZ}
 use Rattle.semantics.specs.Layout.{eq-code, ne-code, lt-code, le-code, gt-code}
 use Rattle.words.proofs.Words.{bits-eqb}
 use Rattle.transfer.specs.Transfer.{holds-by}

@@ -1,12 +1,5 @@
 -- `transfer::initial` meets its contract. Assumes nothing.
-use mathlib.Core.Path.{_≡_, sym, _∙_}
-use mathlib.Core.List.{_++_}
-use Prim.Native.Nat.{_+_, _-_, _<_, _≤_}
-use native.Mathlib.Omega.{arith}
-use borrow.Author.Needs.{needs, sfits-of}
-use lib.ListN.{length, take}
-use mir.Syntax.{w32}
-use mir.ValLaws.{toZ-ofZ}
+use Rattle.semantics.proofs.Prelude.{_≡_, sym, _∙_, _++_, _+_, _-_, _<_, _≤_, arith, needs, sfits-of, length, take, w32, toZ-ofZ}
 use Rattle.semantics.specs.Layout.{variable-size, variable-at, init-place}
 use Rattle.state.proofs.Layouts.{id-fits}
 use Rattle.transfer.specs.Transfer.{initial-row, initial-words}

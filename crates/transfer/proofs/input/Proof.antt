@@ -1,7 +1,5 @@
 -- `transfer::input` meets its contract. Assumes nothing.
-use borrow.Author.Needs.{needs, sfits-of}
-use mir.Syntax.{w32}
-use mir.ValLaws.{toZ-ofZ}
+use Rattle.semantics.proofs.Prelude.{needs, sfits-of, w32, toZ-ofZ}
 use Rattle.transfer.specs.Transfer.{input-at}
 use Rattle.transfer.proofs.input.Statement.{statement}
 use Rattle.transfer.proofs.input.Tie as tie

@@ -1,8 +1,5 @@
 -- `transfer::is_error` meets its contract. Assumes nothing.
-use mathlib.Core.Path.{ap, _∙_}
-use mathlib.Core.Bool.{true}
-use Prim.Native.Nat.{ℕ, _+_, _*_}
-use borrow.Author.Needs.{needs}
+use Rattle.semantics.proofs.Prelude.{ap, _∙_, true, ℕ, _+_, _*_, needs}
 use Rattle.semantics.specs.Chart.{eqZ}
 use Rattle.semantics.specs.Layout.{location-size}
 use Rattle.semantics.specs.Encoding.{word-at, kind-word}

@@ -1,7 +1,5 @@
 -- `transfer::lies_within` meets its contract. Assumes nothing.
-use borrow.Author.Needs.{needs, sfits-of}
-use mir.Syntax.{w32, w64}
-use mir.ValLaws.{toZ-ofZ}
+use Rattle.semantics.proofs.Prelude.{needs, sfits-of, w32, w64, toZ-ofZ}
 use Rattle.transfer.proofs.lies_within.Statement.{statement}
 use Rattle.transfer.proofs.lies_within.Tie as tie
 

@@ -1,9 +1,5 @@
 -- `transfer::operand` meets its contract. Assumes nothing.
-use borrow.Author.Needs.{needs, sfits-of}
-use lib.IntN.{pos}
-use mir.Syntax.{w32}
-use mir.Facts.{sfits-lit}
-use mir.ValLaws.{toZ-ofZ}
+use Rattle.semantics.proofs.Prelude.{needs, sfits-of, pos, w32, sfits-lit, toZ-ofZ}
 use Rattle.words.proofs.Words.{bits-eq, bits-ne}
 use Rattle.transfer.proofs.operand.Statement.{statement}
 use Rattle.transfer.proofs.operand.Tie as tie

@@ -1,12 +1,5 @@
 -- `transfer::put_ranged` meets its contract. Assumes nothing.
-use mathlib.Core.Path.{_≡_, sym, _∙_}
-use Prim.Native.Nat.{_+_}
-use borrow.Author.Needs.{needs, sfits-of}
-use borrow.Author.Tests.{not-true, not-false}
-use lib.IntN.{ℤ}
-use mir.Syntax.{w32, w64}
-use mir.Val.{SFits}
-use mir.ValLaws.{toZ-ofZ}
+use Rattle.semantics.proofs.Prelude.{_≡_, sym, _∙_, _+_, needs, sfits-of, not-true, not-false, ℤ, w32, w64, SFits, toZ-ofZ}
 use Rattle.semantics.specs.Layout.{variable-at, high-place}
 use Rattle.semantics.specs.Chart.{within}
 use Rattle.semantics.specs.Encoding.{word-at}

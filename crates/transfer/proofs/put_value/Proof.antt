@@ -1,8 +1,5 @@
 -- `transfer::put_value` meets its contract. Assumes nothing.
-use mathlib.Core.Path.{_∙_}
-use borrow.Author.Needs.{needs}
-use mir.Syntax.{w64}
-use mir.ValLaws.{toZ-ofZ}
+use Rattle.semantics.proofs.Prelude.{_∙_, needs, w64, toZ-ofZ}
 use Rattle.transfer.specs.Transfer.{set-value}
 use Rattle.transfer.proofs.put_value.Statement.{statement}
 use Rattle.transfer.proofs.put_value.Tie as tie

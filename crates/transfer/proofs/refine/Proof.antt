@@ -1,12 +1,5 @@
 -- `transfer::refine` meets its contract. Assumes nothing.
-use mathlib.Core.Path.{_≡_, sym, ap, _∙_}
-use mathlib.Core.Bool.{Bool, _&&_, not}
-use borrow.Author.Needs.{needs, sfits-of}
-use lib.Dec.{eqb}
-use mir.Syntax.{w32, w64}
-use mir.Facts.{sfits-lit}
-use mir.Val.{ofZ}
-use mir.ValLaws.{toZ-ofZ}
+use Rattle.semantics.proofs.Prelude.{_≡_, sym, ap, _∙_, Bool, _&&_, not, needs, sfits-of, eqb, w32, w64, sfits-lit, ofZ, toZ-ofZ}
 use Rattle.semantics.specs.Layout.{top-word, eq-code}
 use Rattle.semantics.specs.Chart.{eqZ}
 use Rattle.words.proofs.Words.{bits-eqb}

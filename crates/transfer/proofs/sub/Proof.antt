@@ -1,8 +1,5 @@
 -- `transfer::sub` meets its contract. Assumes nothing.
-use mathlib.Core.Path.{_∙_}
-use borrow.Author.Needs.{needs, sfits-of}
-use mir.Syntax.{w64}
-use mir.ValLaws.{toZ-ofZ}
+use Rattle.semantics.proofs.Prelude.{_∙_, needs, sfits-of, w64, toZ-ofZ}
 use Rattle.words.proofs.Words.{told}
 use Rattle.transfer.specs.Transfer.{both-at}
 use Rattle.transfer.proofs.sub.Statement.{statement}

@@ -1,7 +1,5 @@
 -- `transfer::successor` meets its contract. Assumes nothing.
-use mathlib.Core.Path.{_≡_, sym, _∙_}
-use borrow.Author.Needs.{needs}
-use lib.Dec.{eqb}
+use Rattle.semantics.proofs.Prelude.{_≡_, sym, _∙_, needs, eqb}
 use Rattle.semantics.specs.Encoding.{count}
 use Rattle.state.specs.Rows.{location-in}
 use Rattle.transfer.specs.Transfer.{post-at}

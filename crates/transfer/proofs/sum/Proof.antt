@@ -1,6 +1,5 @@
 -- `transfer::sum` meets its contract. Assumes nothing.
-use mir.Syntax.{w64}
-use mir.ValLaws.{toZ-ofZ}
+use Rattle.semantics.proofs.Prelude.{w64, toZ-ofZ}
 use Rattle.words.proofs.Words.{widens, widened, sum-fits}
 use Rattle.transfer.proofs.sum.Statement.{statement}
 use Rattle.transfer.proofs.sum.Tie as tie

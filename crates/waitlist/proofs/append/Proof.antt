@@ -1,5 +1,5 @@
 -- `waitlist::append` meets its contract. Assumes nothing.
-use borrow.Author.Needs.{needs, sfits-of}
+use Rattle.semantics.proofs.Prelude.{needs, sfits-of}
 use Rattle.words.proofs.Words.{told}
 use Rattle.waitlist.proofs.WaitWords.{put-last}
 use Rattle.waitlist.proofs.append.Statement.{statement}

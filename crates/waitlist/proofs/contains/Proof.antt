@@ -1,8 +1,5 @@
 -- `waitlist::contains` meets its contract. Assumes nothing.
-use mathlib.Core.Path.{sym, ap, _∙_}
-use lib.IntN.{pos}
-use lib.Seq.{length-take-le}
-use borrow.Author.Needs.{needs, sfits-of}
+use Rattle.semantics.proofs.Prelude.{sym, ap, _∙_, pos, length-take-le, needs, sfits-of}
 use Rattle.semantics.specs.Chart.{eqZ}
 use Rattle.semantics.specs.Lists.{some-of}
 use Rattle.words.proofs.Words.{told}

@@ -1,8 +1,5 @@
 -- `waitlist::keep_word` meets its contract. Assumes nothing.
-use mathlib.Core.Path.{refl}
-use mir.Syntax.{w32}
-use mir.ValLaws.{toZ-ofZ}
-use borrow.Author.Needs.{needs}
+use Rattle.semantics.proofs.Prelude.{refl, w32, toZ-ofZ, needs}
 use Rattle.words.proofs.Words.{bits-eq, bits-ne}
 use Rattle.waitlist.proofs.keep_word.Statement.{statement}
 use Rattle.waitlist.proofs.keep_word.Tie as tie

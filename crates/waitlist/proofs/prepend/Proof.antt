@@ -1,5 +1,5 @@
 -- `waitlist::prepend` meets its contract. Assumes nothing.
-use borrow.Author.Needs.{needs, sfits-of}
+use Rattle.semantics.proofs.Prelude.{needs, sfits-of}
 use Rattle.words.proofs.Words.{told}
 use Rattle.waitlist.proofs.Moves.{put-first}
 use Rattle.waitlist.proofs.prepend.Statement.{statement}

@@ -1,14 +1,5 @@
 -- `waitlist::push_front` meets its contract. Assumes nothing.
-use mathlib.Core.Path.{_≡_, refl, sym, _∙_}
-use mathlib.Core.List.{_++_}
-use Prim.Native.Nat.{_-_, _≤_}
-use native.Mathlib.Omega.{arith}
-use lib.IntN.{pos}
-use lib.ListN.{length, take, drop, getD, length-set}
-use mir.Syntax.{w32}
-use mir.Val.{toZ}
-use mir.ValLaws.{toZ-ofZ}
-use borrow.Author.Needs.{needs, sfits-of}
+use Rattle.semantics.proofs.Prelude.{_≡_, refl, sym, _∙_, _++_, _-_, _≤_, arith, pos, length, take, drop, getD, length-set, w32, toZ, toZ-ofZ, needs, sfits-of}
 use Rattle.waitlist.specs.Waits.{pushed}
 use Rattle.waitlist.proofs.Moves.{push-turn, push-end}
 use Rattle.waitlist.proofs.push_front.Statement.{statement}

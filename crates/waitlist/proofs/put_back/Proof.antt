@@ -1,8 +1,5 @@
 -- `waitlist::put_back` meets its contract. Assumes nothing.
-use Prim.Native.Nat.{_+_, _<_}
-use native.Mathlib.Omega.{arith}
-use lib.ListN.{length}
-use borrow.Author.Needs.{needs}
+use Rattle.semantics.proofs.Prelude.{_+_, _<_, arith, length, needs}
 use Rattle.semantics.specs.Layout.{index-limit}
 use Rattle.waitlist.specs.Waits.{waits, Stored}
 use Rattle.waitlist.proofs.WaitWords.{waits-are, kept, back-room}

@@ -1,5 +1,5 @@
 -- `waitlist::remove` meets its contract. Assumes nothing.
-use borrow.Author.Needs.{needs, sfits-of}
+use Rattle.semantics.proofs.Prelude.{needs, sfits-of}
 use Rattle.words.proofs.Words.{told}
 use Rattle.waitlist.proofs.Moves.{put-others}
 use Rattle.waitlist.proofs.remove.Statement.{statement}

@@ -1,13 +1,5 @@
 -- `waitlist::remove_word` meets its contract. Assumes nothing.
-use mathlib.Core.Path.{_≡_}
-use Prim.Native.Nat.{_-_}
-use native.Mathlib.Omega.{arith}
-use lib.IntN.{pos}
-use lib.ListN.{getD, set, length-set}
-use mir.Syntax.{w32}
-use mir.Val.{toZ, ofZ}
-use mir.ValLaws.{toZ-ofZ}
-use borrow.Author.Needs.{needs, sfits-of}
+use Rattle.semantics.proofs.Prelude.{_≡_, _-_, arith, pos, getD, set, length-set, w32, toZ, ofZ, toZ-ofZ, needs, sfits-of}
 use Rattle.semantics.specs.Chart.{eqZ}
 use Rattle.waitlist.specs.Waits.{next-place, kept-at}
 use Rattle.waitlist.proofs.Moves.{Removing, word-here, remove-turn, removing-start, removing-end}

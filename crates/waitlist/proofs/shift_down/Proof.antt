@@ -1,13 +1,5 @@
 -- `waitlist::shift_down` meets its contract. Assumes nothing.
-use mathlib.Core.Path.{_≡_, refl, sym, ap, _∙_}
-use mathlib.Core.List.{_++_}
-use Prim.Native.Nat.{ℕ, _+_, _-_, _≤_}
-use native.Mathlib.Omega.{arith}
-use lib.IntN.{pos}
-use lib.ListN.{length, take, drop, getD, set, length-set}
-use mir.Syntax.{w32}
-use mir.ValLaws.{toZ-ofZ}
-use borrow.Author.Needs.{needs, sfits-of}
+use Rattle.semantics.proofs.Prelude.{_≡_, refl, sym, ap, _∙_, _++_, ℕ, _+_, _-_, _≤_, arith, pos, length, take, drop, getD, set, length-set, w32, toZ-ofZ, needs, sfits-of}
 use Rattle.waitlist.specs.Waits.{shifted}
 use Rattle.waitlist.proofs.Moves.{shift-turn, shift-end}
 use Rattle.waitlist.proofs.shift_down.Statement.{statement}

@@ -1,7 +1,5 @@
 -- `waitlist::slot_word` meets its contract. Assumes nothing.
-use native.Mathlib.Omega.{arith}
-use borrow.Author.Needs.{needs}
-use mir.Syntax.{w32}
+use Rattle.semantics.proofs.Prelude.{arith, needs, w32}
 use mir.ValLaws.{toZ-pos}
 use Rattle.waitlist.proofs.slot_word.Statement.{statement}
 use Rattle.waitlist.proofs.slot_word.Tie as tie

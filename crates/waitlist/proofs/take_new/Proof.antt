@@ -1,5 +1,5 @@
 -- `waitlist::take_new` meets its contract. Assumes nothing.
-use borrow.Author.Needs.{needs}
+use Rattle.semantics.proofs.Prelude.{needs}
 use Rattle.waitlist.specs.Waits.{waits}
 use Rattle.waitlist.proofs.Moves.{take-last-held}
 use Rattle.waitlist.proofs.take_new.Statement.{statement}

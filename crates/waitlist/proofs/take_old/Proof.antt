@@ -1,8 +1,5 @@
 -- `waitlist::take_old` meets its contract. Assumes nothing.
-use mathlib.Core.Path.{sym}
-use native.Mathlib.Omega.{arith}
-use lib.Seq.{length-take-le}
-use borrow.Author.Needs.{needs}
+use Rattle.semantics.proofs.Prelude.{sym, arith, length-take-le, needs}
 use Rattle.waitlist.specs.Waits.{waits}
 use Rattle.waitlist.proofs.Moves.{take-first-held}
 use Rattle.waitlist.proofs.take_old.Statement.{statement}

@@ -1,5 +1,5 @@
 -- `waitlist::take_slot` meets its contract. Assumes nothing.
-use borrow.Author.Needs.{needs}
+use Rattle.semantics.proofs.Prelude.{needs}
 use Rattle.waitlist.proofs.take_slot.Statement.{statement}
 use Rattle.waitlist.proofs.take_slot.Tie as tie
 

@@ -1,5 +1,5 @@
 -- `waitlist::wait_unless` meets its contract. Assumes nothing.
-use borrow.Author.Needs.{needs}
+use Rattle.semantics.proofs.Prelude.{needs}
 use Rattle.waitlist.proofs.wait_unless.Statement.{statement}
 use Rattle.waitlist.proofs.wait_unless.Tie as tie
 

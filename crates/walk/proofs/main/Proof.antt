@@ -1,9 +1,5 @@
 -- `walk::main` is safe and ends: what it writes lies within the bytes that `respond_to` was lent. Assumes nothing.
-use mathlib.Core.Path.{sym}
-use Prim.Native.Nat.{_≤_}
-use borrow.Author.Needs.{needs}
-use lib.ListN.{length}
-use lib.Seq.{length-take-le}
+use Rattle.semantics.proofs.Prelude.{sym, _≤_, needs, length, length-take-le}
 use Rattle.program.proofs.Enough.{printed-within}
 use Rattle.walk.proofs.main.Statement.{statement}
 use Rattle.walk.proofs.main.Tie as tie

@@ -1,15 +1,5 @@
 -- `words::all_zero` meets its contract. Assumes nothing.
-use mathlib.Core.Path.{_≡_, refl, sym, ap, _∙_}
-use mathlib.Core.Bool.{_&&_}
-use Prim.Native.Nat.{_+_, _-_, _≤_}
-use native.Mathlib.Numerals.{add-one}
-use native.Mathlib.Omega.{arith}
-use lib.IntN.{ℤ, pos}
-use lib.ListN.{length, drop, getD, drop-of-length-le}
-use lib.Seq.{drop-cons}
-use mir.Syntax.{w32}
-use mir.Facts.{sfits-lit}
-use borrow.Author.Needs.{sfits-of}
+use Rattle.semantics.proofs.Prelude.{_≡_, refl, sym, ap, _∙_, _&&_, _+_, _-_, _≤_, add-one, arith, ℤ, pos, length, drop, getD, drop-of-length-le, drop-cons, w32, sfits-lit, sfits-of}
 use Rattle.semantics.specs.Chart.{eqZ}
 use Rattle.semantics.specs.Memory.{zeros}
 use Rattle.words.proofs.Words.{bits-eq, bits-ne, eqZ-sym}

@@ -1,16 +1,6 @@
 -- `words::contains` meets its contract. The invariant: the word is in the list exactly when it is in what is left.
 -- Assumes nothing.
-use mathlib.Core.Path.{_≡_, refl, sym, ap, _∙_}
-use mathlib.Core.Bool.{Bool, true, false, _||_}
-use mathlib.Core.List.{List}
-use Prim.Native.Nat.{ℕ, _+_, _-_, _≤_}
-use native.Mathlib.Omega.{arith}
-use borrow.Author.Needs.{sfits-of}
-use lib.IntN.{ℤ, pos}
-use lib.ListN.{length, drop, getD, drop-of-length-le}
-use mir.Syntax.{w32}
-use mir.Val.{toZ}
-use mir.ValLaws.{toZ-ofZ}
+use Rattle.semantics.proofs.Prelude.{_≡_, refl, sym, ap, _∙_, Bool, true, false, _||_, List, ℕ, _+_, _-_, _≤_, arith, sfits-of, ℤ, pos, length, drop, getD, drop-of-length-le, w32, toZ, toZ-ofZ}
 use Rattle.semantics.specs.Lists.{some-of}
 use Rattle.semantics.specs.Chart.{eqZ}
 use Rattle.words.proofs.Words.{bits-eq, bits-ne}

@@ -1,14 +1,5 @@
 -- `words::copy_words` meets its contract. Assumes nothing.
-use mathlib.Core.Path.{_≡_, refl, sym, _∙_}
-use Prim.Native.Nat.{_-_, _≤_, _<_}
-use native.Mathlib.Numerals.{add-one}
-use native.Mathlib.Omega.{arith}
-use lib.IntN.{pos}
-use lib.ListN.{length, take, getD, length-set}
-use lib.Seq.{take-all, take-suc, take-suc-set}
-use mir.Syntax.{w32}
-use mir.ValLaws.{toZ-ofZ}
-use borrow.Author.Needs.{sfits-of}
+use Rattle.semantics.proofs.Prelude.{_≡_, refl, sym, _∙_, _-_, _≤_, _<_, add-one, arith, pos, length, take, getD, length-set, take-all, take-suc, take-suc-set, w32, toZ-ofZ, sfits-of}
 use Rattle.words.proofs.copy_words.Statement.{statement}
 use Rattle.words.proofs.copy_words.Tie as tie
 

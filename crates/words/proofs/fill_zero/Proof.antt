@@ -1,12 +1,5 @@
 -- `words::fill_zero` meets its contract. Assumes nothing.
-use mathlib.Core.Path.{_≡_, refl, sym, _∙_}
-use Prim.Native.Nat.{_-_, _≤_}
-use native.Mathlib.Omega.{arith}
-use borrow.Author.Needs.{needs}
-use lib.IntN.{pos}
-use lib.ListN.{length, take}
-use lib.ListN.{replicate, length-set}
-use lib.Seq.{take-all}
+use Rattle.semantics.proofs.Prelude.{_≡_, refl, sym, _∙_, _-_, _≤_, arith, needs, pos, length, take, replicate, length-set, take-all}
 use Rattle.words.proofs.Rows.{zero-turn}
 use Rattle.words.proofs.fill_zero.Statement.{statement}
 use Rattle.words.proofs.fill_zero.Tie as tie

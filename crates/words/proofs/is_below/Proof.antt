@@ -1,7 +1,5 @@
 -- `words::is_below` meets its contract. Assumes nothing.
-use borrow.Author.Needs.{needs}
-use mir.Syntax.{w32}
-use mir.ValLaws.{toZ-ofZ}
+use Rattle.semantics.proofs.Prelude.{needs, w32, toZ-ofZ}
 use Rattle.words.proofs.Words.{from-zero}
 use Rattle.words.proofs.is_below.Statement.{statement}
 use Rattle.words.proofs.is_below.Tie as tie

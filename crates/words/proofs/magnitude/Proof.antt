@@ -1,13 +1,5 @@
 -- `words::magnitude` meets its contract: below 0 the word is taken from 0 in 64 bits. Assumes nothing.
-use mathlib.Core.Path.{_≡_, refl, _∙_}
-use mathlib.Core.Bool.{true, false}
-use borrow.Author.Needs.{needs}
-use lib.IntN.{pos, natAbs, _-ℤ_}
-use lib.Signed.{ltZ}
-use mir.Syntax.{w32, w64}
-use mir.Facts.{fits-natAbs}
-use mir.Val.{toZ, ofZ}
-use mir.ValLaws.{toZ-ofZ}
+use Rattle.semantics.proofs.Prelude.{_≡_, refl, _∙_, true, false, needs, pos, natAbs, _-ℤ_, ltZ, w32, w64, fits-natAbs, toZ, ofZ, toZ-ofZ}
 use Rattle.words.proofs.Words.{not-neg, abs-small, below-fits, below-is}
 use Rattle.words.proofs.magnitude.Statement.{statement}
 use Rattle.words.proofs.magnitude.Tie as tie

@@ -1,7 +1,5 @@
 -- `words::number_at` meets its contract. Assumes nothing.
-use mathlib.Core.Path.{ap, _∙_}
-use borrow.Author.Needs.{needs, sfits-of}
-use lib.IntN.{natAbs}
+use Rattle.semantics.proofs.Prelude.{ap, _∙_, needs, sfits-of, natAbs}
 use Rattle.words.proofs.Words.{told}
 use Rattle.words.proofs.number_at.Statement.{statement}
 use Rattle.words.proofs.number_at.Tie as tie

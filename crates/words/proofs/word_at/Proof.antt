@@ -1,8 +1,5 @@
 -- `words::word_at` meets its contract. Assumes nothing.
-use mathlib.Core.Path.{sym}
-use borrow.Author.Needs.{needs}
-use lib.IntN.{pos}
-use lib.ListN.{List·getD-eq-default}
+use Rattle.semantics.proofs.Prelude.{sym, needs, pos, List·getD-eq-default}
 use Rattle.words.proofs.word_at.Statement.{statement}
 use Rattle.words.proofs.word_at.Tie as tie
 

@@ -1,9 +1,5 @@
 -- `writer::put_decimal` meets its contract: the digits of the tenth, then the last. Assumes nothing.
-use borrow.Author.Needs.{needs}
-use native.Mathlib.Omega.{arith}
-use mathlib.Core.Path.{sym, ap, _∙_}
-use mathlib.Core.List.{[], _∷_}
-use Prim.Native.Nat.{ℕ, _<_}
+use Rattle.semantics.proofs.Prelude.{needs, arith, sym, ap, _∙_, [], _∷_, ℕ, _<_}
 use Rattle.writer.proofs.Written.{put-then, put-same}
 use Rattle.writer.proofs.Decimals.{decimal-one, decimal-more}
 use borrow.Fn.Kinds.{In}

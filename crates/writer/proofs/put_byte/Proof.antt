@@ -1,7 +1,5 @@
 -- `writer::put_byte` meets its contract: past the end nothing is written. Assumes nothing.
-use borrow.Author.Needs.{needs}
-use native.Mathlib.Omega.{arith}
-use mathlib.Core.Path.{sym}
+use Rattle.semantics.proofs.Prelude.{needs, arith, sym}
 use Rattle.writer.proofs.Written.{written-set, written-past}
 use Rattle.writer.proofs.put_byte.Statement.{statement}
 use Rattle.writer.proofs.put_byte.Tie as tie

@@ -1,11 +1,5 @@
 -- `writer::put_bytes` meets its contract: with the bytes left, all are put. Assumes nothing.
-use borrow.Author.Needs.{needs}
-use native.Mathlib.Omega.{arith}
-use mathlib.Core.Path.{_≡_, refl, _∙_}
-use Prim.Native.Nat.{_-_, _≤_}
-use native.Mathlib.Numerals.{add-one}
-use lib.ListN.{length, drop, drop-of-length-le}
-use lib.Seq.{drop-cons}
+use Rattle.semantics.proofs.Prelude.{needs, arith, _≡_, refl, _∙_, _-_, _≤_, add-one, length, drop, drop-of-length-le, drop-cons}
 use Rattle.writer.proofs.Written.{Completes, one-more, all-put}
 use Rattle.writer.proofs.put_bytes.Statement.{statement}
 use Rattle.writer.proofs.put_bytes.Tie as tie

@@ -1,11 +1,5 @@
 -- `writer::put_signed` meets its contract: the sign, and the number without it. Assumes nothing.
-use borrow.Author.Needs.{needs}
-use mathlib.Core.Path.{_≡_, sym, ap, _∙_}
-use mathlib.Core.List.{_∷_}
-use Prim.Native.Nat.{ℕ}
-use lib.IntN.{natAbs}
-use mir.Syntax.{w32}
-use mir.ValLaws.{toZ-ofZ}
+use Rattle.semantics.proofs.Prelude.{needs, _≡_, sym, ap, _∙_, _∷_, ℕ, natAbs, w32, toZ-ofZ}
 use Rattle.semantics.specs.Text.{decimal}
 use Rattle.writer.proofs.Written.{put-then, put-same}
 use Rattle.writer.proofs.Decimals.{decimalZ-below, decimalZ-else}

@@ -1,9 +1,5 @@
 -- `analysis::outgoing::chain` meets its contract. Assumes nothing.
-use mathlib.Core.Path.{_≡_, refl, ap, _∙_}
-use Prim.Native.Nat.{_+_, _-_, _≤_}
-use native.Mathlib.Omega.{arith}
-use borrow.Author.Needs.{needs}
-use lib.ListN.{length}
+use Rattle.semantics.proofs.Prelude.{_≡_, refl, ap, _∙_, _+_, _-_, _≤_, arith, needs, length}
 use Rattle.semantics.specs.Encoding.{count}
 use Rattle.transfer.specs.Transfer.{edge-at}
 use Rattle.analysis.specs.Chains.{from-at, Chained}

@@ -1,9 +1,5 @@
 -- `analysis::outgoing::next` meets its contract. Assumes nothing.
-use mathlib.Core.Path.{_≡_, sym, ap, _∙_}
-use Prim.Native.Nat.{_-_}
-use native.Mathlib.Omega.{arith}
-use borrow.Author.Needs.{needs}
-use borrow.Author.Tests.{not-false, eqb-true}
+use Rattle.semantics.proofs.Prelude.{_≡_, sym, ap, _∙_, _-_, arith, needs, not-false, eqb-true}
 use Rattle.semantics.specs.Encoding.{count}
 use Rattle.analysis.specs.Chains.{from-at}
 use Rattle.analysis.proofs.outgoing.next.Statement.{statement}

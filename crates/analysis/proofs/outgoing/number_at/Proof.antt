@@ -1,7 +1,5 @@
 -- `analysis::outgoing::number_at` meets its contract. Assumes nothing.
-use mathlib.Core.Path.{sym}
-use borrow.Author.Needs.{needs}
-use lib.ListN.{List·getD-eq-default}
+use Rattle.semantics.proofs.Prelude.{sym, needs, List·getD-eq-default}
 use Rattle.analysis.proofs.outgoing.number_at.Statement.{statement}
 use Rattle.analysis.proofs.outgoing.number_at.Tie as tie
 

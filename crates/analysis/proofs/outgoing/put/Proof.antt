@@ -1,7 +1,5 @@
 -- `analysis::outgoing::put` meets its contract. Assumes nothing.
-use mathlib.Core.Path.{sym}
-use borrow.Author.Needs.{needs}
-use lib.Seq.{set-out}
+use Rattle.semantics.proofs.Prelude.{sym, needs, set-out}
 use Rattle.analysis.proofs.outgoing.put.Statement.{statement}
 use Rattle.analysis.proofs.outgoing.put.Tie as tie
 

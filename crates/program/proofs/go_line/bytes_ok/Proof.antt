@@ -1,10 +1,5 @@
 -- `program::go_line::bytes_ok` meets its contract: the bytes that are left say whether all are bytes of a line. Assumes nothing.
-use borrow.Author.Needs.{needs}
-use mathlib.Core.Path.{_≡_, refl, sym, _∙_}
-use Prim.Native.Nat.{_-_, _≤_}
-use native.Mathlib.Omega.{arith}
-use lib.ListN.{length, drop}
-use borrow.Author.Tests.{not-true, not-false}
+use Rattle.semantics.proofs.Prelude.{needs, _≡_, refl, sym, _∙_, _-_, _≤_, arith, length, drop, not-true, not-false}
 use Rattle.semantics.specs.Lists.{all}
 use Rattle.text.proofs.Bytes.{all-step, all-stop, all-end}
 use Rattle.semantics.specs.Program.{line-byte}

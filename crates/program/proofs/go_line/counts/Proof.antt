@@ -1,8 +1,5 @@
 -- `program::go_line::counts` meets its contract. Assumes nothing.
-use borrow.Author.Needs.{needs}
-use mathlib.Core.Path.{_≡_, _∙_}
-use mir.Syntax.{w32}
-use mir.Val.{toZ, ofZ}
+use Rattle.semantics.proofs.Prelude.{needs, _≡_, _∙_, w32, toZ, ofZ}
 use Rattle.semantics.specs.Reading.{if-ok}
 use Rattle.text.specs.Fields.{number-said}
 use Rattle.program.specs.Asked.{asked-res}

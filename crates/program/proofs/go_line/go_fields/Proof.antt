@@ -1,10 +1,5 @@
 -- `program::go_line::go_fields` meets its contract: the tests cannot tell a cut number from the number. Assumes nothing.
-use borrow.Author.Needs.{needs}
-use mathlib.Core.Path.{_≡_, sym, ap, _∙_}
-use mathlib.Core.List.{List}
-use mathlib.Core.Bool.{true}
-use Prim.Native.Nat.{ℕ}
-use borrow.Author.Tests.{not-true, not-false}
+use Rattle.semantics.proofs.Prelude.{needs, _≡_, sym, ap, _∙_, List, true, ℕ, not-true, not-false}
 use Rattle.semantics.specs.Text.{bytes, same-bytes, fields}
 use Rattle.semantics.specs.Reading.{check, if-ok, nth, filled}
 use Rattle.program.specs.Asked.{settings-res, asked-res}

@@ -1,5 +1,5 @@
 -- `program::go_line::order_field` meets its contract. Assumes nothing.
-use borrow.Author.Needs.{needs}
+use Rattle.semantics.proofs.Prelude.{needs}
 use Rattle.text.proofs.Judged.{word-by-word}
 use Rattle.program.specs.Asked.{order-res}
 use Rattle.program.proofs.go_line.order_field.Statement.{statement}

@@ -1,12 +1,5 @@
 -- `program::go_line::read` meets its contract: the line is judged by the place of its LF. Assumes nothing.
-use borrow.Author.Needs.{needs}
-use borrow.Author.Tests.{not-true, not-false, lt-ltb, le-ltb}
-use mathlib.Core.Path.{_≡_, sym, ap, _∙_}
-use mathlib.Core.Bool.{true}
-use mathlib.Core.List.{List}
-use Prim.Native.Nat.{ℕ, _≤_, _<_}
-use native.Mathlib.Omega.{arith}
-use lib.ListN.{length, take, length-take}
+use Rattle.semantics.proofs.Prelude.{needs, not-true, not-false, lt-ltb, le-ltb, _≡_, sym, ap, _∙_, true, List, ℕ, _≤_, _<_, arith, length, take, length-take}
 use Rattle.semantics.specs.Lists.{all}
 use Rattle.semantics.specs.Text.{fields}
 use Rattle.semantics.specs.Reading.{check}

@@ -1,6 +1,5 @@
 -- `program::go_line::settings_fields` meets its contract: each field that was read leaves the next. Assumes nothing.
-use borrow.Author.Needs.{needs}
-use mathlib.Core.Path.{_≡_}
+use Rattle.semantics.proofs.Prelude.{needs, _≡_}
 use Rattle.semantics.specs.Text.{fields}
 use Rattle.semantics.specs.Reading.{ok, if-ok, nth}
 use Rattle.semantics.specs.Program.{mode-field, order-field}

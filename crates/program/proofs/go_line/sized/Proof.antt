@@ -1,9 +1,5 @@
 -- `program::go_line::sized` meets its contract: each test that passed leaves the next. Assumes nothing.
-use borrow.Author.Needs.{needs, sfits-of}
-use mathlib.Core.Path.{_≡_, sym, ap, _∙_}
-use borrow.Author.Tests.{not-true, not-false}
-use mir.Syntax.{w32}
-use mir.ValLaws.{toZ-ofZ}
+use Rattle.semantics.proofs.Prelude.{needs, sfits-of, _≡_, sym, ap, _∙_, not-true, not-false, w32, toZ-ofZ}
 use Rattle.semantics.specs.Reading.{check}
 use Rattle.semantics.specs.Algorithm.{allowed}
 use Rattle.semantics.specs.Memory.{capacity-ok}

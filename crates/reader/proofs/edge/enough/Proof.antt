@@ -1,5 +1,5 @@
 -- `reader::edge::enough` meets its contract. Assumes nothing.
-use borrow.Author.Needs.{needs}
+use Rattle.semantics.proofs.Prelude.{needs}
 use Rattle.reader.proofs.edge.enough.Statement.{statement}
 use Rattle.reader.proofs.edge.enough.Tie as tie
 

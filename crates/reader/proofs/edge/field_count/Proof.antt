@@ -1,7 +1,5 @@
 -- `reader::edge::field_count` meets its contract. Assumes nothing.
-use mathlib.Core.Path.{_≡_, refl}
-use Prim.Native.Nat.{ℕ}
-use borrow.Author.Needs.{needs}
+use Rattle.semantics.proofs.Prelude.{_≡_, refl, ℕ, needs}
 use Rattle.semantics.specs.Reading.{field-count}
 use Rattle.semantics.specs.declared.Arithmetic.{Arithmetic}
 use Rattle.semantics.specs.declared.Arithmetic.the-variants as arithmetic

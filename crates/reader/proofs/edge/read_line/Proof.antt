@@ -1,8 +1,5 @@
 -- `reader::edge::read_line` meets its contract. Assumes nothing.
-use mathlib.Core.Path.{sym, ap, _∙_}
-use native.Mathlib.Omega.{arith}
-use borrow.Author.Tests.{not-true, not-false}
-use borrow.Author.Needs.{needs}
+use Rattle.semantics.proofs.Prelude.{sym, ap, _∙_, arith, not-true, not-false, needs}
 use Rattle.semantics.specs.Reading.{op-word-field}
 use Rattle.text.specs.Fields.{op-word-res}
 use Rattle.reader.proofs.Reading.{edge-full, edge-short, edge-no-word, edge-word}

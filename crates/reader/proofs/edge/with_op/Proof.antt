@@ -1,6 +1,5 @@
 -- `reader::edge::with_op` meets its contract. Assumes nothing.
-use mathlib.Core.Path.{sym, ap}
-use borrow.Author.Needs.{needs}
+use Rattle.semantics.proofs.Prelude.{sym, ap, needs}
 use Rattle.reader.specs.Answers.{op-res}
 use Rattle.text.proofs.Judged.{then-fail, then-ok}
 use Rattle.reader.proofs.edge.with_op.Statement.{statement}

@@ -1,14 +1,5 @@
 -- `reader::edge::worded` meets its contract. Assumes nothing.
-use mathlib.Core.Path.{_≡_, sym, ap, _∙_}
-use mathlib.Core.Bool.{true}
-use mathlib.Core.List.{List}
-use Prim.Native.Nat.{ℕ}
-use native.Mathlib.Omega.{arith}
-use lib.Dec.{eqb}
-use lib.ListN.{length}
-use denote.Ref.{now}
-use borrow.Author.Tests.{eq-eqb, ne-eqb}
-use borrow.Author.Needs.{needs}
+use Rattle.semantics.proofs.Prelude.{_≡_, sym, ap, _∙_, true, List, ℕ, arith, eqb, length, now, eq-eqb, ne-eqb, needs}
 use Rattle.semantics.specs.Text.{fields}
 use Rattle.semantics.specs.Chart.{Edge}
 use Rattle.semantics.specs.Reading.{ok, field-count, with-edge}

@@ -1,7 +1,5 @@
 -- `reader::location::judged` meets its contract. Assumes nothing.
-use mathlib.Core.Path.{sym, ap, _∙_}
-use borrow.Author.Tests.{not-true, not-false}
-use borrow.Author.Needs.{needs}
+use Rattle.semantics.proofs.Prelude.{sym, ap, _∙_, not-true, not-false, needs}
 use Rattle.semantics.specs.Reading.{kind-field}
 use Rattle.semantics.specs.Text.{name-ok}
 use Rattle.text.specs.Fields.{kind-res}

@@ -1,6 +1,5 @@
 -- `reader::operation::after_target` meets its contract. Assumes nothing.
-use mathlib.Core.Path.{_∙_}
-use borrow.Author.Needs.{needs}
+use Rattle.semantics.proofs.Prelude.{_∙_, needs}
 use Rattle.reader.proofs.operation.after_target.Statement.{statement}
 use Rattle.reader.proofs.operation.after_target.Tie as tie
 

@@ -1,5 +1,5 @@
 -- `reader::operation::high_ok` meets its contract. Assumes nothing.
-use borrow.Author.Needs.{needs}
+use Rattle.semantics.proofs.Prelude.{needs}
 use Rattle.reader.proofs.operation.high_ok.Statement.{statement}
 use Rattle.reader.proofs.operation.high_ok.Tie as tie
 

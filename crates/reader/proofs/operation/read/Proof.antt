@@ -1,5 +1,5 @@
 -- `reader::operation::read` meets its contract. Assumes nothing.
-use borrow.Author.Needs.{needs}
+use Rattle.semantics.proofs.Prelude.{needs}
 use Rattle.reader.proofs.operation.read.Statement.{statement}
 use Rattle.reader.proofs.operation.read.Tie as tie
 

@@ -1,12 +1,5 @@
 -- `reader::scan::bad_byte` meets its contract. Assumes nothing.
-use mathlib.Core.Path.{_≡_, refl, sym, _∙_}
-use Prim.Native.Nat.{suc, _+_, _-_, _≤_}
-use native.Mathlib.Omega.{arith}
-use lib.ListN.{length, getD, drop}
-use lib.Dec.{eqb}
-use denote.Ref.{now}
-use borrow.Author.Tests.{not-true, not-false}
-use borrow.Author.Needs.{needs}
+use Rattle.semantics.proofs.Prelude.{_≡_, refl, sym, _∙_, suc, _+_, _-_, _≤_, arith, length, getD, drop, eqb, now, not-true, not-false, needs}
 use Rattle.semantics.specs.Reading.{bad-byte-line}
 use Rattle.semantics.specs.Lists.{pick}
 use Rattle.reader.proofs.Scans.{bad-step, bad-stop, bad-end, line-near}

@@ -1,7 +1,5 @@
 -- `reader::scan::line_after` meets its contract. Assumes nothing.
-use native.Mathlib.Numerals.{add-one}
-use borrow.Author.Tests.{eq-eqb, ne-eqb}
-use borrow.Author.Needs.{needs}
+use Rattle.semantics.proofs.Prelude.{add-one, eq-eqb, ne-eqb, needs}
 use Rattle.reader.proofs.scan.line_after.Statement.{statement}
 use Rattle.reader.proofs.scan.line_after.Tie as tie
 

@@ -1,11 +1,5 @@
 -- `reader::scan::open_line` meets its contract. Assumes nothing.
-use mathlib.Core.Path.{_≡_, refl, sym, _∙_}
-use Prim.Native.Nat.{suc, _-_, _≤_}
-use native.Mathlib.Omega.{arith}
-use lib.ListN.{length, drop}
-use lib.Dec.{eqb}
-use borrow.Author.Tests.{eq-eqb, ne-eqb}
-use borrow.Author.Needs.{needs}
+use Rattle.semantics.proofs.Prelude.{_≡_, refl, sym, _∙_, suc, _-_, _≤_, arith, length, drop, eqb, eq-eqb, ne-eqb, needs}
 use Rattle.semantics.specs.Reading.{open-line}
 use Rattle.semantics.specs.Lists.{pick}
 use Rattle.reader.proofs.Scans.{open-step, open-end, line-near}

@@ -1,7 +1,5 @@
 -- `reader::variable::judged` meets its contract. Assumes nothing.
-use mathlib.Core.Path.{sym, _∙_}
-use borrow.Author.Tests.{not-true, not-false}
-use borrow.Author.Needs.{needs}
+use Rattle.semantics.proofs.Prelude.{sym, _∙_, not-true, not-false, needs}
 use Rattle.semantics.specs.Text.{name-ok}
 use Rattle.reader.proofs.Judging.{check-no, check-yes, said}
 use Rattle.reader.proofs.variable.judged.Statement.{statement}

@@ -1,14 +1,5 @@
 -- `reader::variable::named` meets its contract. Assumes nothing.
-use mathlib.Core.Path.{_≡_, sym, _∙_}
-use mathlib.Core.Bool.{not}
-use mathlib.Core.List.{List}
-use Prim.Native.Nat.{ℕ}
-use native.Mathlib.Omega.{arith}
-use denote.Ref.{now}
-use mir.Syntax.{w32}
-use mir.Val.{toZ, ofZ}
-use borrow.Author.Tests.{not-true, not-false}
-use borrow.Author.Needs.{needs}
+use Rattle.semantics.proofs.Prelude.{_≡_, sym, _∙_, not, List, ℕ, arith, now, w32, toZ, ofZ, not-true, not-false, needs}
 use Rattle.semantics.specs.Lists.{all}
 use Rattle.semantics.specs.Text.{same-bytes}
 use Rattle.semantics.specs.Reading.{So-far, with-var}

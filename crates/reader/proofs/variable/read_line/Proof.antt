@@ -1,10 +1,5 @@
 -- `reader::variable::read_line` meets its contract. Assumes nothing.
-use mathlib.Core.Path.{_≡_, sym, ap, _∙_}
-use mathlib.Core.List.{List}
-use Prim.Native.Nat.{ℕ}
-use lib.Dec.{T}
-use denote.Ref.{now}
-use borrow.Author.Needs.{needs}
+use Rattle.semantics.proofs.Prelude.{_≡_, sym, ap, _∙_, List, ℕ, T, now, needs}
 use Rattle.semantics.specs.Text.{name-ok, fields}
 use Rattle.semantics.specs.Reading.{ok}
 use Rattle.semantics.proofs.Accepted.{check-ok}

@@ -1,6 +1,5 @@
 -- `text::lines::line_at` meets its contract. Assumes nothing.
-use mathlib.Core.Path.{sym}
-use borrow.Author.Needs.{needs}
+use Rattle.semantics.proofs.Prelude.{sym, needs}
 use Rattle.text.proofs.Places.{line-none, line-some}
 use Rattle.text.proofs.lines.line_at.Statement.{statement}
 use Rattle.text.proofs.lines.line_at.Tie as tie
