@@ -66,7 +66,7 @@ range-words (suc n) zero ws z h = refl
 range-words (suc n) (suc k) ws z h =
     let a : variable-size + variable-size * k ≡ variable-size * suc k = omega arith in
     let b : variable-size + (variable-size * k + high-place) ≡ variable-size * suc k + high-place = omega arith in
-    range-words n k (drop variable-size ws) z (omega arith) ∙ rw (getD-drop counts-size ws (3 * k) (pos 0), getD-drop counts-size ws (3 * k + 1) (pos 0), a, b)
+    range-words n k (drop variable-size ws) z (omega arith) ∙ rw (getD-drop counts-size ws (variable-size * k) (pos 0), getD-drop counts-size ws (variable-size * k + 1) (pos 0), a, b)
 
 -- a row begins with what its decoding encodes to
 abbrev exact : {A : Type 0} → (A → List ℤ) → (List ℤ → A) → List ℤ → Bool

@@ -18,7 +18,7 @@ ghost use lib.ListN.{length};
 ghost use Rattle.semantics.specs.Lists.{all};
 ghost use Rattle.semantics.specs.Text.{same-bytes};
 ghost use Rattle.semantics.specs.Chart.{eqZ, small};
-ghost use Rattle.semantics.specs.Layout.{counts-size, variable-size, name-size, location-size, edge-size, variable-at, high-place, init-place, to-place, operation-place, target-place, first-tag-place, first-value-place, second-tag-place, second-value-place, ge-code, index-limit};
+ghost use Rattle.semantics.specs.Layout.{counts-size, variable-size, name-size, location-size, edge-size, variable-at, high-place, init-place, to-place, operation-place, target-place, first-tag-place, first-value-place, second-tag-place, second-value-place, ge-code, index-limit, most-variables, most-locations, most-edges};
 ghost use Rattle.semantics.specs.Encoding.{word-at, count, val, kind-word, rel-code, tag, operand-word, var-words, loc-words, op-words, edge-words, init-ok, var-in, var-ok, loc-in, several, distinct-names, decode, well-formed};
 ghost use Rattle.semantics.specs.Operations.{the-operand, the-relation, the-operation};
 ghost use Rattle.semantics.specs.Listing.{loc-text};
@@ -144,7 +144,7 @@ fn put_row(rows: &mut [i32], at: usize, row: &[i32])
 
 // The counts, and the rows after them.
 pub fn put_chart(chart: &mut [i32], vars: usize, locations: usize, edges: usize, rows: &[i32])
-    requires { ⌜ (vars ≤ 8) × (locations ≤ 64) × (edges ≤ 256) × (counts-size + length (now rows) ≤ length (now chart)) ⌝ }
+    requires { ⌜ (vars ≤ most-variables) × (locations ≤ most-locations) × (edges ≤ most-edges) × (counts-size + length (now rows) ≤ length (now chart)) ⌝ }
     ensures { λ _. ⌜ now (chart .exit) ≡ stored 0 (pos vars ∷ pos locations ∷ pos edges ∷ now (rows .entry)) (now (chart .entry)) ⌝ }
 {
     let counts = [vars as i32, locations as i32, edges as i32];
@@ -589,7 +589,7 @@ fn split_of(op: Operation) -> Split
 
 // An edge's row: from, to, and the operation's six words.
 pub fn put_edge(rows: &mut [i32], at: usize, from: LocationId, to: LocationId, op: Operation)
-    requires { ⌜ (from .0 < 64) × (to .0 < 64) × (at + edge-size ≤ length (now rows)) ⌝ }
+    requires { ⌜ (from .0 < most-locations) × (to .0 < most-locations) × (at + edge-size ≤ length (now rows)) ⌝ }
     ensures { λ _. ⌜ now (rows .exit) ≡ stored at (edge-words (the-edge (from .0) (to .0) op)) (now (rows .entry)) ⌝ }
 {
     let o = split_of(op);

@@ -9,7 +9,7 @@ use lib.IntN.{ℤ}
 use Rattle.semantics.specs.Lists.{all, each, is-empty}
 use Rattle.semantics.specs.Text.{name-ok, lines, fields}
 use Rattle.semantics.specs.Chart.{Loc, Chart}
-use Rattle.semantics.specs.Layout.{location-size}
+use Rattle.semantics.specs.Layout.{location-size, most-variables, most-locations, most-edges}
 use Rattle.semantics.specs.Encoding.{var-words, loc-words, edge-words}
 use Rattle.semantics.specs.Reading.{Res, fail, ok, So-far, Reading, nothing-read, refused, ended, judged}
 use Rattle.text.specs.Places.{line-at, place-after}
@@ -37,9 +37,9 @@ most-names = location-size * 8
 
 -- no more than a chart has
 pub record Few (t : Tally) : Type 0 where
-  pub vars : t .vars ≤ 8
-  pub locs : t .locs ≤ 64
-  pub edges : t .edges ≤ 256
+  pub vars : t .vars ≤ most-variables
+  pub locs : t .locs ≤ most-locations
+  pub edges : t .edges ≤ most-edges
 
 -- the counts and the words hold the chart
 pub record Rows (t : Tally) (ws : List ℤ) (c : Chart) : Type 0 where

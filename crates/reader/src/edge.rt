@@ -9,6 +9,7 @@ ghost use Prim.Native.Nat.{_<_};
 ghost use lib.Dec.{leb};
 ghost use lib.IntN.{ℤ};
 ghost use lib.ListN.{length};
+ghost use Rattle.semantics.specs.Layout.{most-edges};
 ghost use Rattle.semantics.specs.Text.{fields};
 ghost use Rattle.semantics.specs.Reading.{So-far, none-empty, edge-line};
 ghost use Rattle.semantics.specs.Reading.{field-count as field-count-of};
@@ -86,7 +87,7 @@ fn judged(w: text::OpWord, t: Tally, rows: &[i32], line: &[u8]) -> EdgeRead
 
 // A line whose operation is known: 5 by its count, then its fields.
 fn worded(w: text::OpWord, t: Tally, rows: &mut [i32], line: &[u8]) -> Step
-    requires { ⌜ Few t × (t .edges < 256) × (length (now rows) ≡ most-rows) ⌝ }
+    requires { ⌜ Few t × (t .edges < most-edges) × (length (now rows) ≡ most-rows) ⌝ }
     ensures { λ r. ⌜ ((s : So-far) (names : List ℤ) → Rows t (now (rows .entry)) (s .chart) → Names (t .vars) names (s .names) → Stepped r (edge-worded s (the-word w) (fields (now (line .entry)))) (now (rows .exit)) names) ⌝ }
 {
     if text::field_count(line) != field_count(w) {

@@ -6,6 +6,7 @@ ghost use mathlib.Core.List.{List};
 ghost use Prim.Native.Nat.{_<_};
 ghost use lib.IntN.{ℤ};
 ghost use lib.ListN.{length};
+ghost use Rattle.semantics.specs.Layout.{most-locations};
 ghost use Rattle.semantics.specs.Text.{fields, name-ok};
 ghost use Rattle.semantics.specs.Reading.{So-far, loc-line};
 ghost use Rattle.text.specs.Fields.{kind-res};
@@ -30,7 +31,7 @@ fn judged(line: &[u8]) -> text::KindRead
 
 // A location, if its name is new.
 fn named(t: Tally, rows: &mut [i32], error: bool, name: &[u8]) -> Step
-    requires { ⌜ T (name-ok (now name)) × Few t × (t .locs < 64) × (t .edges ≡ 0) × (length (now rows) ≡ most-rows) ⌝ }
+    requires { ⌜ T (name-ok (now name)) × Few t × (t .locs < most-locations) × (t .edges ≡ 0) × (length (now rows) ≡ most-rows) ⌝ }
     ensures { λ r. ⌜ ((s : So-far) (names : List ℤ) → Rows t (now (rows .entry)) (s .chart) → Names (t .vars) names (s .names) → Stepped r (loc-named s (now (name .entry)) error) (now (rows .exit)) names) ⌝ }
 {
     let first = chart::rows_size(t.vars, 0, 0);

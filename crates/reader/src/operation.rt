@@ -6,6 +6,7 @@ ghost use mathlib.Core.Path.{_≡_};
 ghost use mathlib.Core.Bool.{_&&_};
 ghost use Prim.Native.Nat.{_≤_};
 ghost use lib.Signed.{leZ};
+ghost use Rattle.semantics.specs.Layout.{most-variables};
 ghost use Rattle.semantics.specs.Text.{fields};
 ghost use Rattle.semantics.specs.Reading.{nth, number-field, operand-field, rel-field};
 ghost use Rattle.chart.specs.Encoded.{ranged};
@@ -21,7 +22,7 @@ pub enum OperationRead {
 
 // The operand of `set`, in the field f.
 fn set(v: u8, vars: usize, f: &[u8]) -> OperationRead
-    requires { ⌜ vars ≤ 8 ⌝ }
+    requires { ⌜ vars ≤ most-variables ⌝ }
     ensures { λ r. ⌜ op-res r ≡ set-read v (operand-field vars (now (f .entry))) ⌝ }
 {
     match text::operand_field(vars, f) {
@@ -32,7 +33,7 @@ fn set(v: u8, vars: usize, f: &[u8]) -> OperationRead
 
 // The operands of `add` and `sub`, in the line's last fields.
 fn compute(s: Arithmetic, v: u8, vars: usize, line: &[u8]) -> OperationRead
-    requires { ⌜ vars ≤ 8 ⌝ }
+    requires { ⌜ vars ≤ most-variables ⌝ }
     ensures { λ r. ⌜ op-res r ≡ sum-read s v (operand-field vars (nth (fields (now (line .entry))) 5)) (operand-field vars (nth (fields (now (line .entry))) 6)) ⌝ }
 {
     match text::operand_field(vars, text::field(line, 5)) {
@@ -83,7 +84,7 @@ fn input(rows: &[i32], v: u8, line: &[u8]) -> OperationRead
 
 // Relation and operand of `if`.
 fn assume(v: u8, vars: usize, line: &[u8]) -> OperationRead
-    requires { ⌜ vars ≤ 8 ⌝ }
+    requires { ⌜ vars ≤ most-variables ⌝ }
     ensures { λ r. ⌜ op-res r ≡ assume-read v (rel-field (nth (fields (now (line .entry))) 5)) (operand-field vars (nth (fields (now (line .entry))) 6)) ⌝ }
 {
     match text::rel_field(text::field(line, 5)) {
@@ -97,7 +98,7 @@ fn assume(v: u8, vars: usize, line: &[u8]) -> OperationRead
 
 // The fields after the target v.
 fn after_target(w: text::Action, v: u8, vars: usize, rows: &[i32], line: &[u8]) -> OperationRead
-    requires { ⌜ vars ≤ 8 ⌝ }
+    requires { ⌜ vars ≤ most-variables ⌝ }
     ensures { λ r. ⌜ op-res r ≡ after-target-read (now (rows .entry)) vars w v (fields (now (line .entry))) ⌝ }
 {
     match w {
@@ -110,7 +111,7 @@ fn after_target(w: text::Action, v: u8, vars: usize, rows: &[i32], line: &[u8]) 
 
 // The fields from the target on.
 fn targeted(w: text::Action, vars: usize, rows: &[i32], line: &[u8]) -> OperationRead
-    requires { ⌜ vars ≤ 8 ⌝ }
+    requires { ⌜ vars ≤ most-variables ⌝ }
     ensures { λ r. ⌜ op-res r ≡ targeted-read (now (rows .entry)) vars w (fields (now (line .entry))) ⌝ }
 {
     match text::target_field(vars, text::field(line, 4)) {
@@ -121,7 +122,7 @@ fn targeted(w: text::Action, vars: usize, rows: &[i32], line: &[u8]) -> Operatio
 
 // The fields after the operation's word.
 pub fn read(w: text::OpWord, vars: usize, rows: &[i32], line: &[u8]) -> OperationRead
-    requires { ⌜ vars ≤ 8 ⌝ }
+    requires { ⌜ vars ≤ most-variables ⌝ }
     ensures { λ r. ⌜ op-res r ≡ op-read (now (rows .entry)) vars w (fields (now (line .entry))) ⌝ }
 {
     match w {

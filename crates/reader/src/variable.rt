@@ -4,6 +4,7 @@ ghost use mathlib.Core.Path.{_≡_};
 ghost use lib.Dec.{T};
 ghost use Prim.Native.Nat.{_<_};
 ghost use lib.ListN.{length};
+ghost use Rattle.semantics.specs.Layout.{most-variables};
 ghost use Rattle.semantics.specs.Text.{fields, name-ok};
 ghost use Rattle.semantics.specs.Reading.{So-far, var-line};
 ghost use Rattle.reader.specs.Answers.{var-of, var-res};
@@ -80,7 +81,7 @@ fn judged(line: &[u8]) -> VarLine
 
 // A variable, if its name is new. The name is kept as a location's is, so that one function looks for both.
 fn named(t: Tally, rows: &mut [i32], names: &mut [i32], v: VarRow, name: &[u8]) -> Step
-    requires { ⌜ T (name-ok (now name)) × (t .vars < 8) × (t .locs ≡ 0) × (t .edges ≡ 0) × (length (now rows) ≡ most-rows) × (length (now names) ≡ most-names) ⌝ }
+    requires { ⌜ T (name-ok (now name)) × (t .vars < most-variables) × (t .locs ≡ 0) × (t .edges ≡ 0) × (length (now rows) ≡ most-rows) × (length (now names) ≡ most-names) ⌝ }
     ensures { λ r. ⌜ ((s : So-far) → Rows t (now (rows .entry)) (s .chart) → Names (t .vars) (now (names .entry)) (s .names) → Stepped r (var-named s (now (name .entry)) (var-of v)) (now (rows .exit)) (now (names .exit))) ⌝ }
 {
     let at = chart::LOCATION_WORDS * t.vars;

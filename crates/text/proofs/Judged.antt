@@ -1,4 +1,5 @@
 -- One field by its tests: a number below a count, `$k`, an operand, an initial value, a word. Assumes nothing.
+use Rattle.semantics.specs.Layout.{top-word}
 use Rattle.semantics.proofs.Prelude.{_≡_, refl, sym, ap, subst, _∙_, Bool, true, false, List, [], _∷_, Option, some, none, ℕ, _-_, _≤_, _<_, arith, T, length, getD, take, drop, take-length, ℤ, pos, negsuc, natAbs, ltZ, eq-eqb, ne-eqb, lt-ltb, le-ltb, ltb-true}
 use Rattle.semantics.specs.Lists.{pick}
 use Rattle.semantics.specs.Text.{bytes, same-bytes, natural-of, nonnegative, number-of}
@@ -73,13 +74,13 @@ small-of (some y) z e = go (small y) refl e
     go true s q = let p : y ≡ z = cc in ap small (sym p) ∙ s
     go false s q = absurd (not-both 7 z q)
 
-small-not-top : (z : ℤ) → small z ≡ true → z ≡ pos 32768 → ⊥
-small-not-top z s e = let t : small (pos 32768) ≡ true = ap small (sym e) ∙ s in subst T (sym t) tt
+small-not-top : (z : ℤ) → small z ≡ true → z ≡ top-word → ⊥
+small-not-top z s e = let t : small top-word ≡ true = ap small (sym e) ∙ s in subst T (sym t) tt
 
 -- a number that a field says is no word of top
 pub number-known : (l : List ℕ) (z : ℤ) → number-field l ≡ ok z → val z ≡ known z
 unfolding number-field
-number-known l z e = rw (ne-eqZ {a = z} {b = pos 32768} (small-not-top z (small-of (number-of l) z e)))
+number-known l z e = rw (ne-eqZ {a = z} {b = top-word} (small-not-top z (small-of (number-of l) z e)))
 
 -- the word of a value says the value
 module _ (lo hi : ℤ) (l : List ℕ) where

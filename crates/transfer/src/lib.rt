@@ -45,7 +45,7 @@ fn lies_within(lo: i32, hi: i32, z: i64) -> bool
 fn operand(tag: i32, w: i32, row: &[i32]) -> i32
     ensures { λ r. ⌜ r ≡ operand-by tag w (now (row .entry)) ⌝ }
 {
-    if tag == 0 {
+    if tag == chart::NUMBER_TAG {
         return w;
     }
     let k = words::magnitude(w);
@@ -154,11 +154,11 @@ fn holds(n: usize, a: i32, b: i32) -> bool
     ensures { λ r. ⌜ r ≡ holds-by n a b ⌝ }
 {
     match n {
-        5 => a == b,
-        6 => a != b,
-        7 => a < b,
-        8 => a <= b,
-        9 => a > b,
+        chart::EQ_CODE => a == b,
+        chart::NE_CODE => a != b,
+        chart::LT_CODE => a < b,
+        chart::LE_CODE => a <= b,
+        chart::GT_CODE => a > b,
         _ => a >= b,
     }
 }
@@ -168,7 +168,7 @@ fn refine(chart: &[i32], n: usize, k: usize, x: i32, row: &mut [i32]) -> Move
     requires { ⌜ k < index-limit ⌝ }
     ensures { λ r. ⌜ step-of r (now (row .exit)) ≡ refine-by (now (chart .entry)) n k x (now (row .entry)) ⌝ }
 {
-    if (x != words::TOP) & (n == 5) {
+    if (x != words::TOP) & (n == chart::EQ_CODE) {
         return put_ranged(chart, k, words::wide(x), row);
     }
     Move::Successor
@@ -202,11 +202,11 @@ fn apply(chart: &[i32], edge: Edge, row: &mut [i32]) -> Move
 {
     let n = chart::edge_operation(chart, edge);
     match n {
-        0 => Move::Successor,
-        1 => assign(chart, edge, row),
-        2 => add(chart, edge, row),
-        3 => sub(chart, edge, row),
-        4 => input(chart, edge, row),
+        chart::SKIP_CODE => Move::Successor,
+        chart::SET_CODE => assign(chart, edge, row),
+        chart::ADD_CODE => add(chart, edge, row),
+        chart::SUB_CODE => sub(chart, edge, row),
+        chart::IN_CODE => input(chart, edge, row),
         _ => assume(chart, n, edge, row),
     }
 }

@@ -1,4 +1,5 @@
 -- Signed words: the machine's tests and casts, which go by bits, told of the whole numbers themselves. Assumes nothing.
+use Rattle.semantics.specs.Layout.{index-limit}
 use Rattle.semantics.proofs.Prelude.{_≡_, refl, sym, ap, subst, _∙_, Bool, true, false, cond, ℕ, zero, suc, _+_, _<_, _≤_, arith, lt-of-le-of-lt, zero-add, eqb, ltb, T, ℤ, pos, negsuc, natAbs, negℤ, _+ℤ_, _-ℤ_, nonNeg, mag, leZ, ltZ, Width, w32, w64, SFits, ofZ, toZ, toZ-ofZ, sfits-widen, sfits-lit, eqb-true, eq-eqb, ne-eqb, le-leb, leb-true, ltb-true}
 use Rattle.semantics.specs.Chart.{eqZ}
 
@@ -97,7 +98,7 @@ pub not-neg : (z : ℤ) → ltZ z (pos 0) ≡ false → T (nonNeg z)
 not-neg (pos n) e = tt
 not-neg (negsuc n) e = absurd (subst T e tt)
 
-pub abs-small : (z : ℤ) → SFits w32 z → natAbs z < 2147483649
+pub abs-small : (z : ℤ) → SFits w32 z → natAbs z < index-limit
 abs-small (pos n) f = omega (arith, f .sfits)
 abs-small (negsuc n) f = omega (arith, f .sfits)
 

@@ -3,6 +3,7 @@ ghost use mathlib.Core.Path.{_≡_};
 ghost use Prim.Native.Nat.{_<_};
 ghost use lib.IntN.{pos, natAbs};
 ghost use lib.ListN.{length, getD, replicate};
+ghost use Rattle.semantics.specs.Layout.{index-limit};
 ghost use Rattle.semantics.specs.Lists.{some-of};
 ghost use Rattle.semantics.specs.Chart.{eqZ, within};
 ghost use Rattle.semantics.specs.Encoding.{count};
@@ -30,7 +31,7 @@ pub fn wide(a: i32) -> i64
 
 // The number that a word says, whatever its sign.
 pub fn magnitude(w: i32) -> usize
-    ensures { λ r. ⌜ (r ≡ natAbs w) × (r < 2147483649) ⌝ }
+    ensures { λ r. ⌜ (r ≡ natAbs w) × (r < index-limit) ⌝ }
 {
     if w < 0 {
         let below = 0 - wide(w);
@@ -41,7 +42,7 @@ pub fn magnitude(w: i32) -> usize
 
 // The number at a place.
 pub fn number_at(s: &[i32], i: usize) -> usize
-    ensures { λ r. ⌜ (r ≡ count (now (s .entry)) i) × (r < 2147483649) ⌝ }
+    ensures { λ r. ⌜ (r ≡ count (now (s .entry)) i) × (r < index-limit) ⌝ }
 {
     magnitude(word_at(s, i))
 }
