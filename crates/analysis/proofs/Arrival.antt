@@ -7,7 +7,7 @@ use Rattle.state.specs.declared.Layout.{Layout}
 use Rattle.state.specs.Rows.{row-leq, rows-of}
 use Rattle.waitlist.specs.Waits.{waits}
 use Rattle.reached.proofs.Table.{Sized, rows-sized, rows-length}
-use Rattle.reached.proofs.Forms.{in-table}
+use Rattle.reached.proofs.FormKept.{in-table}
 use Rattle.transfer.specs.Transfer.{post-at, post-words, edge-at, edges-from}
 use Rattle.analysis.specs.declared.Exit.{Exit}
 use Rattle.analysis.specs.declared.Exit.the-variants.{On, Alarm, Full}

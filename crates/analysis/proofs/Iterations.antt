@@ -3,7 +3,7 @@ use Rattle.semantics.proofs.Prelude.{_≡_, refl, sym, ap, subst, _∙_, true, 
 use Rattle.semantics.specs.declared.Verdict.{Verdict}
 use Rattle.semantics.specs.declared.Verdict.the-variants.{Open, Safe, Alarm, Full}
 use Rattle.semantics.specs.declared.Analysis.{Analysis}
-use Rattle.semantics.specs.Algorithm.{Domain, Out, Exploration, Taken, verdict-of, leave, finish, iteration, run, has-verdict}
+use Rattle.semantics.specs.Algorithm.{Domain, Out, Exploration, Taken, verdict-of, visit-all, finish, iteration, run, has-verdict}
 use Rattle.semantics.specs.Tidy.{Every, Queue, Tidy}
 use Rattle.semantics.proofs.Tidy.{Left, take-left, Keeps, iteration-tidy}
 use Rattle.state.specs.declared.Layout.{Layout}
@@ -11,7 +11,7 @@ use Rattle.state.specs.Rows.{width-of, rows-of}
 use Rattle.waitlist.specs.Waits.{waits, TakenFrom}
 use Rattle.reached.specs.Reached.{Kept}
 use Rattle.reached.proofs.Table.{rows-length, rows-get}
-use Rattle.reached.proofs.Forms.{kept-after}
+use Rattle.reached.proofs.FormKept.{kept-after}
 use Rattle.analysis.specs.declared.Progress.{Progress}
 use Rattle.transfer.specs.Transfer.{edges-from}
 use Rattle.analysis.specs.Loaded.{domain-of, Any, load-of, Resumable, Loaded, Finished, Progressed}
@@ -32,17 +32,17 @@ module _ (y : Layout) (last : ℕ) (a : Analysis) (t l : List ℤ) (h : Resumabl
 
   -- the play of the edges, with the copy of the slot taken
   abbrev pub play-of : List ℤ → List ℕ → Out (List ℤ)
-  play-of c gs = leave (domain-of c) (a .settings) (a .capacity) (take (width-of y) (drop (k * y .stride) t)) gs (rows-of y (a .used) t) (waits (a .waiting - 1) l₁)
+  play-of c gs = visit-all (domain-of c) (a .settings) (a .capacity) (take (width-of y) (drop (k * y .stride) t)) gs (rows-of y (a .used) t) (waits (a .waiting - 1) l₁)
 
   iteration-is : (c : List ℤ) (gs : List ℕ) → iteration (domain-of c) gs (load-of y a t l) ≡ finish (domain-of c) (load-of y a t l) k (play-of c gs)
   unfolding iteration
   iteration-is c gs = rw (s .taken, rows-get y (a .used) k t (taken-from .1))
 
   -- the end of an iteration holds the rules' iteration
-  pub iteration-held : (c : List ℤ) (p : Progress) (t₂ l₂ : List ℤ) → length l₂ ≡ length l → Progressed y t₂ l₂ p (play-of c (edges-from 0 last))
+  pub iteration-sound : (c : List ℤ) (p : Progress) (t₂ l₂ : List ℤ) → length l₂ ≡ length l → Progressed y t₂ l₂ p (play-of c (edges-from 0 last))
       → (r : Analysis) (l₃ : List ℤ) → length l₃ ≡ length l₂ → Finished a k p l₂ r l₃
       → Loaded y last r t₂ l₃ (iteration (domain-of c) (edges-from 0 last) (load-of y a t l))
-  iteration-held c p t₂ l₂ l₂l g r l₃ ll f = record { load = load; form = record { kept = kept; capacity = ll ∙ l₂l ∙ h .capacity ∙ sym (f .capacity); allowed = rw (f .settings) (h .allowed); tidy = tidy } }
+  iteration-sound c p t₂ l₂ l₂l g r l₃ ll f = record { load = load; form = record { kept = kept; capacity = ll ∙ l₂l ∙ h .capacity ∙ sym (f .capacity); allowed = rw (f .settings) (h .allowed); tidy = tidy } }
     where
       load : load-of y r t₂ l₃ ≡ iteration (domain-of c) (edges-from 0 last) (load-of y a t l)
       load = f .load y t₂ t l ∙ ap (finish (domain-of c) (load-of y a t l) k) (g .out) ∙ sym (iteration-is c (edges-from 0 last))

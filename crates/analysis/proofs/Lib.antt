@@ -3,9 +3,9 @@
 pub mod Merges
 pub mod Arrival
 pub mod Chaining
-pub mod Passing
+pub mod PassedEdges
 pub mod Iterations
-pub mod Begin
-pub mod Stores
-pub mod Entered
-pub mod Sizes
+pub mod StartWords
+pub mod MemoryAtExit
+pub mod RunEntry
+pub mod ChartSizes

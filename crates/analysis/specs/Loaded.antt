@@ -90,8 +90,8 @@ abbrev pub alarm-by : EdgeId → ℕ → ℕ → Progress
 alarm-by g used waiting = record { exit = Alarm; edge = g; used = used; waiting = waiting }
 
 -- a successor finds no slot
-abbrev pub filled : ℕ → ℕ → Progress
-filled used waiting = record { exit = Full; edge = record { 0 = 0 }; used = used; waiting = waiting }
+abbrev pub table-full : ℕ → ℕ → Progress
+table-full used waiting = record { exit = Full; edge = record { 0 = 0 }; used = used; waiting = waiting }
 
 -- no further edge is played: an alarm, or a full table
 abbrev pub has-ended : Exit → Bool

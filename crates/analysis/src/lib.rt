@@ -13,12 +13,12 @@ ghost use mathlib.Core.Path.{_≡_};
 ghost use Prim.Native.Nat.{ℕ, _+_, _-_, _*_, _<_, _≤_, min};
 ghost use lib.ListN.{length};
 ghost use Rattle.semantics.specs.Layout.{most-iterations, index-limit};
-ghost use Rattle.semantics.specs.Algorithm.{arrive, visit, leave, first-verdict, iteration, run, start};
+ghost use Rattle.semantics.specs.Algorithm.{arrive, visit, visit-all, first-verdict, iteration, run, start};
 ghost use Rattle.semantics.specs.Tidy.{Allowed};
 ghost use Rattle.state.specs.Rows.{width-of, most-width, rows-of};
 ghost use Rattle.waitlist.specs.Waits.{waits, Admits};
 ghost use Rattle.transfer.specs.Transfer.{edge-at, edges-from, post-at};
-ghost use Rattle.analysis.specs.Loaded.{Outlined, Ready, Merged, rows-only, domain-of, has-ended, with-counts, went-on, alarm-by, filled, Progressed, ended, load-of, Resumable, Loaded, Ended, Finished};
+ghost use Rattle.analysis.specs.Loaded.{Outlined, Ready, Merged, rows-only, domain-of, has-ended, with-counts, went-on, alarm-by, table-full, Progressed, ended, load-of, Resumable, Loaded, Ended, Finished};
 
 mod outgoing;
 
@@ -79,8 +79,8 @@ fn alarm_by(edge: EdgeId, used: usize, waiting: usize) -> Progress
 }
 
 // A successor finds no slot.
-fn filled(used: usize, waiting: usize) -> Progress
-    ensures { λ p. ⌜ p ≡ filled used waiting ⌝ }
+fn table_full(used: usize, waiting: usize) -> Progress
+    ensures { λ p. ⌜ p ≡ table-full used waiting ⌝ }
 {
     Progress {
         exit: Exit::Full,
@@ -119,7 +119,7 @@ fn arrive(layout: Layout, a: Analysis, e: &[i32], table: &mut [i32], list: &mut 
         let more = waitlist::append(list, count, SlotId(used));
         return went_on(used + 1, more);
     }
-    filled(used, count)
+    table_full(used, count)
 }
 
 // One edge, with the copy of the taken state. `next` is a row lent for the successor.
@@ -160,7 +160,7 @@ fn has_ended(exit: Exit) -> bool
 }
 
 // The edges in file order, each with the copy. Those that the chain of its location passes over would change nothing.
-fn leave(
+fn visit_all(
     chart: &[i32],
     outline: Outline,
     heads: &[usize],
@@ -171,7 +171,7 @@ fn leave(
     list: &mut [i32],
 ) -> Progress
     requires { ⌜ Ready (outline .layout) a (now table) (now list) (now copy) × Outlined (now chart) outline (now heads) (now nexts) ⌝ }
-    ensures { λ p. ⌜ Progressed (outline .layout) (now (table .exit)) (now (list .exit)) p (leave (domain-of (now (chart .entry))) (a .settings) (length (now (list .entry))) (now (copy .entry)) (edges-from 0 (outline .edges)) (rows-of (outline .layout) (a .used) (now (table .entry))) (waits (a .waiting) (now (list .entry)))) ⌝ }
+    ensures { λ p. ⌜ Progressed (outline .layout) (now (table .exit)) (now (list .exit)) p (visit-all (domain-of (now (chart .entry))) (a .settings) (length (now (list .entry))) (now (copy .entry)) (edges-from 0 (outline .edges)) (rows-of (outline .layout) (a .used) (now (table .entry))) (waits (a .waiting) (now (list .entry)))) ⌝ }
 {
     let layout = outline.layout;
     let first = outline.first;
@@ -272,7 +272,7 @@ fn iteration_with(
     let slot = waitlist::take_slot(order, list, a.waiting);
     reached::get_row(layout, table, slot, copy);
     let taken = with_counts(a, a.used, a.waiting - 1);
-    let p = leave(chart, outline, heads, nexts, taken, copy, table, list);
+    let p = visit_all(chart, outline, heads, nexts, taken, copy, table, list);
     finish(a, slot, p, list)
 }
 

@@ -1,3 +1,3 @@
 -- Refusals and sizes.
 pub mod Refusals
-pub mod Sized
+pub mod CallSizes

@@ -5,7 +5,7 @@ use Rattle.semantics.specs.Algorithm.{allowed}
 use Rattle.semantics.specs.Encoding.{decode, well-formed}
 use Rattle.semantics.specs.Memory.{Memory, width, capacity-ok}
 use Rattle.semantics.specs.Outcomes.{Outcome, refusal, refused-by, settled, budget-ok, size-of, form-of, start-cases, run-cases}
-use Rattle.semantics.proofs.FirstCase.{none-holds, passed, enough, refused-stays, goes}
+use Rattle.semantics.proofs.FirstCase.{none-met, passed, enough, refused-stays, goes}
 use Rattle.checks.specs.Form.{InForm}
 use Rattle.checks.proofs.FormTests.{in-form}
 use Rattle.calls.specs.declared.Called.{Called}
@@ -19,7 +19,7 @@ pub record StartPasses (ws : List ℤ) (z : Settings) (r : ℤ) (t l : ℕ) : Ty
 
 pub start-passes : (ws : List ℤ) (z : Settings) (r : ℤ) (t l : ℕ) → refusal (start-cases z r (size-of ws (natAbs r) t l)) ≡ 0 → StartPasses ws z r t l
 start-passes ws z r t l e =
-    let p = none-holds (start-cases z r (size-of ws (natAbs r) t l)) tt e in
+    let p = none-met (start-cases z r (size-of ws (natAbs r) t l)) tt e in
     record {
       capacity = passed (capacity-ok r) (p .0);
       settings = passed (allowed (z .merge) (z .stop)) (p .1 .0);
@@ -29,7 +29,7 @@ start-passes ws z r t l e =
 
 pub run-passes : (ws : List ℤ) (b : ℤ) (m : Memory) → refusal (run-cases b (form-of ws m) (m .analysis .verdict) (m .analysis .iterations)) ≡ 0 → T (budget-ok b) × InForm ws m
 run-passes ws b m e =
-    let p = none-holds (run-cases b (form-of ws m) (m .analysis .verdict) (m .analysis .iterations)) tt e in
+    let p = none-met (run-cases b (form-of ws m) (m .analysis .verdict) (m .analysis .iterations)) tt e in
     (passed (budget-ok b) (p .0), in-form ws m (p .1 .0) (p .1 .1 .0) (p .1 .1 .1 .0))
 
 -- a refused call changes nothing

@@ -7,7 +7,7 @@ use Rattle.semantics.specs.Text.{between, name-byte, name-ok}
 use Rattle.semantics.specs.Chart.{Loc, eqZ}
 use Rattle.semantics.specs.Listing.{loc-text}
 use Rattle.semantics.specs.Encoding.{name-in, loc-in, several, count, decode, begins-with, encode, chart-ok, well-formed}
-use Rattle.semantics.proofs.Values.{and-left, and-right}
+use Rattle.semantics.proofs.ConstantValues.{and-left, and-right}
 use Rattle.semantics.proofs.StatesOk.{bounds}
 use Rattle.chart.specs.Encoded.{locations-at, byte-of}
 use Rattle.chart.proofs.Rows.{past-drop}

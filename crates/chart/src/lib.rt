@@ -28,23 +28,23 @@ ghost use Rattle.chart.specs.Rows.{stored, rows-size, the-variable, the-
 // ---- the layout, under the names of semantics/specs/Layout
 
 // Sizes in words.
-pub const COUNTS_WORDS: usize = 3;
+pub const COUNTS_SIZE: usize = 3;
 
-const VARIABLE_WORDS: usize = 3;
+const VARIABLE_SIZE: usize = 3;
 
 // A name has 16 bytes at most, and a byte takes a word.
-const NAME_WORDS: usize = 16;
+const NAME_SIZE: usize = 16;
 
-pub const LOCATION_WORDS: usize = 1 + NAME_WORDS;
+pub const LOCATION_SIZE: usize = 1 + NAME_SIZE;
 
-const EDGE_WORDS: usize = 8;
+const EDGE_SIZE: usize = 8;
 
 // The rows of the largest chart, 3,160 words, and with the counts before them.
-pub const ROWS_WORDS: usize = VARIABLE_WORDS * MOST_VARIABLES
-    + LOCATION_WORDS * MOST_LOCATIONS
-    + EDGE_WORDS * MOST_EDGES;
+pub const ROWS_SIZE: usize = VARIABLE_SIZE * MOST_VARIABLES
+    + LOCATION_SIZE * MOST_LOCATIONS
+    + EDGE_SIZE * MOST_EDGES;
 
-pub const CHART_WORDS: usize = COUNTS_WORDS + ROWS_WORDS;
+pub const CHART_SIZE: usize = COUNTS_SIZE + ROWS_SIZE;
 
 // The counts' places.
 const VARIABLES_PLACE: usize = 0;
@@ -149,7 +149,7 @@ pub fn put_chart(chart: &mut [i32], vars: usize, locations: usize, edges: usize,
 {
     let counts = [vars as i32, locations as i32, edges as i32];
     put_row(chart, 0, &counts);
-    put_row(chart, COUNTS_WORDS, rows);
+    put_row(chart, COUNTS_SIZE, rows);
 }
 
 // The words of so many rows.
@@ -157,7 +157,7 @@ pub fn rows_size(vars: usize, locations: usize, edges: usize) -> usize
     requires { ⌜ (vars < index-limit) × (locations < index-limit) × (edges < index-limit) ⌝ }
     ensures { λ r. ⌜ r ≡ rows-size vars locations edges ⌝ }
 {
-    VARIABLE_WORDS * vars + LOCATION_WORDS * locations + EDGE_WORDS * edges
+    VARIABLE_SIZE * vars + LOCATION_SIZE * locations + EDGE_SIZE * edges
 }
 
 pub fn var_count(chart: &[i32]) -> usize
@@ -182,24 +182,24 @@ pub fn edge_count(chart: &[i32]) -> usize
 fn locations_at(chart: &[i32]) -> usize
     ensures { λ r. ⌜ (r ≡ locations-at (now (chart .entry))) × (r ≤ variable-at index-limit) ⌝ }
 {
-    COUNTS_WORDS + VARIABLE_WORDS * var_count(chart)
+    COUNTS_SIZE + VARIABLE_SIZE * var_count(chart)
 }
 
 fn edges_at(chart: &[i32]) -> usize
     ensures { λ r. ⌜ (r ≡ edges-at (now (chart .entry))) × (r ≤ variable-at index-limit + location-size * index-limit) ⌝ }
 {
-    locations_at(chart) + LOCATION_WORDS * location_count(chart)
+    locations_at(chart) + LOCATION_SIZE * location_count(chart)
 }
 
 // How many words the chart takes.
 fn end_of(chart: &[i32]) -> usize
     ensures { λ r. ⌜ r ≡ edges-at (now (chart .entry)) + edge-size * count (now (chart .entry)) 2 ⌝ }
 {
-    edges_at(chart) + EDGE_WORDS * edge_count(chart)
+    edges_at(chart) + EDGE_SIZE * edge_count(chart)
 }
 
 // Whether there are 0 to 8 variables, 1 to 64 locations and 0 to 256 edges.
-fn counts_ok(chart: &[i32]) -> bool
+fn counts_fine(chart: &[i32]) -> bool
     ensures { λ r. ⌜ r ≡ counts-fine (now (chart .entry)) ⌝ }
 {
     let v = words::word_at(chart, VARIABLES_PLACE);
@@ -229,7 +229,7 @@ pub fn variable_low(chart: &[i32], k: usize) -> i32
     requires { ⌜ k < index-limit ⌝ }
     ensures { λ r. ⌜ r ≡ word-at (now (chart .entry)) (variable-at k) ⌝ }
 {
-    let at = COUNTS_WORDS + VARIABLE_WORDS * k;
+    let at = COUNTS_SIZE + VARIABLE_SIZE * k;
     words::word_at(chart, at)
 }
 
@@ -237,7 +237,7 @@ pub fn variable_high(chart: &[i32], k: usize) -> i32
     requires { ⌜ k < index-limit ⌝ }
     ensures { λ r. ⌜ r ≡ word-at (now (chart .entry)) (variable-at k + high-place) ⌝ }
 {
-    let at = COUNTS_WORDS + VARIABLE_WORDS * k;
+    let at = COUNTS_SIZE + VARIABLE_SIZE * k;
     words::word_at(chart, at + HIGH_PLACE)
 }
 
@@ -245,7 +245,7 @@ pub fn variable_init(chart: &[i32], k: usize) -> i32
     requires { ⌜ k < index-limit ⌝ }
     ensures { λ r. ⌜ r ≡ word-at (now (chart .entry)) (variable-at k + init-place) ⌝ }
 {
-    let at = COUNTS_WORDS + VARIABLE_WORDS * k;
+    let at = COUNTS_SIZE + VARIABLE_SIZE * k;
     words::word_at(chart, at + INIT_PLACE)
 }
 
@@ -254,7 +254,7 @@ pub fn in_var_range(vars: &[i32], k: usize, w: i32) -> bool
     requires { ⌜ k < index-limit ⌝ }
     ensures { λ r. ⌜ r ≡ ranged (now (vars .entry)) k w ⌝ }
 {
-    let at = VARIABLE_WORDS * k;
+    let at = VARIABLE_SIZE * k;
     words::lies_within(
         words::word_at(vars, at),
         words::word_at(vars, at + HIGH_PLACE),
@@ -292,7 +292,7 @@ fn vars_ok(vars: &[i32], n: usize) -> bool
     let mut at = 0;
     while i < n {
         ok = ok & var_row_ok(&vars[at..]);
-        at += VARIABLE_WORDS;
+        at += VARIABLE_SIZE;
         i += 1;
     }
     ok
@@ -334,7 +334,7 @@ pub fn put_location(rows: &mut [i32], at: usize, error: bool, name: &[u8])
     requires { ⌜ (length (now name) ≤ name-size) × (at + location-size ≤ length (now rows)) ⌝ }
     ensures { λ _. ⌜ now (rows .exit) ≡ stored at (loc-words (the-location error (now (name .entry)))) (now (rows .entry)) ⌝ }
 {
-    let mut row = [0i32; LOCATION_WORDS];
+    let mut row = [0i32; LOCATION_SIZE];
     row[KIND_PLACE] = kind_word(error);
     let end = name.len() + NAME_PLACE;
     put_bytes(&mut row[NAME_PLACE..end], name);
@@ -347,7 +347,7 @@ pub fn is_error_location(chart: &[i32], l: LocationId) -> bool
     ensures { λ r. ⌜ r ≡ eqZ (word-at (now (chart .entry)) (locations-at (now (chart .entry)) + location-size * l .0)) (kind-word true) ⌝ }
 {
     let k = l.0;
-    let kind = words::word_at(chart, locations_at(chart) + LOCATION_WORDS * k);
+    let kind = words::word_at(chart, locations_at(chart) + LOCATION_SIZE * k);
     kind == ERROR_KIND
 }
 
@@ -356,7 +356,7 @@ fn row_name_length(row: &[i32]) -> usize
     ensures { λ r. ⌜ (r ≡ length (loc-in (now (row .entry)) .name)) × (r ≤ name-size) ⌝ }
 {
     let mut i = 0;
-    while i < NAME_WORDS {
+    while i < NAME_SIZE {
         let w = words::word_at(row, i + NAME_PLACE);
         if w == 0 {
             return i;
@@ -372,7 +372,7 @@ pub fn name(chart: &[i32], l: LocationId) -> &[i32]
 {
     let k = l.0;
     if k < location_count(chart) {
-        let at = locations_at(chart) + LOCATION_WORDS * k;
+        let at = locations_at(chart) + LOCATION_SIZE * k;
         if at < chart.len() {
             let row = &chart[at..];
             let end = row_name_length(row) + NAME_PLACE;
@@ -383,7 +383,7 @@ pub fn name(chart: &[i32], l: LocationId) -> &[i32]
 }
 
 // The byte in a word of a name; 0 where the word is no byte.
-pub fn name_byte(w: i32) -> u8
+pub fn byte_of(w: i32) -> u8
     ensures { λ r. ⌜ r ≡ byte-of (natAbs w) ⌝ }
 {
     let n = words::magnitude(w);
@@ -393,7 +393,7 @@ pub fn name_byte(w: i32) -> u8
     0
 }
 
-fn is_name_byte(w: i32) -> bool
+fn is_name_word(w: i32) -> bool
     ensures { λ r. ⌜ r ≡ name-word w ⌝ }
 {
     words::lies_within(65, 90, w)
@@ -402,21 +402,21 @@ fn is_name_byte(w: i32) -> bool
         | (w == 45)
 }
 
-fn name_bytes_ok(name: &[i32]) -> bool
+fn name_words_ok(name: &[i32]) -> bool
     ensures { λ r. ⌜ r ≡ all name-word (now (name .entry)) ⌝ }
 {
     let mut ok = true;
     let mut i = 0;
     while i < name.len() {
         let w = name[i];
-        ok = ok & is_name_byte(w);
+        ok = ok & is_name_word(w);
         i += 1;
     }
     ok
 }
 
 // A location's words: its kind, the bytes of its name, and 0 after them.
-fn location_row_ok(row: &[i32]) -> bool
+fn location_fine(row: &[i32]) -> bool
     requires { ⌜ location-size ≤ length (now row) ⌝ }
     ensures { λ r. ⌜ r ≡ location-fine (now (row .entry)) ⌝ }
 {
@@ -425,12 +425,12 @@ fn location_row_ok(row: &[i32]) -> bool
     let end = n + NAME_PLACE;
     ((kind == ORDINARY_KIND) | (kind == ERROR_KIND))
         & (1 <= n)
-        & name_bytes_ok(&row[NAME_PLACE..end])
-        & words::all_zero(&row[end..LOCATION_WORDS])
+        & name_words_ok(&row[NAME_PLACE..end])
+        & words::all_zero(&row[end..LOCATION_SIZE])
 }
 
 // The words of n locations.
-fn locations_ok(locations: &[i32], n: usize) -> bool
+fn locations_fine(locations: &[i32], n: usize) -> bool
     requires { ⌜ location-size * n ≤ length (now locations) ⌝ }
     ensures { λ r. ⌜ r ≡ all location-fine (rows location-size n (now (locations .entry))) ⌝ }
 {
@@ -438,8 +438,8 @@ fn locations_ok(locations: &[i32], n: usize) -> bool
     let mut i = 0;
     let mut at = 0;
     while i < n {
-        ok = ok & location_row_ok(&locations[at..]);
-        at += LOCATION_WORDS;
+        ok = ok & location_fine(&locations[at..]);
+        at += LOCATION_SIZE;
         i += 1;
     }
     ok
@@ -450,7 +450,7 @@ fn same_name(a: &[i32], b: &[i32]) -> bool
     ensures { λ r. ⌜ r ≡ same-bytes (loc-in (now (a .entry)) .name) (loc-in (now (b .entry)) .name) ⌝ }
 {
     let mut i = 0;
-    while i < NAME_WORDS {
+    while i < NAME_SIZE {
         let x = words::number_at(a, i + NAME_PLACE);
         let y = words::number_at(b, i + NAME_PLACE);
         if x != y {
@@ -474,7 +474,7 @@ pub fn name_is_new(row: &[i32], locations: &[i32], n: usize) -> bool
     let mut at = 0;
     while i < n {
         ok = ok & !same_name(row, &locations[at..]);
-        at += LOCATION_WORDS;
+        at += LOCATION_SIZE;
         i += 1;
     }
     ok
@@ -489,7 +489,7 @@ fn names_differ(locations: &[i32], n: usize) -> bool
     let mut left = n;
     let mut at = 0;
     while left > 0 {
-        let next = at + LOCATION_WORDS;
+        let next = at + LOCATION_SIZE;
         left -= 1;
         ok = ok & name_is_new(&locations[at..], &locations[next..], left);
         at = next;
@@ -634,7 +634,7 @@ pub fn edge_of(first: Edge, id: EdgeId) -> Edge
     let before = id.0 - 1;
     Edge {
         id,
-        at: first.at + EDGE_WORDS * before,
+        at: first.at + EDGE_SIZE * before,
     }
 }
 
@@ -703,7 +703,7 @@ pub fn second_value(chart: &[i32], edge: Edge) -> i32
 }
 
 // An operand: a number, or one of v variables.
-fn operand_ok(v: usize, tag: i32, w: i32) -> bool
+fn operand_fine(v: usize, tag: i32, w: i32) -> bool
     ensures { λ r. ⌜ r ≡ operand-fine v tag w ⌝ }
 {
     if tag == NUMBER_TAG {
@@ -713,15 +713,15 @@ fn operand_ok(v: usize, tag: i32, w: i32) -> bool
 }
 
 // The operands of `add` and `sub`.
-fn two_operands_ok(v: usize, row: &[i32]) -> bool
+fn two_fine(v: usize, row: &[i32]) -> bool
     ensures { λ r. ⌜ r ≡ two-fine v (now (row .entry)) ⌝ }
 {
-    operand_ok(
+    operand_fine(
         v,
         words::word_at(row, FIRST_TAG_PLACE),
         words::word_at(row, FIRST_VALUE_PLACE),
     )
-        & operand_ok(
+        & operand_fine(
             v,
             words::word_at(row, SECOND_TAG_PLACE),
             words::word_at(row, SECOND_VALUE_PLACE),
@@ -729,10 +729,10 @@ fn two_operands_ok(v: usize, row: &[i32]) -> bool
 }
 
 // The operand of an assignment or a test; the second's words are 0.
-fn one_operand_ok(v: usize, row: &[i32]) -> bool
+fn one_fine(v: usize, row: &[i32]) -> bool
     ensures { λ r. ⌜ r ≡ one-fine v (now (row .entry)) ⌝ }
 {
-    operand_ok(
+    operand_fine(
         v,
         words::word_at(row, FIRST_TAG_PLACE),
         words::word_at(row, FIRST_VALUE_PLACE),
@@ -742,7 +742,7 @@ fn one_operand_ok(v: usize, row: &[i32]) -> bool
 }
 
 // The two numbers of `in`; the operands' tags are 0.
-fn input_ok(vars: &[i32], row: &[i32]) -> bool
+fn input_fine(vars: &[i32], row: &[i32]) -> bool
     ensures { λ r. ⌜ r ≡ input-fine (now (vars .entry)) (now (row .entry)) ⌝ }
 {
     let k = words::number_at(row, TARGET_PLACE);
@@ -758,42 +758,42 @@ fn input_ok(vars: &[i32], row: &[i32]) -> bool
 }
 
 // The operands, by the operation's code n.
-fn operands_ok(n: usize, vars: &[i32], v: usize, row: &[i32]) -> bool
+fn operands_fine(n: usize, vars: &[i32], v: usize, row: &[i32]) -> bool
     ensures { λ r. ⌜ r ≡ operands-fine n (now (vars .entry)) v (now (row .entry)) ⌝ }
 {
     match n {
-        ADD_CODE => two_operands_ok(v, row),
-        SUB_CODE => two_operands_ok(v, row),
-        IN_CODE => input_ok(vars, row),
-        _ => one_operand_ok(v, row),
+        ADD_CODE => two_fine(v, row),
+        SUB_CODE => two_fine(v, row),
+        IN_CODE => input_fine(vars, row),
+        _ => one_fine(v, row),
     }
 }
 
 // An edge's operation: its target and its operands; for `skip` all 0.
-fn operation_ok(vars: &[i32], v: usize, row: &[i32]) -> bool
+fn operation_fine(vars: &[i32], v: usize, row: &[i32]) -> bool
     requires { ⌜ edge-size ≤ length (now row) ⌝ }
     ensures { λ r. ⌜ r ≡ operation-fine (now (vars .entry)) v (now (row .entry)) ⌝ }
 {
     let n = words::number_at(row, OPERATION_PLACE);
     if n == SKIP_CODE {
-        return words::all_zero(&row[TARGET_PLACE..EDGE_WORDS]);
+        return words::all_zero(&row[TARGET_PLACE..EDGE_SIZE]);
     }
-    words::is_below(v, words::word_at(row, TARGET_PLACE)) & operands_ok(n, vars, v, row)
+    words::is_below(v, words::word_at(row, TARGET_PLACE)) & operands_fine(n, vars, v, row)
 }
 
 // An edge's words, where there are v variables and l locations.
-fn edge_row_ok(vars: &[i32], v: usize, l: usize, row: &[i32]) -> bool
+fn edge_fine(vars: &[i32], v: usize, l: usize, row: &[i32]) -> bool
     requires { ⌜ edge-size ≤ length (now row) ⌝ }
     ensures { λ r. ⌜ r ≡ edge-fine (now (vars .entry)) v l (now (row .entry)) ⌝ }
 {
     words::is_below(l, words::word_at(row, FROM_PLACE))
         & words::is_below(l, words::word_at(row, TO_PLACE))
         & is_at_most(GE_CODE, words::word_at(row, OPERATION_PLACE))
-        & operation_ok(vars, v, row)
+        & operation_fine(vars, v, row)
 }
 
 // The words of n edges.
-fn edges_ok(vars: &[i32], v: usize, l: usize, edges: &[i32], n: usize) -> bool
+fn edges_fine(vars: &[i32], v: usize, l: usize, edges: &[i32], n: usize) -> bool
     requires { ⌜ edge-size * n ≤ length (now edges) ⌝ }
     ensures { λ r. ⌜ r ≡ all (edge-fine (now (vars .entry)) v l) (rows edge-size n (now (edges .entry))) ⌝ }
 {
@@ -801,8 +801,8 @@ fn edges_ok(vars: &[i32], v: usize, l: usize, edges: &[i32], n: usize) -> bool
     let mut i = 0;
     let mut at = 0;
     while i < n {
-        ok = ok & edge_row_ok(vars, v, l, &edges[at..]);
-        at += EDGE_WORDS;
+        ok = ok & edge_fine(vars, v, l, &edges[at..]);
+        at += EDGE_SIZE;
         i += 1;
     }
     ok
@@ -811,7 +811,7 @@ fn edges_ok(vars: &[i32], v: usize, l: usize, edges: &[i32], n: usize) -> bool
 // ---- the check
 
 // All rows, once the counts are known to be in order.
-fn rows_ok(chart: &[i32]) -> bool
+fn rows_fine(chart: &[i32]) -> bool
     requires { ⌜ edges-at (now chart) + edge-size * count (now chart) 2 ≤ length (now chart) ⌝ }
     ensures { λ r. ⌜ r ≡ rows-fine (now (chart .entry)) ⌝ }
 {
@@ -820,22 +820,22 @@ fn rows_ok(chart: &[i32]) -> bool
     let e = edge_count(chart);
     let at = locations_at(chart);
     let from = edges_at(chart);
-    let vars = &chart[COUNTS_WORDS..];
+    let vars = &chart[COUNTS_SIZE..];
     let locations = &chart[at..];
     vars_ok(vars, v)
-        & locations_ok(locations, l)
+        & locations_fine(locations, l)
         & names_differ(locations, l)
-        & edges_ok(vars, v, l, &chart[from..], e)
+        & edges_fine(vars, v, l, &chart[from..], e)
 }
 
 // Whether the words begin with the encoding of a chart that reading can produce: else the refusal is 20.
 pub fn well_formed(chart: &[i32]) -> bool
     ensures { λ r. ⌜ r ≡ well-formed (now (chart .entry)) ⌝ }
 {
-    if counts_ok(chart) {
+    if counts_fine(chart) {
         let end = end_of(chart);
         if end <= chart.len() {
-            return rows_ok(chart);
+            return rows_fine(chart);
         }
     }
     false

@@ -161,7 +161,7 @@ pub fn is_allowed(merge: Mode, stop: Mode) -> bool
 }
 
 // No edge, or an alarm's.
-fn edge_ok(edge: EdgeId, v: Verdict) -> bool
+fn edge_allowed(edge: EdgeId, v: Verdict) -> bool
     ensures { λ r. ⌜ r ≡ (eqb (edge .0) 0 || is-alarm v) ⌝ }
 {
     semantics::is_no_edge(edge) | is_alarm(v)
@@ -178,7 +178,7 @@ fn record_ok(a: Analysis, edges: usize) -> bool
     let edge = a.edge;
     (a.iterations <= semantics::MOST_ITERATIONS)
         & semantics::is_edge_within(edges, edge)
-        & edge_ok(edge, verdict)
+        & edge_allowed(edge, verdict)
         & ((1 <= a.capacity) & (a.capacity <= semantics::MOST_SLOTS as u32))
         & is_allowed(merge, stop)
         & empty_if_safe(verdict, a.waiting)

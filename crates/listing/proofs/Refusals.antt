@@ -3,7 +3,7 @@ use Rattle.semantics.proofs.Prelude.{_≡_, sym, List, _++_, ℕ, _≤_, ltb-fa
 use Rattle.semantics.specs.Encoding.{decode}
 use Rattle.semantics.specs.Memory.{Memory}
 use Rattle.semantics.specs.Outcomes.{Case, refusal, Outcome, fine, refused-by, form-of, text-of, listing-cases, listing-outcome}
-use Rattle.semantics.proofs.FirstCase.{none-holds, refused-stays, goes}
+use Rattle.semantics.proofs.FirstCase.{none-met, refused-stays, goes}
 use Rattle.checks.specs.Form.{InForm}
 use Rattle.checks.proofs.FormTests.{in-form}
 
@@ -19,7 +19,7 @@ module _ (words : List ℤ) (m : Memory) (space : List ℕ) where
 
   pub listing-passes : refusal cases ≡ 0 → InForm words m × (length text ≤ length space)
   listing-passes e =
-      let p = none-holds cases tt e in
+      let p = none-met cases tt e in
       (in-form words m (p .0) (p .1 .0) (p .1 .1 .0), ltb-false (length space) (length text) (p .1 .1 .1 .0))
 
   -- a refused call changes nothing

@@ -7,7 +7,7 @@ use Rattle.semantics.specs.Encoding.{val, word-at, count}
 use Rattle.semantics.specs.Memory.{Memory, width, state-in, states-in, load, analysis-ok}
 use Rattle.semantics.specs.Listing.{loc-text, mark, val-text, slot-text, slots-text, header-text, listing-text}
 use Rattle.semantics.specs.declared.Analysis.{Analysis}
-use Rattle.semantics.proofs.Reloaded.{form, states-count}
+use Rattle.semantics.proofs.MemoryInForm.{form, states-count}
 use Rattle.state.specs.Rows.{location-in, values-of}
 use Rattle.checks.specs.Form.{lent}
 use Rattle.listing.specs.Pieces.{tabbed, values-text, words-text, counts-text, marked}

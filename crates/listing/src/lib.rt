@@ -117,7 +117,7 @@ fn put_name(out: &mut [u8], at: usize, chart: &[i32], l: LocationId) -> usize
     let mut place = writer::put_byte(out, at, semantics::TAB);
     let mut i = 0;
     while i < name.len() {
-        let b = chart::name_byte(name[i]);
+        let b = chart::byte_of(name[i]);
         place = writer::put_byte(out, place, b);
         i += 1;
     }

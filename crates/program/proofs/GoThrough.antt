@@ -9,12 +9,12 @@ use Rattle.semantics.specs.Memory.{Memory}
 use Rattle.semantics.specs.Listing.{listing-text}
 use Rattle.semantics.specs.Outcomes.{Outcome, started, put-in, start-outcome, run-outcome, listing-outcome}
 use Rattle.semantics.specs.Program.{explored}
-use Rattle.semantics.proofs.Stored.{Good}
+use Rattle.semantics.proofs.MemoryOf.{Good}
 use Rattle.semantics.proofs.Encoded.{well-formed-split}
 use Rattle.semantics.proofs.WholeWalks.{start-iterations, started-good}
 use Rattle.semantics.proofs.Program.{GoOk, explored-good}
-use Rattle.semantics.proofs.Input.{go-fine}
-use Rattle.semantics.proofs.Calls.{start-goes, held-table, held-list, run-goes, listing-goes}
+use Rattle.semantics.proofs.InputCut.{go-fine}
+use Rattle.semantics.proofs.ProgramCalls.{start-goes, held-table, held-list, run-goes, listing-goes}
 use Rattle.checks.specs.Form.{lent}
 use Rattle.calls.specs.declared.Called.{Called}
 use Rattle.calls.specs.Calls.{Ends-called}

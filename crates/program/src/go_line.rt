@@ -142,7 +142,7 @@ fn go_fields(line: &[u8]) -> Asked
 }
 
 // A tab, or 0x21..0x7E: what may stand before the LF.
-fn byte_ok(b: u8) -> bool
+fn is_line_byte(b: u8) -> bool
     ensures { λ r. ⌜ r ≡ line-byte b ⌝ }
 {
     (b == semantics::TAB) | ((b'!' <= b) & (b <= b'~'))
@@ -153,7 +153,7 @@ fn bytes_ok(line: &[u8]) -> bool
 {
     let mut i = 0;
     while i < line.len() {
-        if !byte_ok(line[i]) {
+        if !is_line_byte(line[i]) {
             return false;
         }
         i += 1;

@@ -23,11 +23,11 @@ ghost use Rattle.program.specs.Responded.{no-analysis, Accepted, Lends, 
 mod go_line;
 
 // The words lent suffice for every chart and every capacity: 3,163, 2,304 and 256.
-const CHART_WORDS: usize = chart::CHART_WORDS;
+const CHART_SIZE: usize = chart::CHART_SIZE;
 
-const TABLE_WORDS: usize = semantics::MOST_SLOTS * semantics::MOST_WIDTH;
+const TABLE_SIZE: usize = semantics::MOST_SLOTS * semantics::MOST_WIDTH;
 
-const LIST_WORDS: usize = semantics::MOST_SLOTS;
+const LIST_SIZE: usize = semantics::MOST_SLOTS;
 
 // The most that the program reads of its input: 64 bytes for the go line, 32,768 for the chart, and one more that tells
 // a chart too long. What stands past them changes nothing, which `respond_to` says.
@@ -90,19 +90,19 @@ fn put_listing(chart: &[i32], go: Go, out: &mut [u8]) -> usize
     requires { ⌜ T (well-formed (now chart)) × (length (now out) ≡ 24576) × Accepted go ⌝ }
     ensures { λ r. ⌜ Printed (listing-text (decode (now (chart .entry))) (explored (decode (now (chart .entry))) (asking go))) (now (out .entry)) (now (out .exit)) r ⌝ }
 {
-    let mut table = [0i32; TABLE_WORDS];
-    let mut list = [0i32; LIST_WORDS];
+    let mut table = [0i32; TABLE_SIZE];
+    let mut list = [0i32; LIST_SIZE];
     let a = explore(chart, go, &mut table, &mut list);
     let answer = listing::listing(chart, a, &table, &list, out);
     answer.length
 }
 
 // The chart's refusal, or its listing.
-fn put_chart(chart: &[u8], go: Go, out: &mut [u8]) -> usize
+fn put_answer(chart: &[u8], go: Go, out: &mut [u8]) -> usize
     requires { ⌜ (length (now out) ≡ 24576) × Accepted go ⌝ }
     ensures { λ r. ⌜ Printed (print-read (asking go) (read (now (chart .entry)))) (now (out .entry)) (now (out .exit)) r ⌝ }
 {
-    let mut words = [0i32; CHART_WORDS];
+    let mut words = [0i32; CHART_SIZE];
     let answer = reader::read(chart, &mut words);
     if answer.number != 0 {
         return put_refusal(out, answer.number, answer.line);
@@ -117,7 +117,7 @@ pub fn respond(input: &[u8], out: &mut [u8; semantics::LISTING_BYTES]) -> usize
 {
     match go_line::read(input) {
         GoLine::Refused(n) => put_refusal(out, n, 0),
-        GoLine::Accepted { go, chart } => put_chart(&input[chart..], go, out),
+        GoLine::Accepted { go, chart } => put_answer(&input[chart..], go, out),
     }
 }
 

@@ -1,4 +1,4 @@
 -- The loops' turns, the table as rows, then the form that both keep.
 pub mod SlotLoops
 pub mod Table
-pub mod Forms
+pub mod FormKept

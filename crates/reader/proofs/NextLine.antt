@@ -8,11 +8,11 @@ use Rattle.text.proofs.LineEnds.{lines-at, lines-done}
 use Rattle.text.specs.Places.{line-at, place-after}
 use Rattle.text.specs.declared.lines.Line.{Line}
 use Rattle.text.proofs.Places.{Lies, line-some}
-use Rattle.reader.specs.ReadSoFar.{Stepped, goes-on, nothing-judged, Along, Through, Goes, Stands-by, Stands, Few-of, Ready}
+use Rattle.reader.specs.ReadSoFar.{LineJudged, goes-on, nothing-judged, Along, Through, Goes, Stands-by, Stands, Few-of, Ready}
 use Rattle.reader.specs.declared.Descent.{Descent}
 use Rattle.reader.specs.declared.tally.Tally.{Tally}
-use Rattle.reader.specs.declared.tally.Step.{Step}
-use Rattle.reader.specs.declared.tally.Step.the-variants as step
+use Rattle.reader.specs.declared.tally.Judgement.{Judgement}
+use Rattle.reader.specs.declared.tally.Judgement.the-variants as judgement
 
 -- ---- by the kind
 
@@ -58,10 +58,10 @@ module _ {text : List ℕ} {at line : ℕ} {t : Tally} {rows names : List ℤ} (
   all-judged h = record { chart = a .read .chart; few = a .few; held = a .held; is = a .is ∙ judged-end text at (line + 1) (a .read) h }
 
   -- one line more
-  pub line-judged : {start end next : ℕ} → Lies text at start end next → (r : Step) (rows′ names′ : List ℤ) → Stepped r (judge (a .read) (fields (take (end - start) (drop start text)))) rows′ names′
+  pub line-judged : {start end next : ℕ} → Lies text at start end next → (r : Judgement) (rows′ names′ : List ℤ) → LineJudged r (judge (a .read) (fields (take (end - start) (drop start text)))) rows′ names′
       → Stands-by (goes-on r) text next (line + 1) r rows′ names′
-  line-judged l (step.Refused k) rows′ names′ h = a .is ∙ judged-stop text at _ (line + 1) (a .read) (l .here) (l .ends) (rw (l .begins) at h)
-  line-judged l (step.Go u) rows′ names′ h = record {
+  line-judged l (judgement.Refused k) rows′ names′ h = a .is ∙ judged-stop text at _ (line + 1) (a .read) (l .here) (l .ends) (rw (l .begins) at h)
+  line-judged l (judgement.Go u) rows′ names′ h = record {
     read = h .read;
     few = h .few;
     held = h .held;
@@ -81,17 +81,17 @@ at-first text rows names = record {
 }
 
 module _ (text : List ℕ) (at : ℕ) (rows names : List ℤ) where
-  few-now : (line : ℕ) (s : Step) → Goes text at line s rows names → Few-of s
-  few-now line (step.Refused k) h = absurd h
-  few-now line (step.Go t) h = h .few
+  few-now : (line : ℕ) (s : Judgement) → Goes text at line s rows names → Few-of s
+  few-now line (judgement.Refused k) h = absurd h
+  few-now line (judgement.Go t) h = h .few
 
-  counted-now : (line : ℕ) (s : Step) → Goes text at line s rows names → line ≤ at
-  counted-now line (step.Refused k) h = absurd h
-  counted-now line (step.Go t) h = h .counted
+  counted-now : (line : ℕ) (s : Judgement) → Goes text at line s rows names → line ≤ at
+  counted-now line (judgement.Refused k) h = absurd h
+  counted-now line (judgement.Go t) h = h .counted
 
   -- what `advance` asks
   pub ready : (p : Descent) (l : Line) → l ≡ line-at text at → p .going ≡ true → Stands text at p rows names → Ready text p l
-  ready p l e g h = record { at = at; is = e; few = few-now (p .line) (p .step) (rw g at h); counted = counted-now (p .line) (p .step) (rw g at h) }
+  ready p l e g h = record { at = at; is = e; few = few-now (p .line) (p .last) (rw g at h); counted = counted-now (p .line) (p .last) (rw g at h) }
 
 -- how many turns are left at most, in a text of n bytes
 abbrev pub turns : Bool → ℕ → ℕ → ℕ

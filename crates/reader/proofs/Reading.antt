@@ -5,20 +5,20 @@ use Rattle.semantics.specs.Lists.{is-empty}
 use Rattle.semantics.specs.Chart.{Var, input, Edge, Op, Chart, in-range}
 use Rattle.semantics.specs.Reading.{Res, fail, ok, check, if-ok, nth, none-empty, number-field, target-field, op-word-field, OpWord, field-count, op-fields-read, So-far, with-edge, var-line, loc-line, edge-line}
 use Rattle.semantics.specs.declared.Arithmetic.the-variants as arithmetic
-use Rattle.semantics.proofs.Accepted.{location-is, target-is}
-use Rattle.semantics.proofs.Accepted.{then-ok as passed}
+use Rattle.semantics.proofs.ReadInBounds.{location-is, target-is}
+use Rattle.semantics.proofs.ReadInBounds.{then-ok as passed}
 use Rattle.chart.specs.Encoded.{ranged}
 use Rattle.text.specs.Fields.{the-word}
 use Rattle.text.specs.declared.Action.the-variants as action
-use Rattle.text.specs.declared.OpWord.{OpWord as OpWordHeld}
+use Rattle.text.specs.declared.OpWord.{OpWord as CodeOpWord}
 use Rattle.text.specs.declared.OpWord.the-variants as word-of
 use Rattle.reader.specs.Lines.{input-read, op-read, edge-read, var-judged, var-named, loc-judged, loc-named, edge-worded}
 use Rattle.reader.specs.ReadSoFar.{Rows}
 use Rattle.reader.specs.declared.tally.Tally.{Tally}
-use Rattle.reader.proofs.Growing.{range-held}
-use Rattle.reader.proofs.Holding.{none-empty-list, some-list}
-use Rattle.text.proofs.Judged.{then-fail, then-ok}
-use Rattle.reader.proofs.Judging.{check-no, check-yes, onward}
+use Rattle.reader.proofs.OneRowMore.{range-held}
+use Rattle.reader.proofs.CopiedOut.{none-empty-list, some-list}
+use Rattle.text.proofs.FieldTests.{then-fail, then-ok}
+use Rattle.reader.proofs.CheckSteps.{check-no, check-yes, onward}
 
 -- ---- operations
 
@@ -33,7 +33,7 @@ module _ (rows : List ℤ) (vars : List Var) (ranges : (k : ℕ) (z : ℤ) → k
   input-held (ok v) b (ok p) (fail n) = rw (ranges v p (b v refl))
   input-held (ok v) b (ok p) (ok z) = rw (ranges v p (b v refl), ranges v z (b v refl))
 
-op-held : (rows : List ℤ) (c : Chart) → ((k : ℕ) (z : ℤ) → k < length (c .vars) → ranged rows k z ≡ in-range (c .vars) k z) → (w : OpWordHeld) (fs : List (List ℕ))
+op-held : (rows : List ℤ) (c : Chart) → ((k : ℕ) (z : ℤ) → k < length (c .vars) → ranged rows k z ≡ in-range (c .vars) k z) → (w : CodeOpWord) (fs : List (List ℕ))
     → op-read rows (length (c .vars)) w fs ≡ op-fields-read c (the-word w) fs
 unfolding op-fields-read
 op-held rows c ranges word-of.Skip fs = refl
@@ -48,7 +48,7 @@ op-held rows c ranges (word-of.With action.If) fs = refl
 -- ---- edges
 
 -- a line with as many fields as it is to have
-pub edge-counted : {t : Tally} {ws : List ℤ} (s : So-far) → Rows t ws (s .chart) → (w : OpWordHeld) (fs : List (List ℕ)) → eqb (length fs) (field-count (the-word w)) ≡ true
+pub edge-counted : {t : Tally} {ws : List ℤ} (s : So-far) → Rows t ws (s .chart) → (w : CodeOpWord) (fs : List (List ℕ)) → eqb (length fs) (field-count (the-word w)) ≡ true
     → edge-worded s (the-word w) fs ≡ if-ok (edge-read (t .locs) (op-read ws (t .vars) w fs) fs) (λ g. ok (with-edge s g))
 edge-counted {t} {ws} s h w fs e = check-yes _ _ e ∙ rw (h .vars, h .locs, op-held ws (s .chart) (λ k z l. range-held h k z (omega (arith, h .vars))) w fs)
 
@@ -70,9 +70,9 @@ module _ (s : So-far) (fs : List (List ℕ)) where
   edge-full h = check-no _ _ (le-ltb _ _ h)
 
   module _ (few : length (s .chart .edges) < 256) where
-    pub edge-short : (leb 4 (length fs) && none-empty fs) ≡ false → edge-line s fs ≡ fail 5
+    pub edge-few-fields : (leb 4 (length fs) && none-empty fs) ≡ false → edge-line s fs ≡ fail 5
     unfolding edge-line
-    edge-short e = check-yes _ _ (lt-ltb _ _ few) ∙ check-no _ _ e
+    edge-few-fields e = check-yes _ _ (lt-ltb _ _ few) ∙ check-no _ _ e
 
     module _ (enough : (leb 4 (length fs) && none-empty fs) ≡ true) where
       pub edge-no-word : {k : ℕ} → op-word-field (nth fs 3) ≡ fail k → edge-line s fs ≡ fail k

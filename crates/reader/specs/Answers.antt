@@ -6,8 +6,8 @@ use Rattle.semantics.specs.Chart.{Var, Op, Edge}
 use Rattle.semantics.specs.Operations.{the-operation}
 use Rattle.semantics.specs.Reading.{Res, fail, ok}
 use Rattle.chart.specs.Rows.{the-variable, the-edge}
-use Rattle.reader.specs.declared.scan.Fault.{Fault}
-use Rattle.reader.specs.declared.scan.Fault.the-variants as fault
+use Rattle.reader.specs.declared.scan.FirstBad.{FirstBad}
+use Rattle.reader.specs.declared.scan.FirstBad.the-variants as fault
 use Rattle.reader.specs.declared.variable.VarRow.{VarRow}
 use Rattle.reader.specs.declared.variable.VarLine.{VarLine}
 use Rattle.reader.specs.declared.variable.VarLine.the-variants as var-line
@@ -17,9 +17,9 @@ use Rattle.reader.specs.declared.edge.EdgeRead.{EdgeRead}
 use Rattle.reader.specs.declared.edge.EdgeRead.the-variants as edge
 
 -- the line at fault, if there is one
-abbrev pub fault-line : Fault → Option ℕ
-fault-line fault.Nowhere = none
-fault-line (fault.Line n) = some n
+abbrev pub first-bad-line : FirstBad → Option ℕ
+first-bad-line fault.Nowhere = none
+first-bad-line (fault.Line n) = some n
 
 -- a variable, from its words
 abbrev pub var-of : VarRow → Var

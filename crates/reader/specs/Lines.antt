@@ -16,7 +16,7 @@ use Rattle.semantics.specs.declared.Arithmetic.{Arithmetic}
 use Rattle.chart.specs.Encoded.{ranged}
 use Rattle.text.specs.declared.Action.{Action}
 use Rattle.text.specs.declared.Action.the-variants as action
-use Rattle.text.specs.declared.OpWord.{OpWord as OpWordHeld}
+use Rattle.text.specs.declared.OpWord.{OpWord as CodeOpWord}
 use Rattle.text.specs.declared.OpWord.the-variants as word-of
 
 -- ---- `V name lo hi init`
@@ -85,7 +85,7 @@ abbrev pub targeted : List ℤ → ℕ → Action → List (List ℕ) → Res Op
 targeted rows n w fs = if-ok (target-field n (nth fs 4)) λ v. after-target rows n w v fs
 
 -- the operation
-abbrev pub op-read : List ℤ → ℕ → OpWordHeld → List (List ℕ) → Res Op
+abbrev pub op-read : List ℤ → ℕ → CodeOpWord → List (List ℕ) → Res Op
 op-read rows n word-of.Skip fs = ok skip
 op-read rows n (word-of.With a) fs = targeted rows n a fs
 

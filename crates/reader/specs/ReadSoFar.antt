@@ -17,8 +17,8 @@ use Rattle.text.specs.declared.lines.Line.{Line}
 use Rattle.chart.specs.Rows.{rows-size, the-location}
 use Rattle.reader.specs.declared.Descent.{Descent}
 use Rattle.reader.specs.declared.tally.Tally.{Tally}
-use Rattle.reader.specs.declared.tally.Step.{Step}
-use Rattle.reader.specs.declared.tally.Step.the-variants as step
+use Rattle.reader.specs.declared.tally.Judgement.{Judgement}
+use Rattle.reader.specs.declared.tally.Judgement.the-variants as judgement
 
 -- the encoded chart after its three counts
 abbrev pub chart-rows : Chart → List ℤ
@@ -69,9 +69,9 @@ pub record Gone (r : Res So-far) (t : Tally) (rows names : List ℤ) : Type 0 wh
   pub names-held : Names (t .vars) names (read .names)
 
 -- what the code answers to a line that comes to r, and what it leaves
-abbrev pub Stepped : Step → Res So-far → List ℤ → List ℤ → Type 0
-Stepped (step.Refused k) r rows names = r ≡ fail k
-Stepped (step.Go t) r rows names = Gone r t rows names
+abbrev pub LineJudged : Judgement → Res So-far → List ℤ → List ℤ → Type 0
+LineJudged (judgement.Refused k) r rows names = r ≡ fail k
+LineJudged (judgement.Go t) r rows names = Gone r t rows names
 
 -- ---- "The reader goes down the chart file line by line" (document 01, The chart file)
 
@@ -80,13 +80,13 @@ abbrev pub lines-judged : List ℕ → Reading
 lines-judged text = judged 1 nothing-read (map fields (lines text))
 
 -- the line was not refused
-abbrev pub goes-on : Step → Bool
-goes-on (step.Refused k) = false
-goes-on (step.Go t) = true
+abbrev pub goes-on : Judgement → Bool
+goes-on (judgement.Refused k) = false
+goes-on (judgement.Go t) = true
 
 -- before the first line
 abbrev pub nothing-judged : Descent
-nothing-judged = record { going = true; line = 0; step = step.Go (record { vars = 0; locs = 0; edges = 0 }) }
+nothing-judged = record { going = true; line = 0; last = judgement.Go (record { vars = 0; locs = 0; edges = 0 }) }
 
 -- so many lines are judged, and the reader is at the place `at`: what was read so far, and what is left
 pub record Along (text : List ℕ) (at line : ℕ) (t : Tally) (rows names : List ℤ) : Type 0 where
@@ -105,34 +105,34 @@ pub record Through (text : List ℕ) (t : Tally) (rows : List ℤ) : Type 0 wher
   pub is : lines-judged text ≡ ended (is-empty (chart .locs)) chart
 
 -- reading goes on after a line, which was not refused
-abbrev pub Goes : List ℕ → ℕ → ℕ → Step → List ℤ → List ℤ → Type 0
-Goes text at line (step.Refused k) rows names = ⊥
-Goes text at line (step.Go t) rows names = Along text at line t rows names
+abbrev pub Goes : List ℕ → ℕ → ℕ → Judgement → List ℤ → List ℤ → Type 0
+Goes text at line (judgement.Refused k) rows names = ⊥
+Goes text at line (judgement.Go t) rows names = Along text at line t rows names
 
 -- reading is over: the last line was refused, or there is no other
-abbrev pub Came : List ℕ → ℕ → Step → List ℤ → Type 0
-Came text line (step.Refused k) rows = lines-judged text ≡ refused k line
-Came text line (step.Go t) rows = Through text t rows
+abbrev pub Came : List ℕ → ℕ → Judgement → List ℤ → Type 0
+Came text line (judgement.Refused k) rows = lines-judged text ≡ refused k line
+Came text line (judgement.Go t) rows = Through text t rows
 
 -- where reading stands, by whether it goes on
-abbrev pub Stands-by : Bool → List ℕ → ℕ → ℕ → Step → List ℤ → List ℤ → Type 0
+abbrev pub Stands-by : Bool → List ℕ → ℕ → ℕ → Judgement → List ℤ → List ℤ → Type 0
 Stands-by true text at line s rows names = Goes text at line s rows names
 Stands-by false text at line s rows names = Came text line s rows
 
 -- where reading stands, with the reader at the place `at`
 abbrev pub Stands : List ℕ → ℕ → Descent → List ℤ → List ℤ → Type 0
-Stands text at p rows names = Stands-by (p .going) text at (p .line) (p .step) rows names
+Stands text at p rows names = Stands-by (p .going) text at (p .line) (p .last) rows names
 
 -- the counts of a line that went on are no more than a chart has
-abbrev pub Few-of : Step → Type 0
-Few-of (step.Refused k) = Unit {0}
-Few-of (step.Go t) = Few t
+abbrev pub Few-of : Judgement → Type 0
+Few-of (judgement.Refused k) = Unit {0}
+Few-of (judgement.Go t) = Few t
 
 -- what it takes to judge l: it is a line of the text, and the counts are those of lines before it
 pub record Ready (text : List ℕ) (p : Descent) (l : Line) : Type 0 where
   pub at : ℕ
   pub is : l ≡ line-at text at
-  pub few : Few-of (p .step)
+  pub few : Few-of (p .last)
   pub counted : p .line ≤ at
 
 -- by the line l reading goes from p to r, and comes to no other line where there is none

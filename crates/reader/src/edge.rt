@@ -18,10 +18,10 @@ ghost use Rattle.chart.specs.Rows.{stored};
 ghost use Rattle.reader.specs.Answers.{op-res, edge-res};
 ghost use Rattle.reader.specs.Lines.{op-read, edge-read, edge-worded};
 ghost use Rattle.reader.specs.Lines.{with-op as op-after, with-from as from-after};
-ghost use Rattle.reader.specs.ReadSoFar.{Few, Rows, Names, Stepped, most-rows};
+ghost use Rattle.reader.specs.ReadSoFar.{Few, Rows, Names, LineJudged, most-rows};
 use super::operation;
 use super::operation::OperationRead;
-use super::tally::Step;
+use super::tally::Judgement;
 use super::tally::Tally;
 use super::tally::used_words;
 
@@ -86,19 +86,19 @@ fn judged(w: text::OpWord, t: Tally, rows: &[i32], line: &[u8]) -> EdgeRead
 }
 
 // A line whose operation is known: 5 by its count, then its fields.
-fn worded(w: text::OpWord, t: Tally, rows: &mut [i32], line: &[u8]) -> Step
+fn worded(w: text::OpWord, t: Tally, rows: &mut [i32], line: &[u8]) -> Judgement
     requires { ⌜ Few t × (t .edges < most-edges) × (length (now rows) ≡ most-rows) ⌝ }
-    ensures { λ r. ⌜ ((s : So-far) (names : List ℤ) → Rows t (now (rows .entry)) (s .chart) → Names (t .vars) names (s .names) → Stepped r (edge-worded s (the-word w) (fields (now (line .entry)))) (now (rows .exit)) names) ⌝ }
+    ensures { λ r. ⌜ ((s : So-far) (names : List ℤ) → Rows t (now (rows .entry)) (s .chart) → Names (t .vars) names (s .names) → LineJudged r (edge-worded s (the-word w) (fields (now (line .entry)))) (now (rows .exit)) names) ⌝ }
 {
     if text::field_count(line) != field_count(w) {
-        return Step::Refused(5);
+        return Judgement::Refused(5);
     }
     match judged(w, t, rows, line) {
-        EdgeRead::Refused(k) => Step::Refused(k),
+        EdgeRead::Refused(k) => Judgement::Refused(k),
         EdgeRead::Is(g) => {
             let o = g.op;
             chart::put_edge(rows, used_words(t), g.from, g.to, o);
-            Step::Go(Tally {
+            Judgement::Go(Tally {
                 vars: t.vars,
                 locs: t.locs,
                 edges: t.edges + 1,
@@ -115,18 +115,18 @@ fn enough(line: &[u8]) -> bool
 }
 
 // An E line. How many fields it has goes by its operation, so that this is read first.
-pub fn read_line(t: Tally, rows: &mut [i32], line: &[u8]) -> Step
+pub fn read_line(t: Tally, rows: &mut [i32], line: &[u8]) -> Judgement
     requires { ⌜ Few t × (length (now rows) ≡ most-rows) ⌝ }
-    ensures { λ r. ⌜ ((s : So-far) (names : List ℤ) → Rows t (now (rows .entry)) (s .chart) → Names (t .vars) names (s .names) → Stepped r (edge-line s (fields (now (line .entry)))) (now (rows .exit)) names) ⌝ }
+    ensures { λ r. ⌜ ((s : So-far) (names : List ℤ) → Rows t (now (rows .entry)) (s .chart) → Names (t .vars) names (s .names) → LineJudged r (edge-line s (fields (now (line .entry)))) (now (rows .exit)) names) ⌝ }
 {
     if MOST_EDGES <= t.edges {
-        return Step::Refused(8);
+        return Judgement::Refused(8);
     }
     if !enough(line) {
-        return Step::Refused(5);
+        return Judgement::Refused(5);
     }
     match text::op_word_field(text::field(line, 3)) {
-        text::OpWordRead::Refused(k) => Step::Refused(k),
+        text::OpWordRead::Refused(k) => Judgement::Refused(k),
         text::OpWordRead::Is(w) => worded(w, t, rows, line),
     }
 }

@@ -10,7 +10,7 @@ ghost use Rattle.semantics.specs.Chart.{Chart};
 ghost use Rattle.semantics.specs.Encoding.{encode};
 ghost use Rattle.semantics.specs.Reading.{So-far, judge, ended, refused-at, bad-byte-line, open-line};
 ghost use Rattle.semantics.specs.Outcomes.{chart-outcome, held-by, read-outcome};
-ghost use Rattle.reader.specs.ReadSoFar.{Few, Rows, Names, Stepped, lines-judged, goes-on, nothing-judged, Came, Ready, Advanced, most-rows, most-names};
+ghost use Rattle.reader.specs.ReadSoFar.{Few, Rows, Names, LineJudged, lines-judged, goes-on, nothing-judged, Came, Ready, Advanced, most-rows, most-names};
 
 mod edge;
 mod location;
@@ -19,10 +19,10 @@ mod scan;
 mod tally;
 mod variable;
 
-use chart::COUNTS_WORDS;
-use chart::ROWS_WORDS;
-use tally::NAMES_WORDS;
-use tally::Step;
+use chart::COUNTS_SIZE;
+use chart::ROWS_SIZE;
+use tally::Judgement;
+use tally::NAMES_SIZE;
 use tally::Tally;
 use tally::used_words;
 
@@ -30,13 +30,13 @@ use tally::used_words;
 const MOST_BYTES: usize = 32768;
 
 // The rows to the words lent, after their counts; or 14, where these are too few.
-fn hold(t: Tally, rows: &[i32], words: &mut [i32]) -> semantics::Answer
+fn copy_out(t: Tally, rows: &[i32], words: &mut [i32]) -> semantics::Answer
     requires { ⌜ Few t × (length (now rows) ≡ most-rows) ⌝ }
     ensures answered { λ r. ⌜ ((c : Chart) → Rows t (now (rows .entry)) c → r ≡ chart-outcome c (now (words .entry)) .answer) ⌝ }
     ensures written { λ _. ⌜ ((c : Chart) → Rows t (now (rows .entry)) c → now (words .exit) ≡ chart-outcome c (now (words .entry)) .words) ⌝ }
 {
     let size = used_words(t);
-    if words.len() < size + COUNTS_WORDS {
+    if words.len() < size + COUNTS_SIZE {
         return semantics::refused(14, 0);
     }
     chart::put_chart(words, t.vars, t.locs, t.edges, &rows[..size]);
@@ -52,13 +52,13 @@ fn finish(t: Tally, rows: &[i32], words: &mut [i32]) -> semantics::Answer
     if t.locs == 0 {
         return semantics::refused(8, 0);
     }
-    hold(t, rows, words)
+    copy_out(t, rows, words)
 }
 
 // One line, by its kind.
-fn step(t: Tally, rows: &mut [i32], names: &mut [i32], line: &[u8]) -> Step
+fn judge_line(t: Tally, rows: &mut [i32], names: &mut [i32], line: &[u8]) -> Judgement
     requires { ⌜ Few t × (length (now rows) ≡ most-rows) × (length (now names) ≡ most-names) ⌝ }
-    ensures { λ r. ⌜ ((s : So-far) → Rows t (now (rows .entry)) (s .chart) → Names (t .vars) (now (names .entry)) (s .names) → Stepped r (judge s (fields (now (line .entry)))) (now (rows .exit)) (now (names .exit))) ⌝ }
+    ensures { λ r. ⌜ ((s : So-far) → Rows t (now (rows .entry)) (s .chart) → Names (t .vars) (now (names .entry)) (s .names) → LineJudged r (judge s (fields (now (line .entry)))) (now (rows .exit)) (now (names .exit))) ⌝ }
 {
     let kind = text::field(line, 0);
     if text::same_bytes(kind, b"V") {
@@ -70,23 +70,23 @@ fn step(t: Tally, rows: &mut [i32], names: &mut [i32], line: &[u8]) -> Step
     if text::same_bytes(kind, b"E") {
         return edge::read_line(t, rows, line);
     }
-    Step::Refused(4)
+    Judgement::Refused(4)
 }
 
 // Where reading stands: whether it goes on, the lines judged so far, and what the last of them came to.
 struct Descent {
     going: bool,
     line: usize,
-    step: Step,
+    last: Judgement,
 }
 
 // Whether reading goes on after a line.
-fn goes(s: Step) -> bool
+fn goes(s: Judgement) -> bool
     ensures { λ r. ⌜ r ≡ goes-on s ⌝ }
 {
     match s {
-        Step::Refused(_) => false,
-        Step::Go(_) => true,
+        Judgement::Refused(_) => false,
+        Judgement::Go(_) => true,
     }
 }
 
@@ -101,22 +101,22 @@ fn advance(
     requires { ⌜ Ready (now text) p l × (length (now rows) ≡ most-rows) × (length (now names) ≡ most-names) ⌝ }
     ensures { λ r. ⌜ Advanced (now (text .entry)) l p (now (rows .entry)) (now (names .entry)) r (now (rows .exit)) (now (names .exit)) ⌝ }
 {
-    let s = p.step;
-    let Step::Go(t) = s else {
+    let s = p.last;
+    let Judgement::Go(t) = s else {
         return p;
     };
     let text::lines::Line::Text { start, end, .. } = l else {
         return Descent {
             going: false,
             line: p.line,
-            step: s,
+            last: s,
         };
     };
-    let after = step(t, rows, names, &text[start..end]);
+    let after = judge_line(t, rows, names, &text[start..end]);
     Descent {
         going: goes(after),
         line: p.line + 1,
-        step: after,
+        last: after,
     }
 }
 
@@ -127,7 +127,7 @@ fn begun() -> Descent
     Descent {
         going: true,
         line: 0,
-        step: Step::Go(Tally {
+        last: Judgement::Go(Tally {
             vars: 0,
             locs: 0,
             edges: 0,
@@ -138,7 +138,7 @@ fn begun() -> Descent
 // The reader goes down the text line by line, and each line is judged. Proved by hand: the reader lies in a local.
 fn go_down(text: &[u8], rows: &mut [i32], names: &mut [i32]) -> Descent
     requires { ⌜ (length (now rows) ≡ most-rows) × (length (now names) ≡ most-names) ⌝ }
-    ensures { λ r. ⌜ Came (now (text .entry)) (r .line) (r .step) (now (rows .exit)) ⌝ }
+    ensures { λ r. ⌜ Came (now (text .entry)) (r .line) (r .last) (now (rows .exit)) ⌝ }
 {
     let mut r = text::lines::open(text);
     let mut p = begun();
@@ -155,13 +155,13 @@ fn read_lines(text: &[u8], words: &mut [i32]) -> semantics::Answer
     ensures answered { λ r. ⌜ r ≡ held-by (lines-judged (now (text .entry))) (now (words .entry)) .answer ⌝ }
     ensures written { λ _. ⌜ now (words .exit) ≡ held-by (lines-judged (now (text .entry))) (now (words .entry)) .words ⌝ }
 {
-    let mut rows = [0i32; ROWS_WORDS];
-    let mut names = [0i32; NAMES_WORDS];
+    let mut rows = [0i32; ROWS_SIZE];
+    let mut names = [0i32; NAMES_SIZE];
     let p = go_down(text, &mut rows, &mut names);
-    let s = p.step;
+    let s = p.last;
     match s {
-        Step::Refused(k) => semantics::refused(k, p.line),
-        Step::Go(t) => finish(t, &rows, words),
+        Judgement::Refused(k) => semantics::refused(k, p.line),
+        Judgement::Go(t) => finish(t, &rows, words),
     }
 }
 
@@ -171,10 +171,10 @@ fn read_text(text: &[u8], words: &mut [i32]) -> semantics::Answer
     ensures written { λ _. ⌜ now (words .exit) ≡ held-by (refused-at (bad-byte-line 1 (now (text .entry))) 2 (refused-at (open-line 0 10 (now (text .entry))) 3 (lines-judged (now (text .entry))))) (now (words .entry)) .words ⌝ }
 {
     match scan::bad_byte(text) {
-        scan::Fault::Line(n) => semantics::refused(2, n),
-        scan::Fault::Nowhere => match scan::open_line(text) {
-            scan::Fault::Line(n) => semantics::refused(3, n),
-            scan::Fault::Nowhere => read_lines(text, words),
+        scan::FirstBad::Line(n) => semantics::refused(2, n),
+        scan::FirstBad::Nowhere => match scan::open_line(text) {
+            scan::FirstBad::Line(n) => semantics::refused(3, n),
+            scan::FirstBad::Nowhere => read_lines(text, words),
         },
     }
 }

@@ -11,8 +11,8 @@ ghost use Rattle.semantics.specs.Text.{fields, name-ok};
 ghost use Rattle.semantics.specs.Reading.{So-far, loc-line};
 ghost use Rattle.text.specs.Fields.{kind-res};
 ghost use Rattle.reader.specs.Lines.{loc-judged, loc-named};
-ghost use Rattle.reader.specs.ReadSoFar.{Few, Rows, Names, Stepped, most-rows};
-use super::tally::Step;
+ghost use Rattle.reader.specs.ReadSoFar.{Few, Rows, Names, LineJudged, most-rows};
+use super::tally::Judgement;
 use super::tally::Tally;
 use super::tally::used_words;
 
@@ -30,17 +30,17 @@ fn judged(line: &[u8]) -> text::KindRead
 }
 
 // A location, if its name is new.
-fn named(t: Tally, rows: &mut [i32], error: bool, name: &[u8]) -> Step
+fn named(t: Tally, rows: &mut [i32], error: bool, name: &[u8]) -> Judgement
     requires { ⌜ T (name-ok (now name)) × Few t × (t .locs < most-locations) × (t .edges ≡ 0) × (length (now rows) ≡ most-rows) ⌝ }
-    ensures { λ r. ⌜ ((s : So-far) (names : List ℤ) → Rows t (now (rows .entry)) (s .chart) → Names (t .vars) names (s .names) → Stepped r (loc-named s (now (name .entry)) error) (now (rows .exit)) names) ⌝ }
+    ensures { λ r. ⌜ ((s : So-far) (names : List ℤ) → Rows t (now (rows .entry)) (s .chart) → Names (t .vars) names (s .names) → LineJudged r (loc-named s (now (name .entry)) error) (now (rows .exit)) names) ⌝ }
 {
     let first = chart::rows_size(t.vars, 0, 0);
     let at = used_words(t);
     chart::put_location(rows, at, error, name);
     if !chart::name_is_new(&rows[at..], &rows[first..], t.locs) {
-        return Step::Refused(9);
+        return Judgement::Refused(9);
     }
-    Step::Go(Tally {
+    Judgement::Go(Tally {
         vars: t.vars,
         locs: t.locs + 1,
         edges: 0,
@@ -48,18 +48,18 @@ fn named(t: Tally, rows: &mut [i32], error: bool, name: &[u8]) -> Step
 }
 
 // An L line, which stands before every E.
-pub fn read_line(t: Tally, rows: &mut [i32], line: &[u8]) -> Step
+pub fn read_line(t: Tally, rows: &mut [i32], line: &[u8]) -> Judgement
     requires { ⌜ Few t × (length (now rows) ≡ most-rows) ⌝ }
-    ensures { λ r. ⌜ ((s : So-far) (names : List ℤ) → Rows t (now (rows .entry)) (s .chart) → Names (t .vars) names (s .names) → Stepped r (loc-line s (fields (now (line .entry)))) (now (rows .exit)) names) ⌝ }
+    ensures { λ r. ⌜ ((s : So-far) (names : List ℤ) → Rows t (now (rows .entry)) (s .chart) → Names (t .vars) names (s .names) → LineJudged r (loc-line s (fields (now (line .entry)))) (now (rows .exit)) names) ⌝ }
 {
     if t.edges != 0 {
-        return Step::Refused(4);
+        return Judgement::Refused(4);
     }
     if MOST_LOCATIONS <= t.locs {
-        return Step::Refused(8);
+        return Judgement::Refused(8);
     }
     match judged(line) {
-        text::KindRead::Refused(k) => Step::Refused(k),
+        text::KindRead::Refused(k) => Judgement::Refused(k),
         text::KindRead::Is(error) => named(t, rows, error, text::field(line, 1)),
     }
 }

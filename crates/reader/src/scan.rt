@@ -4,10 +4,10 @@ ghost use Prim.Native.Nat.{suc, _<_};
 ghost use lib.Dec.{eqb};
 ghost use Rattle.semantics.specs.Lists.{pick};
 ghost use Rattle.semantics.specs.Reading.{byte-ok, bad-byte-line, open-line};
-ghost use Rattle.reader.specs.Answers.{fault-line};
+ghost use Rattle.reader.specs.Answers.{first-bad-line};
 
 // The line at fault, if there is one.
-pub enum Fault {
+pub enum FirstBad {
     Nowhere,
     Line(usize),
 }
@@ -31,25 +31,25 @@ fn line_after(n: usize, b: u8) -> usize
 }
 
 // The line of the first byte that no chart has.
-pub fn bad_byte(text: &[u8]) -> Fault
-    ensures { λ r. ⌜ fault-line r ≡ bad-byte-line 1 (now (text .entry)) ⌝ }
+pub fn bad_byte(text: &[u8]) -> FirstBad
+    ensures { λ r. ⌜ first-bad-line r ≡ bad-byte-line 1 (now (text .entry)) ⌝ }
 {
     let mut n = 1;
     let mut i = 0;
     while i < text.len() {
         let b = text[i];
         if !byte_ok(b) {
-            return Fault::Line(n);
+            return FirstBad::Line(n);
         }
         n = line_after(n, b);
         i += 1;
     }
-    Fault::Nowhere
+    FirstBad::Nowhere
 }
 
 // The last line, where it lacks its LF.
-pub fn open_line(text: &[u8]) -> Fault
-    ensures { λ r. ⌜ fault-line r ≡ open-line 0 10 (now (text .entry)) ⌝ }
+pub fn open_line(text: &[u8]) -> FirstBad
+    ensures { λ r. ⌜ first-bad-line r ≡ open-line 0 10 (now (text .entry)) ⌝ }
 {
     let mut n = 0;
     let mut last = semantics::LF;
@@ -60,7 +60,7 @@ pub fn open_line(text: &[u8]) -> Fault
         i += 1;
     }
     if last == semantics::LF {
-        return Fault::Nowhere;
+        return FirstBad::Nowhere;
     }
-    Fault::Line(n)
+    FirstBad::Line(n)
 }

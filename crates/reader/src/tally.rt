@@ -3,7 +3,7 @@ ghost use mathlib.Core.Path.{_≡_};
 ghost use Rattle.reader.specs.ReadSoFar.{Few, used-words};
 
 // The rows of the variables' names, where they are the most: 136 words.
-pub const NAMES_WORDS: usize = chart::LOCATION_WORDS * semantics::MOST_VARIABLES;
+pub const NAMES_SIZE: usize = chart::LOCATION_SIZE * semantics::MOST_VARIABLES;
 
 // How many variables, locations and edges are read.
 pub struct Tally {
@@ -13,7 +13,7 @@ pub struct Tally {
 }
 
 // What a line comes to: its refusal's number, or the counts with it.
-pub enum Step {
+pub enum Judgement {
     Refused(u32),
     Go(Tally),
 }

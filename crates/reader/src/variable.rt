@@ -9,8 +9,8 @@ ghost use Rattle.semantics.specs.Text.{fields, name-ok};
 ghost use Rattle.semantics.specs.Reading.{So-far, var-line};
 ghost use Rattle.reader.specs.Answers.{var-of, var-res};
 ghost use Rattle.reader.specs.Lines.{var-init, var-high, var-low, var-judged, var-named};
-ghost use Rattle.reader.specs.ReadSoFar.{Few, Rows, Names, Stepped, most-rows, most-names};
-use super::tally::Step;
+ghost use Rattle.reader.specs.ReadSoFar.{Few, Rows, Names, LineJudged, most-rows, most-names};
+use super::tally::Judgement;
 use super::tally::Tally;
 use super::tally::used_words;
 
@@ -80,17 +80,17 @@ fn judged(line: &[u8]) -> VarLine
 }
 
 // A variable, if its name is new. The name is kept as a location's is, so that one function looks for both.
-fn named(t: Tally, rows: &mut [i32], names: &mut [i32], v: VarRow, name: &[u8]) -> Step
+fn named(t: Tally, rows: &mut [i32], names: &mut [i32], v: VarRow, name: &[u8]) -> Judgement
     requires { ⌜ T (name-ok (now name)) × (t .vars < most-variables) × (t .locs ≡ 0) × (t .edges ≡ 0) × (length (now rows) ≡ most-rows) × (length (now names) ≡ most-names) ⌝ }
-    ensures { λ r. ⌜ ((s : So-far) → Rows t (now (rows .entry)) (s .chart) → Names (t .vars) (now (names .entry)) (s .names) → Stepped r (var-named s (now (name .entry)) (var-of v)) (now (rows .exit)) (now (names .exit))) ⌝ }
+    ensures { λ r. ⌜ ((s : So-far) → Rows t (now (rows .entry)) (s .chart) → Names (t .vars) (now (names .entry)) (s .names) → LineJudged r (var-named s (now (name .entry)) (var-of v)) (now (rows .exit)) (now (names .exit))) ⌝ }
 {
-    let at = chart::LOCATION_WORDS * t.vars;
+    let at = chart::LOCATION_SIZE * t.vars;
     chart::put_location(names, at, false, name);
     if !chart::name_is_new(&names[at..], &names[0..], t.vars) {
-        return Step::Refused(9);
+        return Judgement::Refused(9);
     }
     chart::put_variable(rows, used_words(t), v.lo, v.hi, v.init);
-    Step::Go(Tally {
+    Judgement::Go(Tally {
         vars: t.vars + 1,
         locs: 0,
         edges: 0,
@@ -98,21 +98,21 @@ fn named(t: Tally, rows: &mut [i32], names: &mut [i32], v: VarRow, name: &[u8]) 
 }
 
 // A V line, which stands before every L and E.
-pub fn read_line(t: Tally, rows: &mut [i32], names: &mut [i32], line: &[u8]) -> Step
+pub fn read_line(t: Tally, rows: &mut [i32], names: &mut [i32], line: &[u8]) -> Judgement
     requires { ⌜ Few t × (length (now rows) ≡ most-rows) × (length (now names) ≡ most-names) ⌝ }
-    ensures { λ r. ⌜ ((s : So-far) → Rows t (now (rows .entry)) (s .chart) → Names (t .vars) (now (names .entry)) (s .names) → Stepped r (var-line s (fields (now (line .entry)))) (now (rows .exit)) (now (names .exit))) ⌝ }
+    ensures { λ r. ⌜ ((s : So-far) → Rows t (now (rows .entry)) (s .chart) → Names (t .vars) (now (names .entry)) (s .names) → LineJudged r (var-line s (fields (now (line .entry)))) (now (rows .exit)) (now (names .exit))) ⌝ }
 {
     if t.locs != 0 {
-        return Step::Refused(4);
+        return Judgement::Refused(4);
     }
     if t.edges != 0 {
-        return Step::Refused(4);
+        return Judgement::Refused(4);
     }
     if MOST_VARIABLES <= t.vars {
-        return Step::Refused(8);
+        return Judgement::Refused(8);
     }
     match judged(line) {
-        VarLine::Refused(k) => Step::Refused(k),
+        VarLine::Refused(k) => Judgement::Refused(k),
         VarLine::Is(v) => named(t, rows, names, v, text::field(line, 1)),
     }
 }

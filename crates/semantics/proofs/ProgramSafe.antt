@@ -15,14 +15,14 @@ use Rattle.semantics.specs.Listing.{mode-text, order-text, verdict-text,
 use Rattle.semantics.specs.Rendering.{fields-text}
 use Rattle.semantics.specs.Program.{first-line, past-line, Go, go-line, explored, print-read, print-go, output}
 use Rattle.semantics.specs.ProgramSafe.{verdict-field, ChartSafe, ProgramSafe}
-use Rattle.semantics.proofs.Values.{and-left, and-right}
+use Rattle.semantics.proofs.ConstantValues.{and-left, and-right}
 use Rattle.semantics.proofs.Covering.{covering}
 use Rattle.semantics.proofs.ConstantsSound.{laws}
 use Rattle.semantics.proofs.Numbers.{plain, digits-plain}
 use Rattle.semantics.proofs.Texts.{Plain, inner, inner-not-10, tabbed-inner, fields-back}
-use Rattle.semantics.proofs.Accepted.{in-bounds}
+use Rattle.semantics.proofs.ReadInBounds.{in-bounds}
 use Rattle.semantics.proofs.Program.{GoOk, explored-good}
-use Rattle.semantics.proofs.Input.{go-fine}
+use Rattle.semantics.proofs.InputCut.{go-fine}
 
 -- ---- the fields of the first line
 

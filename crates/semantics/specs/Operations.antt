@@ -1,7 +1,7 @@
 -- An edge's operation as the code has it (src/lib.rt), and which of the definitions' it is. Assumes nothing.
 use Prim.Native.Nat.{ℕ}
 use Rattle.semantics.specs.Chart.{Operand, num, var, Rel, eq, ne, lt, le, gt, ge, Op, assign, add, sub, input, assume, skip}
-use Rattle.semantics.specs.declared.Operand.{Operand as OperandHeld}
+use Rattle.semantics.specs.declared.Operand.{Operand as CodeOperand}
 use Rattle.semantics.specs.declared.Operand.the-variants as operand
 use Rattle.semantics.specs.declared.Relation.{Relation}
 use Rattle.semantics.specs.declared.Relation.the-variants as relation
@@ -10,7 +10,7 @@ use Rattle.semantics.specs.declared.Arithmetic.the-variants as arithmeti
 use Rattle.semantics.specs.declared.Operation.{Operation}
 use Rattle.semantics.specs.declared.Operation.the-variants as operation
 
-abbrev pub the-operand : OperandHeld → Operand
+abbrev pub the-operand : CodeOperand → Operand
 the-operand (operand.Number z) = num z
 the-operand (operand.Variable k) = var k
 

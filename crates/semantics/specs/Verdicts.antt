@@ -1,5 +1,5 @@
 -- Why the edges of an iteration end as they do: a claim over the algorithm, at any domain, that no full table hides an
--- alarm and that an alarm names its edge (`leave-caused`). Document 01, "One round", steps 1 and 4. Assumes nothing.
+-- alarm and that an alarm names its edge (`visit-all-caused`). Document 01, "One round", steps 1 and 4. Assumes nothing.
 use mathlib.Core.Path.{_≡_}
 use mathlib.Core.Logic.{_⊎_}
 use mathlib.Core.Bool.{false}

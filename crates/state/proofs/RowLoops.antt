@@ -3,7 +3,7 @@ use Rattle.semantics.proofs.Prelude.{_≡_, refl, ap, Bool, true, false, _&&_, 
 use Rattle.semantics.specs.Lists.{pick}
 use Rattle.semantics.specs.Chart.{eqZ}
 use Rattle.semantics.specs.Encoding.{word-at}
-use Rattle.semantics.proofs.Values.{and-true}
+use Rattle.semantics.proofs.ConstantValues.{and-true}
 use Rattle.words.proofs.Words.{eqZ-refl}
 use Rattle.state.specs.Rows.{values-of, word-leq, word-join, words-leq, words-join, same-words, same-place, row-join, row-merge}
 

@@ -1,7 +1,7 @@
 -- What an answer of read or write says to a loop that has moved some of the bytes: it goes on, or it stops. Assumes nothing.
 use Rattle.semantics.proofs.Prelude.{_≡_, sym, subst, true, false, List, ℕ, zero, suc, _+_, _-_, _≤_, _<_, arith, T, leb→le, ℤ, pos, negsuc, natAbs, length, take, drop, length-drop, length-take-le, leZ, nonNeg, w64, Fits, SFits, toZ, ofZ, toZ-ofZ}
 use Rattle.libc.specs.Io.{Moved}
-use Rattle.streams.specs.Transfer.{Ends}
+use Rattle.streams.specs.StreamEnd.{Ends}
 
 -- what a call answered for n bytes still holds of a local that was given the answer
 pub answered : {n m : ℕ} {z : ℤ} → SFits w64 z → n ≡ m → Moved n z → Moved m (toZ w64 (ofZ w64 z))

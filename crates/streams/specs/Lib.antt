@@ -1,2 +1,2 @@
 -- What reading and writing come to.
-pub mod Transfer
+pub mod StreamEnd

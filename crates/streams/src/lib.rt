@@ -9,13 +9,13 @@ ghost use lib.Signed.{ltZ};
 ghost use lib.IntN.{pos};
 ghost use Rattle.semantics.specs.Chart.{eqZ};
 ghost use Rattle.libc.specs.Io.{Moved};
-ghost use Rattle.streams.specs.Transfer.{Stopped};
+ghost use Rattle.streams.specs.StreamEnd.{Stopped};
 
 // A loop must be proved to end: a call that a signal interrupts so often in a row, and once more, counts as failed.
 const MOST_INTERRUPTIONS: u32 = 1_000_000;
 
 // How many bytes were moved, and what the last call answered: how many it moved, 0 at the end of the input, or -1.
-pub struct Transfer {
+pub struct StreamEnd {
     pub count: usize,
     pub last: isize,
 }
@@ -46,7 +46,7 @@ fn read_some(buf: &mut [u8]) -> isize
 }
 
 // Reads until the buffer is full, or a read answers 0 or fails.
-pub fn read_all(buf: &mut [u8]) -> Transfer
+pub fn read_all(buf: &mut [u8]) -> StreamEnd
     ensures { λ r. ⌜ Stopped (length (now (buf .entry))) r ⌝ }
 {
     let mut count = 0;
@@ -58,7 +58,7 @@ pub fn read_all(buf: &mut [u8]) -> Transfer
         }
         count += last as usize;
     }
-    Transfer { count, last }
+    StreamEnd { count, last }
 }
 
 fn write_some(buf: &[u8]) -> isize
@@ -74,7 +74,7 @@ fn write_some(buf: &[u8]) -> isize
 }
 
 // Writes until all is written, or a write takes nothing or fails.
-pub fn write_all(buf: &[u8]) -> Transfer
+pub fn write_all(buf: &[u8]) -> StreamEnd
     ensures { λ r. ⌜ Stopped (length (now (buf .entry))) r ⌝ }
 {
     let mut count = 0;
@@ -86,5 +86,5 @@ pub fn write_all(buf: &[u8]) -> Transfer
         }
         count += last as usize;
     }
-    Transfer { count, last }
+    StreamEnd { count, last }
 }

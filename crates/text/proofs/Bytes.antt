@@ -7,11 +7,11 @@ pub and-no : (t : Bool) → (t && false) ≡ false
 and-no true = refl
 and-no false = refl
 
-pub same-short : (a b : List ℕ) → (length a ≡ length b → ⊥) → same-bytes a b ≡ false
-same-short [] [] h = absurd (h refl)
-same-short [] (y ∷ ys) h = refl
-same-short (x ∷ xs) [] h = refl
-same-short (x ∷ xs) (y ∷ ys) h = rw (same-short xs ys (λ e. h (ap suc e))) (and-no (eqb x y))
+pub same-lengths : (a b : List ℕ) → (length a ≡ length b → ⊥) → same-bytes a b ≡ false
+same-lengths [] [] h = absurd (h refl)
+same-lengths [] (y ∷ ys) h = refl
+same-lengths (x ∷ xs) [] h = refl
+same-lengths (x ∷ xs) (y ∷ ys) h = rw (same-lengths xs ys (λ e. h (ap suc e))) (and-no (eqb x y))
 
 module _ (a b : List ℕ) (i : ℕ) where
   pub same-step : i < length a → i < length b → getD a i 0 ≡ getD b i 0 → same-bytes (drop i a) (drop i b) ≡ same-bytes (drop (i + 1) a) (drop (i + 1) b)
@@ -36,8 +36,8 @@ module _ (p : ℕ → Bool) (l : List ℕ) (i : ℕ) where
   all-end h = rw (drop-of-length-le l h)
 
 module _ (l : List ℕ) where
-  pub name-short : length l < 1 → name-ok l ≡ false
-  name-short h = simp (lt-leb 1 (length l) h)
+  pub name-empty : length l < 1 → name-ok l ≡ false
+  name-empty h = simp (lt-leb 1 (length l) h)
 
   pub name-long : 16 < length l → name-ok l ≡ false
   name-long h = simp (lt-leb (length l) 16 h, and-no)

@@ -32,7 +32,7 @@ use Rattle.text.specs.declared.RelationRead.{RelationRead}
 use Rattle.text.specs.declared.RelationRead.the-variants as relation
 use Rattle.text.specs.declared.Action.{Action}
 use Rattle.text.specs.declared.Action.the-variants as action
-use Rattle.text.specs.declared.OpWord.{OpWord as OpWordHeld}
+use Rattle.text.specs.declared.OpWord.{OpWord as CodeOpWord}
 use Rattle.text.specs.declared.OpWord.the-variants as word-of
 use Rattle.text.specs.declared.OpWordRead.{OpWordRead}
 use Rattle.text.specs.declared.OpWordRead.the-variants as op-word
@@ -122,7 +122,7 @@ the-action (action.Compute arithmetic.Sub) = do-sub
 the-action action.In = do-in
 the-action action.If = do-if
 
-abbrev pub the-word : OpWordHeld → OpWord
+abbrev pub the-word : CodeOpWord → OpWord
 the-word word-of.Skip = do-skip
 the-word (word-of.With a) = the-action a
 

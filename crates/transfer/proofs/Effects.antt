@@ -6,9 +6,9 @@ use Rattle.semantics.specs.Chart.{Value, known, top, Var, Operand, num, var, Re
 use Rattle.semantics.specs.Algorithm.{Step, halt, to}
 use Rattle.semantics.specs.Constants.{operand-value, both, assign-value, one-of, one-known, tested, effect}
 use Rattle.semantics.specs.Encoding.{word, word-at, tag, operand-word, rel-code, op-words, encode, count, var-ok, operand-ok, op-ok, chart-ok}
-use Rattle.semantics.proofs.Values.{and-left, and-right}
+use Rattle.semantics.proofs.ConstantValues.{and-left, and-right}
 use Rattle.semantics.proofs.StatesOk.{ValOk, ValsOk}
-use Rattle.semantics.proofs.Stored.{not-any}
+use Rattle.semantics.proofs.MemoryOf.{not-any}
 use Rattle.words.proofs.Words.{eqZ-true}
 use Rattle.state.specs.Rows.{value-at, with-value, word-join}
 use Rattle.transfer.specs.Transfer.{operand-by, set-ranged, set-value, assign-at, set-result, both-at, input-at, holds-by, refine-by, tested-by, assume-at, op-by}

@@ -3,4 +3,4 @@ pub mod TransferTests
 pub mod Places
 pub mod Effects
 pub mod Agree
-pub mod Said
+pub mod RowsSayStates

@@ -5,7 +5,7 @@ use Rattle.semantics.specs.Lists.{In, some-of}
 use Rattle.semantics.specs.Algorithm.{without}
 use Rattle.semantics.specs.Tidy.{Queue}
 use Rattle.semantics.proofs.Tidy.{without-in, without-not, without-distinct, some-not, queue-few}
-use Rattle.semantics.proofs.Stored.{map-back}
+use Rattle.semantics.proofs.MemoryOf.{map-back}
 use Rattle.waitlist.specs.Waits.{waits, Stored}
 
 pub map-append : (a b : List ℕ) → map pos (a ++ b) ≡ map pos a ++ map pos b

@@ -4,7 +4,7 @@ use Rattle.semantics.proofs.Tidy.{queue-few}
 use Rattle.waitlist.specs.Waits.{waits}
 use Rattle.waitlist.proofs.WaitWords.{waits-are}
 use Rattle.reached.proofs.Table.{rows-stored}
-use Rattle.reached.proofs.Forms.{laid, next-slot-in, kept-stored}
+use Rattle.reached.proofs.FormKept.{laid, next-slot-in, kept-stored}
 use Rattle.analysis.specs.Loaded.{Merged}
 use Rattle.analysis.proofs.Arrival.{arrive-drop, arrive-store, arrive-full}
 use Rattle.analysis.proofs.arrive.Statement.{statement}
@@ -75,7 +75,7 @@ returns-3 c =
     let i = c .before in
     let v = i .before .before in
     let d = v .before .before .before .before in
-    rw (c .filled .ensures) (record {
+    rw (c .table-full .ensures) (record {
       out = arrive-full (start d .pre) (after d) (sym (v .covered .ensures) ∙ i .before .if1 .left) (omega (arith, i .if2 .left, size d));
       kept = after d .kept;
     })

@@ -1,7 +1,7 @@
 -- `analysis::iteration_with` meets its contract. Assumes nothing.
 use Rattle.semantics.proofs.Prelude.{_≡_, ap, _∙_, List, ℕ, _-_, _*_, _<_, arith, needs, ℤ, length, take, drop}
 use Rattle.semantics.specs.declared.Analysis.{Analysis}
-use Rattle.semantics.specs.Algorithm.{leave}
+use Rattle.semantics.specs.Algorithm.{visit-all}
 use Rattle.semantics.specs.Tidy.{Queue}
 use Rattle.semantics.proofs.Tidy.{more}
 use Rattle.words.proofs.Rows.{row-in}
@@ -9,10 +9,10 @@ use Rattle.state.specs.declared.Layout.{Layout}
 use Rattle.state.specs.Rows.{width-of, rows-of}
 use Rattle.waitlist.specs.Waits.{waits}
 use Rattle.reached.specs.Reached.{Kept}
-use Rattle.reached.proofs.Forms.{in-table}
+use Rattle.reached.proofs.FormKept.{in-table}
 use Rattle.transfer.specs.Transfer.{edges-from}
 use Rattle.analysis.specs.Loaded.{domain-of, Progressed}
-use Rattle.analysis.proofs.Iterations.{taken-from, kept-taken, play-of, iteration-held}
+use Rattle.analysis.proofs.Iterations.{taken-from, kept-taken, play-of, iteration-sound}
 use Rattle.analysis.proofs.iteration_with.Statement.{statement}
 use Rattle.analysis.proofs.iteration_with.Tie as tie
 
@@ -55,34 +55,34 @@ module _ (c : tie.After-copy) where
   row-is : c .before .get-row .last .1 .1 .1 .0 ≡ take (width-of (y d)) (drop (slot d * y d .stride) (start d .args .table .now))
   row-is = c .before .get-row .ensures ∙ ap (λ (w : ℕ). take w (drop (slot d * y d .stride) (start d .args .table .now))) (start d .pre .3)
 
-leave-requires : tie.Need-leave-requires
-leave-requires c κs =
+visit-all-requires : tie.Need-visit-all-requires
+visit-all-requires c κs =
     let p = c .before .before .before .before .before in
     let d = d p in
     rw (c .before .before .before .with-counts .ensures) (record { kept = form d; allowed = start d .pre .0 .allowed; row = p .before .get-row .kept .1 .1 .1 .0 ∙ start d .pre .3 }, start d .pre .4)
 
-module _ (c : tie.After-leave) where
+module _ (c : tie.After-visit-all) where
   abbrev p : tie.After-copy
   p = c .before .before .before .before .before .before
 
   abbrev table : List ℤ
-  table = c .leave .last .1 .1 .1 .1 .1 .1 .0
+  table = c .visit-all .last .1 .1 .1 .1 .1 .1 .0
 
   abbrev list : List ℤ
-  list = c .leave .last .1 .1 .1 .1 .1 .1 .1 .0
+  list = c .visit-all .last .1 .1 .1 .1 .1 .1 .1 .0
 
   size : length list ≡ length (start (d p) .args .list .now)
-  size = c .leave .kept .1 .1 .1 .1 .1 .1 .1 .0 ∙ same-list (d p)
+  size = c .visit-all .kept .1 .1 .1 .1 .1 .1 .1 .0 ∙ same-list (d p)
 
-  played : Progressed (y (d p)) table list (c .leave .result)
+  played : Progressed (y (d p)) table list (c .visit-all .result)
       (play-of (y (d p)) (start (d p) .args .outline .edges) (a (d p)) (start (d p) .args .table .now) (start (d p) .args .list .now) (start (d p) .pre .0) (slot (d p)) (rest (d p)) (d p .take-slot .ensures) (start (d p) .args .chart .now) (edges-from 0 (start (d p) .args .outline .edges)))
   played =
       let s = start (d p) in
       let w = c .before .before .before .before .with-counts .ensures in
       let r = same-list (d p) ∙ s .pre .0 .capacity in
       record {
-        out = c .leave .ensures .out ∙ (λ i. leave (domain-of (s .args .chart .now)) (w i .settings) (r i) (row-is p i) (edges-from 0 (s .args .outline .edges)) (rows-of (y (d p)) (w i .used) (s .args .table .now)) (waits (w i .waiting) (rest (d p))));
-        kept = c .leave .ensures .kept;
+        out = c .visit-all .ensures .out ∙ (λ i. visit-all (domain-of (s .args .chart .now)) (w i .settings) (r i) (row-is p i) (edges-from 0 (s .args .outline .edges)) (rows-of (y (d p)) (w i .used) (s .args .table .now)) (waits (w i .waiting) (rest (d p))));
+        kept = c .visit-all .ensures .kept;
       }
 
 finish-requires : tie.Need-finish-requires
@@ -90,7 +90,7 @@ finish-requires c κs =
     let v = c .before .before .before in
     let d = d (p v) in
     let k = played v .kept in
-    (record { stored = k .slots; slot = omega (arith, taken d .1, start d .pre .0 .kept .capacity, size v); small = k .small; queue = more (v .leave .result .used) (length (list v)) _ (k .capacity) (k .queue) }, start d .pre .1)
+    (record { stored = k .slots; slot = omega (arith, taken d .1, start d .pre .0 .kept .capacity, size v); small = k .small; queue = more (v .visit-all .result .used) (length (list v)) _ (k .capacity) (k .queue) }, start d .pre .1)
 
 same-length-3 : tie.Need-same-length-3
 same-length-3 c = c .before .finish .kept .1 .1 .1 .0 ∙ size (c .before .before .before .before .before)
@@ -101,7 +101,7 @@ returns c =
     let v = c .before .before .before .before .before in
     let d = d (p v) in
     let s = start d in
-    (iteration-held (y d) (s .args .outline .edges) (a d) (s .args .table .now) (s .args .list .now) (s .pre .0) (slot d) (rest d) (d .take-slot .ensures) (s .args .chart .now) (v .leave .result) (table v) (list v) (size v) (played v) (f .result) (f .last .1 .1 .1 .0) (f .kept .1 .1 .1 .0) (f .ensures), f .ensures .iterations)
+    (iteration-sound (y d) (s .args .outline .edges) (a d) (s .args .table .now) (s .args .list .now) (s .pre .0) (slot d) (rest d) (d .take-slot .ensures) (s .args .chart .now) (v .visit-all .result) (table v) (list v) (size v) (played v) (f .result) (f .last .1 .1 .1 .0) (f .kept .1 .1 .1 .0) (f .ensures), f .ensures .iterations)
 
 pub iteration-with-spec : {M : Type 1} → statement M
 iteration-with-spec =
@@ -111,7 +111,7 @@ iteration-with-spec =
     get-row-requires
     (λ c. search needs)
     (λ c κs. search needs)
-    leave-requires
+    visit-all-requires
     finish-requires
     (λ c. search needs)
     (λ c. search needs)

@@ -4,7 +4,7 @@ use Rattle.state.specs.Rows.{rows-of}
 use Rattle.waitlist.specs.Waits.{waits}
 use Rattle.waitlist.proofs.WaitWords.{waits-are}
 use Rattle.reached.proofs.Table.{rows-length, rows-merged, drop-merged, rewaits-queue}
-use Rattle.reached.proofs.Forms.{in-table, laid, kept-after}
+use Rattle.reached.proofs.FormKept.{in-table, laid, kept-after}
 use Rattle.analysis.proofs.Merges.{rewaits-all}
 use Rattle.analysis.proofs.merge_by.Statement.{statement}
 use Rattle.analysis.proofs.merge_by.Tie as tie

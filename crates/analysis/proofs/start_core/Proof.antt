@@ -1,8 +1,8 @@
 -- `analysis::start_core` meets its contract. Assumes nothing.
 use Rattle.semantics.proofs.Prelude.{_≡_, refl, sym, ap, _∙_, List, ℕ, _*_, _<_, arith, needs, ℤ, pos, length, replicate}
 use Rattle.reached.specs.Reached.{Kept}
-use Rattle.reached.proofs.Forms.{empty-kept, next-slot-in}
-use Rattle.analysis.proofs.Begin.{begun}
+use Rattle.reached.proofs.FormKept.{empty-kept, next-slot-in}
+use Rattle.analysis.proofs.StartWords.{begun}
 use Rattle.analysis.proofs.start_core.Statement.{statement}
 use Rattle.analysis.proofs.start_core.Tie as tie
 

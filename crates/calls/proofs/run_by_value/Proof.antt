@@ -4,7 +4,7 @@ use Rattle.semantics.proofs.Prelude.{_≡_, sym, ap, _∙_, [], arith, needs, n
 use Rattle.semantics.specs.Outcomes.{budget-ok, form-of, run-cases, refusal, run-outcome}
 use Rattle.checks.specs.Form.{lent, InForm}
 use Rattle.calls.proofs.Refusals.{run-passes, ends-refused, ends-through}
-use Rattle.calls.proofs.Sized.{budgeted}
+use Rattle.calls.proofs.CallSizes.{budgeted}
 use Rattle.calls.proofs.run_by_value.Statement.{statement}
 use Rattle.calls.proofs.run_by_value.Tie as tie
 

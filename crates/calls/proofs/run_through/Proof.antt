@@ -6,10 +6,10 @@ use Rattle.semantics.specs.Memory.{Memory}
 use Rattle.semantics.proofs.Decoded.{edges-count}
 use Rattle.state.proofs.Layouts.{LayoutOf, is-layout, slots-in}
 use Rattle.checks.specs.Form.{lent}
-use Rattle.analysis.proofs.Sizes.{edges-near}
-use Rattle.analysis.proofs.Entered.{entered, iterations-few}
-use Rattle.analysis.proofs.Stores.{run-leaves}
-use Rattle.calls.proofs.Sized.{thin, words-fit}
+use Rattle.analysis.proofs.ChartSizes.{edges-near}
+use Rattle.analysis.proofs.RunEntry.{entered, iterations-few}
+use Rattle.analysis.proofs.MemoryAtExit.{run-leaves}
+use Rattle.calls.proofs.CallSizes.{thin, words-fit}
 use Rattle.calls.proofs.run_through.Statement.{statement}
 use Rattle.calls.proofs.run_through.Tie as tie
 

@@ -2,8 +2,8 @@
 use Rattle.semantics.proofs.Prelude.{_≡_, refl, sym, ap, _∙_, true, arith, needs, not-true, not-false, w32, toZ-ofZ}
 use Rattle.semantics.specs.Algorithm.{allowed}
 use Rattle.semantics.specs.Memory.{capacity-ok}
-use Rattle.semantics.proofs.ListFacts.{from-true}
-use Rattle.calls.proofs.Sized.{counted}
+use Rattle.semantics.proofs.AtAndIn.{from-true}
+use Rattle.calls.proofs.CallSizes.{counted}
 use Rattle.calls.proofs.start_refusal.Statement.{statement}
 use Rattle.calls.proofs.start_refusal.Tie as tie
 

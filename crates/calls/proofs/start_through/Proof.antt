@@ -4,8 +4,8 @@ use Rattle.semantics.proofs.Prelude.{sym, _*_, _≤_, arith, needs, now, length
 use Rattle.semantics.specs.Encoding.{decode}
 use Rattle.state.proofs.Layouts.{LayoutOf, is-layout, slots-in}
 use Rattle.checks.specs.Form.{lent}
-use Rattle.analysis.proofs.Stores.{start-leaves}
-use Rattle.calls.proofs.Sized.{thin, words-fit}
+use Rattle.analysis.proofs.MemoryAtExit.{start-leaves}
+use Rattle.calls.proofs.CallSizes.{thin, words-fit}
 use Rattle.calls.proofs.start_through.Statement.{statement}
 use Rattle.calls.proofs.start_through.Tie as tie
 

@@ -3,7 +3,7 @@ use Rattle.semantics.proofs.Prelude.{_≡_, refl, sym, ap, _∙_, _&&_, List, _
 use Rattle.semantics.specs.Layout.{location-size}
 use Rattle.semantics.specs.Lists.{all}
 use Rattle.semantics.specs.Encoding.{loc-in, several, distinct-names}
-use Rattle.semantics.proofs.Values.{and-true}
+use Rattle.semantics.proofs.ConstantValues.{and-true}
 use Rattle.words.proofs.Rows.{tail}
 use Rattle.chart.proofs.Names.{other-name, differ-turn}
 use Rattle.chart.proofs.names_differ.Statement.{statement}

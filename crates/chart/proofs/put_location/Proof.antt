@@ -2,7 +2,7 @@
 use Rattle.semantics.proofs.Prelude.{List, map, _≡_, sym, ap, _∙_, ℕ, suc, _+_, _-_, arith, pos, length, length-map, now, needs, sfits-of}
 use Rattle.semantics.specs.Layout.{name-size}
 use Rattle.semantics.specs.Encoding.{padded}
-use Rattle.semantics.proofs.Stored.{padded-length}
+use Rattle.semantics.proofs.MemoryOf.{padded-length}
 use Rattle.words.proofs.Words.{told}
 use Rattle.chart.proofs.Storing.{name-over}
 use Rattle.chart.proofs.put_location.Statement.{statement}

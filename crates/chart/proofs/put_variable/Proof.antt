@@ -1,6 +1,6 @@
 -- `chart::put_variable` meets its contract. Assumes nothing.
 use Rattle.semantics.proofs.Prelude.{_≡_, _∙_, w32, toZ, ofZ, needs}
-use Rattle.semantics.proofs.Reloaded.{word-back}
+use Rattle.semantics.proofs.MemoryInForm.{word-back}
 use Rattle.chart.proofs.put_variable.Statement.{statement}
 use Rattle.chart.proofs.put_variable.Tie as tie
 

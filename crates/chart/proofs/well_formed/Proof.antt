@@ -12,7 +12,7 @@ returns c =
     let b = c .before .before in
     let k = b .before .before in
     let h : edges-at (k .before .args .chart .now) + edge-size * count (k .before .args .chart .now) 2 ≤ length (k .before .args .chart .now) = omega (arith, b .end-of .ensures) in
-    c .rows-ok .ensures ∙ sym (by-rows (k .before .args .chart .now) h (sym (k .counts-ok .ensures) ∙ b .before .if1 .taken))
+    c .rows-fine .ensures ∙ sym (by-rows (k .before .args .chart .now) h (sym (k .counts-fine .ensures) ∙ b .before .if1 .taken))
 
 returns-2 : tie.Need-returns-2
 returns-2 c =
@@ -21,7 +21,7 @@ returns-2 c =
     sym (no-room ws (omega (arith, b .end-of .ensures)))
 
 returns-3 : tie.Need-returns-3
-returns-3 c = let k = c .before in sym (no-counts (k .before .args .chart .now) (sym (k .counts-ok .ensures) ∙ c .if1 .left))
+returns-3 c = let k = c .before in sym (no-counts (k .before .args .chart .now) (sym (k .counts-fine .ensures) ∙ c .if1 .left))
 
 pub well-formed-spec : {M : Type 1} → statement M
 well-formed-spec =

@@ -3,10 +3,10 @@ use Rattle.semantics.proofs.Prelude.{_≡_, sym, ap, _∙_, Bool, List, [], _�
 use Rattle.semantics.specs.Encoding.{decode}
 use Rattle.semantics.specs.Memory.{Memory}
 use Rattle.semantics.specs.Outcomes.{Case, case, refusal, form-of, text-of, listing-cases}
-use Rattle.semantics.proofs.FirstCase.{NoneHolds, none-holds, later, sooner}
+use Rattle.semantics.proofs.FirstCase.{NoneMet, none-met, later, sooner}
 use Rattle.semantics.proofs.StatesOk.{bounds}
 use Rattle.semantics.proofs.Encoded.{well-formed-split}
-use Rattle.semantics.proofs.Listed.{text-short}
+use Rattle.semantics.proofs.ListingShort.{text-short}
 use Rattle.checks.specs.Form.{lent, InForm}
 use Rattle.checks.proofs.FormTests.{in-form}
 use Rattle.listing.proofs.listing_refusal.Statement.{statement}
@@ -34,8 +34,8 @@ module _ (c : tie.Else1) where
   abbrev start : tie.Start
   start = c .before .before
 
-  none : NoneHolds (form start)
-  none = none-holds (form start) tt (sym (c .before .form-refusal .ensures) ∙ c .if1 .left)
+  none : NoneMet (form start)
+  none = none-met (form start) tt (sym (c .before .form-refusal .ensures) ∙ c .if1 .left)
 
   given : InForm (words start) (memory start)
   given = in-form (words start) (memory start) (none .0) (none .1 .0) (none .1 .1 .0)

@@ -15,7 +15,7 @@ abbrev μ-loop : tie.MeasureT-loop
 μ-loop out₀ at chart name place₀ i₀ out place i = length name - i
 
 -- the byte is the name's
-module _ (c : tie.After-name-byte Inv-loop μ-loop) where
+module _ (c : tie.After-byte-of Inv-loop μ-loop) where
   abbrev turn : tie.At-loop Inv-loop μ-loop
   turn = c .before .before .before
 
@@ -25,10 +25,10 @@ module _ (c : tie.After-name-byte Inv-loop μ-loop) where
   abbrev bytes : List ℕ
   bytes = map natAbs (named .name .result .now)
 
-  byte : c .name-byte .result ≡ getD bytes (turn .loop .i) 0
+  byte : c .byte-of .result ≡ getD bytes (turn .loop .i) 0
   byte =
       let s = named .before .before in
-      let w = rw (toZ-ofZ w32 _ (sfits-of (c .before .name-byte-arg .given))) at (c .name-byte .ensures) in
+      let w = rw (toZ-ofZ w32 _ (sfits-of (c .before .byte-of-arg .given))) at (c .byte-of .ensures) in
       w ∙ ap byte-of (sym (List·getD-map natAbs (named .name .result .now) (turn .loop .i) (pos 0)))
       ∙ rw (named .name .ensures) (names-are-bytes (s .args .chart .now) (s .pre) (s .args .l .0) (turn .loop .i))
 

@@ -2,7 +2,7 @@
 use Rattle.semantics.proofs.Prelude.{sym, _≤_, arith, mul-le-mul-right, needs, length-take-le}
 use Rattle.semantics.specs.Encoding.{decode}
 use Rattle.semantics.specs.Memory.{width}
-use Rattle.semantics.proofs.Listed.{few-used}
+use Rattle.semantics.proofs.ListingShort.{few-used}
 use Rattle.checks.specs.Form.{lent}
 use Rattle.writer.proofs.Written.{put-then, put-same}
 use Rattle.listing.proofs.TextPieces.{counts-in-order, listing-is}

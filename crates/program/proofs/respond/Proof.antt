@@ -3,7 +3,7 @@ use Rattle.semantics.proofs.Prelude.{_≡_, subst, arith, needs, now, length}
 use Rattle.semantics.proofs.OutputShort.{output-short}
 use Rattle.program.specs.declared.go_line.GoLine.{GoLine}
 use Rattle.program.specs.Asked.{Asks, GoRead}
-use Rattle.program.proofs.Charted.{put-printed, refused-output, charted-output, printed-is}
+use Rattle.program.proofs.ReadAnswers.{put-printed, refused-output, charted-output, printed-is}
 use Rattle.program.proofs.respond.Statement.{statement}
 use Rattle.program.proofs.respond.Tie as tie
 
@@ -11,14 +11,14 @@ use Rattle.program.proofs.respond.Tie as tie
 asks : (c : tie.After-go) → Asks (now (c .before .before .before .before .args .input)) (c .go .given .0 .0) (c .go .given .0 .1 .0)
 asks c = subst (λ (x : GoLine). GoRead (now (c .before .before .before .before .args .input)) x) (c .go .given .1) (c .before .before .read .ensures)
 
-sub-put-chart : tie.Need-sub-put-chart
-sub-put-chart c = omega (arith, asks (c .before) .within)
+sub-put-answer : tie.Need-sub-put-answer
+sub-put-answer c = omega (arith, asks (c .before) .within)
 
-part-put-chart-start : tie.Need-part-put-chart-start
-part-put-chart-start c = omega (arith, asks (c .before) .within)
+part-put-answer-start : tie.Need-part-put-answer-start
+part-put-answer-start c = omega (arith, asks (c .before) .within)
 
-put-chart-requires : tie.Need-put-chart-requires
-put-chart-requires c κs =
+put-answer-requires : tie.Need-put-answer-requires
+put-answer-requires c κs =
     let g = c .before .before .before in
     (search needs, record { input = _; is = asks g .is })
 
@@ -34,7 +34,7 @@ returns c =
 returns-2 : tie.Need-returns-2
 returns-2 c =
     let m = c .before .before .before .before in
-    printed-is (charted-output (now (m .before .before .before .before .args .input)) (m .go .given .0 .0) (m .go .given .0 .1 .0) (asks m)) (c .put-chart .ensures)
+    printed-is (charted-output (now (m .before .before .before .before .args .input)) (m .go .given .0 .0) (m .go .given .0 .1 .0) (asks m)) (c .put-answer .ensures)
 
 pub respond-spec : {M : Type 1} → statement M
 respond-spec =
@@ -44,9 +44,9 @@ respond-spec =
     (λ c. search needs)
     (λ c κs. search needs)
     (λ c. search needs)
-    sub-put-chart
-    part-put-chart-start
+    sub-put-answer
+    part-put-answer-start
     (λ c. search needs)
-    put-chart-requires
+    put-answer-requires
     returns
     returns-2)

@@ -1,7 +1,7 @@
 -- `program::respond_to` meets its contract. Assumes nothing.
 use Rattle.semantics.proofs.Prelude.{_≡_, sym, arith, needs, now, length, take, length-take-le}
 use Rattle.semantics.specs.Program.{output}
-use Rattle.program.proofs.Enough.{enough}
+use Rattle.program.proofs.BufferEnough.{enough}
 use Rattle.program.proofs.respond_to.Statement.{statement}
 use Rattle.program.proofs.respond_to.Tie as tie
 

@@ -3,7 +3,7 @@ use Rattle.semantics.proofs.Prelude.{_≡_, sym, _∙_, ℕ, arith, now, needs}
 use Rattle.text.proofs.Places.{Lies, some-line, no-line}
 use Rattle.reader.specs.ReadSoFar.{Along}
 use Rattle.reader.specs.declared.tally.Tally.{Tally}
-use Rattle.reader.specs.declared.tally.Step.the-variants as step
+use Rattle.reader.specs.declared.tally.Judgement.the-variants as judgement
 use Rattle.reader.proofs.NextLine.{all-judged, line-judged}
 use Rattle.reader.proofs.advance.Statement.{statement}
 use Rattle.reader.proofs.advance.Tie as tie
@@ -16,7 +16,7 @@ module _ (c : tie.After-l) where
   abbrev tally : Tally
   tally = c .before .before .before .s .given .0 .0
 
-  went-on : start .args .p .step ≡ step.Go tally
+  went-on : start .args .p .last ≡ judgement.Go tally
   went-on = c .before .before .before .s .given .1
 
   -- where the line lies
@@ -29,8 +29,8 @@ returns c = λ at e g h. absurd (rw (g, c .enum-told .given .1) at h)
 returns-2 : tie.Need-returns-2
 returns-2 c = λ at e g h. (all-judged (rw (g, c .before .before .before .s .given .1) at h) (no-line _ _ (sym e ∙ c .enum-told2 .given .1)), λ z. let y : _≡_ {A = ℕ} 0 1 = cc in omega arith)
 
-step-requires : tie.Need-step-requires
-step-requires c κs = let k = c .before .before .before .before in
+judge-line-requires : tie.Need-judge-line-requires
+judge-line-requires c κs = let k = c .before .before .before .before in
     let r = start k .pre in
     (rw (went-on k) at (r .0 .few), r .1, r .2)
 
@@ -38,7 +38,7 @@ returns-3 : tie.Need-returns-3
 returns-3 c = λ at e g h.
     let k = c .before .before .before .before .before .before .before .before .before in
     let a = start k .args in
-    let d = c .before .before .before .before .step in
+    let d = c .before .before .before .before .judge-line in
     let l = some-line _ _ (sym e ∙ k .l .given .1) in
     let b : Along (now (a .text)) at (a .p .line) (tally k) (now (a .rows)) (now (a .names)) = rw (g, went-on k) at h in
     let j = line-judged b l (d .result) (d .last .1 .0) (d .last .1 .1 .0) (d .ensures (b .read) (b .held) (b .names-held)) in
@@ -55,7 +55,7 @@ advance-spec =
     (λ c. omega (arith, lies (c .before .before .before) .begins, lies (c .before .before .before) .ends))
     (λ c. omega (arith, lies (c .before .before .before) .begins, lies (c .before .before .before) .ends))
     (λ c. lies (c .before .before .before) .within)
-    step-requires
+    judge-line-requires
     (λ c κs. search needs)
     (λ c. omega (arith, lies (c .before .before .before .before .before .before .before .before .before) .here, start (c .before .before .before .before .before .before .before .before .before) .pre .0 .counted))
     (λ c. search needs) (λ c. search needs)

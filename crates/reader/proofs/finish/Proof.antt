@@ -1,6 +1,6 @@
 -- `reader::finish` meets its contract. Assumes nothing.
 use Rattle.semantics.proofs.Prelude.{arith, needs}
-use Rattle.reader.proofs.Holding.{none-empty-list, some-list}
+use Rattle.reader.proofs.CopiedOut.{none-empty-list, some-list}
 use Rattle.reader.proofs.finish.Statement.{statement}
 use Rattle.reader.proofs.finish.Tie as tie
 
@@ -8,7 +8,7 @@ returns : tie.Need-returns
 returns c = (λ d h. rw (none-empty-list (d .locs) (omega (arith, h .locs))) (c .refused .ensures), λ d h. rw (none-empty-list (d .locs) (omega (arith, h .locs))))
 
 returns-2 : tie.Need-returns-2
-returns-2 c = (λ d h. rw (some-list (d .locs) (omega (arith, h .locs))) (c .before .hold .ensures .0 d h), λ d h. rw (some-list (d .locs) (omega (arith, h .locs))) (c .before .hold .ensures .1 d h))
+returns-2 c = (λ d h. rw (some-list (d .locs) (omega (arith, h .locs))) (c .before .copy-out .ensures .0 d h), λ d h. rw (some-list (d .locs) (omega (arith, h .locs))) (c .before .copy-out .ensures .1 d h))
 
 pub finish-spec : {M : Type 1} → statement M
 finish-spec = tie.close (tie.spec (λ c κs. search needs) returns (λ c κs. search needs) (λ c. search needs) returns-2)

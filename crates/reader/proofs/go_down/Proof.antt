@@ -1,6 +1,6 @@
 -- `reader::go_down` meets its contract: a walk of its MIR, by hand, with a loop. The reader lies in a local; each
 -- turn asks it for the line at its place, moves the place on, and has the line judged, with the rows and the names
--- lent again for the call (`Again.antt`). The loop goes by `types.Run`'s `loops`: a state has the place, the progress
+-- lent again for the call (`Reborrow.antt`). The loop goes by `types.Run`'s `loops`: a state has the place, the progress
 -- and the two lists, with what holds of them, and its whole context is a list over the state. All that the proof
 -- knows of the functions called is that each meets its contract. Assumes nothing.
 use Rattle.semantics.proofs.Prelude.{_≡_, refl, ap, _∙_, ℕ, _<_, _^_, lit<, Bool, true, false, [], _∷_, List, length, ℤ, RefT, NamedLft, now}
@@ -46,7 +46,7 @@ use Rattle.text.specs.declared.lines.Reader.{Reader}
 use Rattle.text.specs.declared.lines.Line.{Line}
 use Rattle.reader.specs.ReadSoFar.{nothing-judged, Came, Stands, Ready, Advanced, most-rows, most-names}
 use Rattle.reader.specs.declared.Descent.{Descent}
-use Rattle.reader.proofs.LentAgain.{LentAgain, lends, back}
+use Rattle.reader.proofs.Reborrow.{LentAgain, lends, back}
 use Rattle.reader.proofs.NextLine.{at-first, ready, turns, fewer}
 use Rattle.text.proofs.lines.Reader as T
 use Rattle.text.proofs.lines.Reader.Laws as T′
@@ -263,7 +263,7 @@ module _ {M : Type 1} (𝓤 : URA M) (H : Heap 𝓤) (A : Atoms 𝓤) (W : Given
   abbrev Lasts : Type 0
   Lasts = Unit {0} × (List ℤ × (List ℤ × (Unit {0} × (Unit {0} × Unit {0}))))
 
-  exits : (p : Descent) → Is Y.the-row p (pv p ∷ []) → (ts ns : List ℤ) → length ts ≡ length ys → length ns ≡ length zs → Came (now s) (p .line) (p .step) ts
+  exits : (p : Descent) → Is Y.the-row p (pv p ∷ []) → (ts ns : List ℤ) → length ts ≡ length ys → length ns ≡ length zs → Came (now s) (p .line) (p .last) ts
       → ent 𝓤 (⋆ 𝓤 H A (Tok ∷ ‵ OwnS ∷ ‵ (OwnT ts) ∷ ‵ (flft κ₁ q₁) ∷ ‵ (OwnN ns) ∷ ‵ (flft κ₂ q₂) ∷ [])) (Post (pv p))
   exits p p-is ts ns et en e =
       qed W (Tok ∷ ‵ OwnS ∷ ‵ (OwnT ts) ∷ ‵ (flft κ₁ q₁) ∷ ‵ (OwnN ns) ∷ ‵ (flft κ₂ q₂) ∷ []) ∵

@@ -1,7 +1,7 @@
 -- `text::below` meets its contract. Assumes nothing.
 use Rattle.semantics.proofs.Prelude.{needs, _≡_, sym, true, false, pos, natAbs, ltZ, w32, toZ, ofZ}
 use Rattle.text.specs.Fields.{number-said, variable-res}
-use Rattle.text.proofs.Judged.{below-neg, below-yes, below-no}
+use Rattle.text.proofs.FieldTests.{below-neg, below-yes, below-no}
 use Rattle.text.proofs.below.Statement.{statement}
 use Rattle.text.proofs.below.Tie as tie
 

@@ -2,7 +2,7 @@
 use Rattle.semantics.proofs.Prelude.{needs, arith, _≡_, refl, sym, _∙_, length, drop, _-_, _≤_}
 use Rattle.semantics.specs.Text.{fields}
 use Rattle.semantics.specs.Reading.{nth}
-use Rattle.text.proofs.Parts.{field-here, field-none, field-next}
+use Rattle.text.proofs.LineFields.{field-here, field-none, field-next}
 use Rattle.text.proofs.field.Statement.{statement}
 use Rattle.text.proofs.field.Tie as tie
 

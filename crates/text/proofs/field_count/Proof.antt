@@ -2,7 +2,7 @@
 -- nothing.
 use Rattle.semantics.proofs.Prelude.{needs, _≡_, _+_, _-_, _≤_, eqb, length, drop, getD, now, arith}
 use Rattle.semantics.specs.Text.{fields}
-use Rattle.text.proofs.Parts.{count-next, count-last, tab-few}
+use Rattle.text.proofs.LineFields.{count-next, count-last, tab-few}
 use Rattle.text.proofs.field_count.Statement.{statement}
 use Rattle.text.proofs.field_count.Tie as tie
 

@@ -1,7 +1,7 @@
 -- `text::init_field` meets its contract: `*` is top. Assumes nothing.
 use Rattle.semantics.proofs.Prelude.{needs, sym, _∙_, w32, toZ-ofZ}
 use Rattle.text.specs.Fields.{init-res}
-use Rattle.text.proofs.Judged.{init-star, init-other}
+use Rattle.text.proofs.FieldTests.{init-star, init-other}
 use Rattle.text.proofs.init_field.Statement.{statement}
 use Rattle.text.proofs.init_field.Tie as tie
 

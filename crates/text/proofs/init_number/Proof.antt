@@ -3,7 +3,7 @@ use Rattle.semantics.proofs.Prelude.{needs, _≡_, sym, ap, _∙_, true, false,
 use Rattle.semantics.specs.Chart.{within}
 use Rattle.semantics.specs.Reading.{ok, if-ok, number-field}
 use Rattle.text.specs.Fields.{word-res, init-res}
-use Rattle.text.proofs.Judged.{init-in, init-out}
+use Rattle.text.proofs.FieldTests.{init-in, init-out}
 use Rattle.text.proofs.init_number.Statement.{statement}
 use Rattle.text.proofs.init_number.Tie as tie
 

@@ -2,7 +2,7 @@
 use Rattle.semantics.proofs.Prelude.{needs}
 use Rattle.semantics.specs.Reading.{kind-field}
 use Rattle.text.specs.Fields.{kind-res}
-use Rattle.text.proofs.Judged.{word-by-word}
+use Rattle.text.proofs.FieldTests.{word-by-word}
 use Rattle.text.proofs.kind_field.Statement.{statement}
 use Rattle.text.proofs.kind_field.Tie as tie
 

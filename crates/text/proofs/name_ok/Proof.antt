@@ -2,7 +2,7 @@
 use Rattle.semantics.proofs.Prelude.{needs, _≡_, refl, sym, _∙_, _-_, _≤_, length, drop, now, not-true, not-false, arith}
 use Rattle.semantics.specs.Lists.{all}
 use Rattle.semantics.specs.Text.{name-byte}
-use Rattle.text.proofs.Bytes.{all-step, all-stop, all-end, name-short, name-long, name-all}
+use Rattle.text.proofs.Bytes.{all-step, all-stop, all-end, name-empty, name-long, name-all}
 use Rattle.text.proofs.name_ok.Statement.{statement}
 use Rattle.text.proofs.name_ok.Tie as tie
 
@@ -13,7 +13,7 @@ abbrev μ-loop : tie.MeasureT-loop
 μ-loop f i₀ i = length f - i
 
 returns : tie.Need-returns Inv-loop μ-loop
-returns c = sym (name-short (now (c .before .before .args .f)) (c .if1 .taken))
+returns c = sym (name-empty (now (c .before .before .args .f)) (c .if1 .taken))
 
 returns-2 : tie.Need-returns-2 Inv-loop μ-loop
 returns-2 c = sym (name-long (now (c .before .before .before .args .f)) (c .if2 .taken))

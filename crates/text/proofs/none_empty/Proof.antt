@@ -2,7 +2,7 @@
 use Rattle.semantics.proofs.Prelude.{needs, arith, _≡_, refl, sym, _∙_, length, drop, _-_, _≤_}
 use Rattle.semantics.specs.Text.{fields}
 use Rattle.semantics.specs.Reading.{none-empty}
-use Rattle.text.proofs.Parts.{full-stop, full-last, full-next}
+use Rattle.text.proofs.LineFields.{full-stop, full-last, full-next}
 use Rattle.text.proofs.none_empty.Statement.{statement}
 use Rattle.text.proofs.none_empty.Tie as tie
 

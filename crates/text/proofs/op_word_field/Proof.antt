@@ -2,7 +2,7 @@
 use Rattle.semantics.proofs.Prelude.{needs}
 use Rattle.semantics.specs.Reading.{op-word-field}
 use Rattle.text.specs.Fields.{op-word-res}
-use Rattle.text.proofs.Judged.{word-not, word-by-word}
+use Rattle.text.proofs.FieldTests.{word-not, word-by-word}
 use Rattle.text.proofs.op_word_field.Statement.{statement}
 use Rattle.text.proofs.op_word_field.Tie as tie
 

@@ -1,7 +1,7 @@
 -- `text::operand_field` meets its contract: a `$` makes it a variable. Assumes nothing.
 use Rattle.semantics.proofs.Prelude.{needs, _≡_, sym, ap, _∙_, w32, toZ, ofZ}
 use Rattle.text.specs.Fields.{variable-res, word-res, operand-res}
-use Rattle.text.proofs.Judged.{operand-var, operand-num, then-fail, then-ok}
+use Rattle.text.proofs.FieldTests.{operand-var, operand-num, then-fail, then-ok}
 use Rattle.text.proofs.operand_field.Statement.{statement}
 use Rattle.text.proofs.operand_field.Tie as tie
 

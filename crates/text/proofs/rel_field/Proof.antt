@@ -2,7 +2,7 @@
 use Rattle.semantics.proofs.Prelude.{needs}
 use Rattle.semantics.specs.Reading.{rel-field}
 use Rattle.text.specs.Fields.{rel-res}
-use Rattle.text.proofs.Judged.{word-not, word-by-word}
+use Rattle.text.proofs.FieldTests.{word-not, word-by-word}
 use Rattle.text.proofs.rel_field.Statement.{statement}
 use Rattle.text.proofs.rel_field.Tie as tie
 

@@ -1,7 +1,7 @@
 -- `text::same_bytes` meets its contract: what is left of the texts says whether they are the same. Assumes nothing.
 use Rattle.semantics.proofs.Prelude.{needs, _≡_, refl, sym, _∙_, _-_, _≤_, length, drop, now, arith}
 use Rattle.semantics.specs.Text.{same-bytes}
-use Rattle.text.proofs.Bytes.{same-short, same-step, same-stop, same-end}
+use Rattle.text.proofs.Bytes.{same-lengths, same-step, same-stop, same-end}
 use Rattle.text.proofs.same_bytes.Statement.{statement}
 use Rattle.text.proofs.same_bytes.Tie as tie
 
@@ -12,7 +12,7 @@ abbrev μ-loop : tie.MeasureT-loop
 μ-loop a b i₀ i = length a - i
 
 returns : tie.Need-returns Inv-loop μ-loop
-returns c = sym (same-short (now (c .before .args .a)) (now (c .before .args .b)) (c .if1 .taken))
+returns c = sym (same-lengths (now (c .before .args .a)) (now (c .before .args .b)) (c .if1 .taken))
 
 loop-holds : tie.Need-loop-holds Inv-loop μ-loop
 loop-holds c = (omega arith, refl)

@@ -4,7 +4,7 @@ use Rattle.semantics.specs.Reading.{below-or}
 use Rattle.text.specs.Fields.{number-said, variable-res}
 use Rattle.text.specs.declared.NumberRead.{NumberRead}
 use Rattle.text.proofs.Digits.{below-or-cut}
-use Rattle.text.proofs.Judged.{target-none, target-other, target-is}
+use Rattle.text.proofs.FieldTests.{target-none, target-other, target-is}
 use Rattle.text.proofs.target_field.Statement.{statement}
 use Rattle.text.proofs.target_field.Tie as tie
 

@@ -1,6 +1,6 @@
 -- `walk::main` is safe and ends: what it writes lies within the bytes that `respond_to` was lent. Assumes nothing.
 use Rattle.semantics.proofs.Prelude.{sym, _≤_, needs, length, length-take-le}
-use Rattle.program.proofs.Enough.{printed-within}
+use Rattle.program.proofs.BufferEnough.{printed-within}
 use Rattle.walk.proofs.main.Statement.{statement}
 use Rattle.walk.proofs.main.Tie as tie
 

@@ -18,12 +18,12 @@ loop-holds c = (omega arith, refl)
 returns : tie.Need-returns Inv-loop μ-loop
 returns c =
     let k = c .before .before .before in
-    sym (k .before .loop .inv .1 ∙ all-stop _ _ _ (k .loop-test .taken) (sym (c .before .byte-ok .ensures) ∙ not-true _ (c .if1 .taken)))
+    sym (k .before .loop .inv .1 ∙ all-stop _ _ _ (k .loop-test .taken) (sym (c .before .is-line-byte .ensures) ∙ not-true _ (c .if1 .taken)))
 
 loop-again : tie.Need-loop-again Inv-loop μ-loop
 loop-again c =
     let k = c .before .before .before in
-    (omega arith, k .before .loop .inv .1 ∙ all-step _ _ _ (k .loop-test .taken) (sym (c .before .byte-ok .ensures) ∙ not-false _ (c .if1 .left)))
+    (omega arith, k .before .loop .inv .1 ∙ all-step _ _ _ (k .loop-test .taken) (sym (c .before .is-line-byte .ensures) ∙ not-false _ (c .if1 .left)))
 
 returns-2 : tie.Need-returns-2 Inv-loop μ-loop
 returns-2 c = sym (c .before .loop .inv .1 ∙ all-end _ _ _ (c .loop-test .left))

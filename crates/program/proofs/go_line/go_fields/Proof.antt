@@ -3,7 +3,7 @@ use Rattle.semantics.proofs.Prelude.{needs, _≡_, sym, ap, _∙_, List, true, 
 use Rattle.semantics.specs.Text.{bytes, same-bytes, fields}
 use Rattle.semantics.specs.Reading.{check, if-ok, nth, filled}
 use Rattle.program.specs.Asked.{settings-res, asked-res}
-use Rattle.program.proofs.Cut.{counts-cut}
+use Rattle.program.proofs.CutCounts.{counts-cut}
 use Rattle.program.proofs.go_line.go_fields.Statement.{statement}
 use Rattle.program.proofs.go_line.go_fields.Tie as tie
 

@@ -1,6 +1,6 @@
 -- `program::go_line::order_field` meets its contract. Assumes nothing.
 use Rattle.semantics.proofs.Prelude.{needs}
-use Rattle.text.proofs.Judged.{word-by-word}
+use Rattle.text.proofs.FieldTests.{word-by-word}
 use Rattle.program.specs.Asked.{order-res}
 use Rattle.program.proofs.go_line.order_field.Statement.{statement}
 use Rattle.program.proofs.go_line.order_field.Tie as tie

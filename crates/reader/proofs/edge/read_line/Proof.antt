@@ -2,8 +2,8 @@
 use Rattle.semantics.proofs.Prelude.{sym, ap, _∙_, arith, not-true, not-false, needs}
 use Rattle.semantics.specs.Reading.{op-word-field}
 use Rattle.text.specs.Fields.{op-word-res}
-use Rattle.reader.proofs.Reading.{edge-full, edge-short, edge-no-word, edge-word}
-use Rattle.reader.proofs.Judging.{said}
+use Rattle.reader.proofs.Reading.{edge-full, edge-few-fields, edge-no-word, edge-word}
+use Rattle.reader.proofs.CheckSteps.{said}
 use Rattle.reader.proofs.edge.read_line.Statement.{statement}
 use Rattle.reader.proofs.edge.read_line.Tie as tie
 
@@ -11,7 +11,7 @@ returns : tie.Need-returns
 returns c = λ s names h g. edge-full s _ (omega (arith, h .edges))
 
 returns-2 : tie.Need-returns-2
-returns-2 c = λ s names h g. edge-short s _ (omega (arith, h .edges)) (sym (c .before .enough .ensures) ∙ not-true _ (c .if2 .taken))
+returns-2 c = λ s names h g. edge-few-fields s _ (omega (arith, h .edges)) (sym (c .before .enough .ensures) ∙ not-true _ (c .if2 .taken))
 
 returns-3 : tie.Need-returns-3
 unfolding op-word-res

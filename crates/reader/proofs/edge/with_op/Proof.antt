@@ -1,7 +1,7 @@
 -- `reader::edge::with_op` meets its contract. Assumes nothing.
 use Rattle.semantics.proofs.Prelude.{sym, ap, needs}
 use Rattle.reader.specs.Answers.{op-res}
-use Rattle.text.proofs.Judged.{then-fail, then-ok}
+use Rattle.text.proofs.FieldTests.{then-fail, then-ok}
 use Rattle.reader.proofs.edge.with_op.Statement.{statement}
 use Rattle.reader.proofs.edge.with_op.Tie as tie
 

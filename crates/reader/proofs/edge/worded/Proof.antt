@@ -9,9 +9,9 @@ use Rattle.text.specs.declared.OpWord.{OpWord}
 use Rattle.reader.specs.Answers.{edge-res}
 use Rattle.reader.specs.Lines.{op-read, edge-read}
 use Rattle.reader.proofs.Reading.{edge-counted, edge-near}
-use Rattle.reader.proofs.Growing.{rows-edge}
-use Rattle.text.proofs.Judged.{then-fail, then-ok}
-use Rattle.reader.proofs.Judging.{check-no}
+use Rattle.reader.proofs.OneRowMore.{rows-edge}
+use Rattle.text.proofs.FieldTests.{then-fail, then-ok}
+use Rattle.reader.proofs.CheckSteps.{check-no}
 use Rattle.reader.proofs.edge.worded.Statement.{statement}
 use Rattle.reader.proofs.edge.worded.Tie as tie
 

@@ -3,7 +3,7 @@ use Rattle.semantics.proofs.Prelude.{sym, ap, _∙_, not-true, not-false, needs
 use Rattle.semantics.specs.Reading.{kind-field}
 use Rattle.semantics.specs.Text.{name-ok}
 use Rattle.text.specs.Fields.{kind-res}
-use Rattle.reader.proofs.Judging.{check-no, check-yes, said}
+use Rattle.reader.proofs.CheckSteps.{check-no, check-yes, said}
 use Rattle.reader.proofs.location.judged.Statement.{statement}
 use Rattle.reader.proofs.location.judged.Tie as tie
 

@@ -7,9 +7,9 @@ use Rattle.semantics.specs.Reading.{So-far, with-loc}
 use Rattle.semantics.proofs.Encoded.{name-short}
 use Rattle.chart.specs.Rows.{the-location}
 use Rattle.reader.specs.ReadSoFar.{Rows}
-use Rattle.reader.proofs.Growing.{rows-loc}
-use Rattle.reader.proofs.Naming.{new-location}
-use Rattle.reader.proofs.Judging.{check-no, check-yes}
+use Rattle.reader.proofs.OneRowMore.{rows-loc}
+use Rattle.reader.proofs.NewNames.{new-location}
+use Rattle.reader.proofs.CheckSteps.{check-no, check-yes}
 use Rattle.reader.proofs.location.named.Statement.{statement}
 use Rattle.reader.proofs.location.named.Tie as tie
 

@@ -2,11 +2,11 @@
 use Rattle.semantics.proofs.Prelude.{_≡_, sym, ap, _∙_, List, ℕ, T, now, needs}
 use Rattle.semantics.specs.Text.{name-ok, fields}
 use Rattle.semantics.specs.Reading.{ok}
-use Rattle.semantics.proofs.Accepted.{check-ok}
+use Rattle.semantics.proofs.ReadInBounds.{check-ok}
 use Rattle.text.specs.Fields.{kind-res}
 use Rattle.reader.specs.Lines.{loc-judged}
 use Rattle.reader.proofs.Reading.{loc-late, loc-full, loc-read}
-use Rattle.text.proofs.Judged.{then-fail, then-ok}
+use Rattle.text.proofs.FieldTests.{then-fail, then-ok}
 use Rattle.reader.proofs.location.read_line.Statement.{statement}
 use Rattle.reader.proofs.location.read_line.Tie as tie
 

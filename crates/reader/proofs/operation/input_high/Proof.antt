@@ -1,8 +1,8 @@
 -- `reader::operation::input_high` meets its contract. Assumes nothing.
 use Rattle.semantics.proofs.Prelude.{sym, ap, _∙_, needs}
 use Rattle.text.specs.Fields.{word-res}
-use Rattle.text.proofs.Judged.{then-fail, then-ok}
-use Rattle.reader.proofs.Judging.{check-no, check-yes}
+use Rattle.text.proofs.FieldTests.{then-fail, then-ok}
+use Rattle.reader.proofs.CheckSteps.{check-no, check-yes}
 use Rattle.reader.proofs.operation.input_high.Statement.{statement}
 use Rattle.reader.proofs.operation.input_high.Tie as tie
 

@@ -1,7 +1,7 @@
 -- `reader::operation::set` meets its contract. Assumes nothing.
 use Rattle.semantics.proofs.Prelude.{sym, ap, _∙_, needs}
 use Rattle.text.specs.Fields.{operand-res}
-use Rattle.text.proofs.Judged.{then-fail, then-ok}
+use Rattle.text.proofs.FieldTests.{then-fail, then-ok}
 use Rattle.reader.proofs.operation.set.Statement.{statement}
 use Rattle.reader.proofs.operation.set.Tie as tie
 

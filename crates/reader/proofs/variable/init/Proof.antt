@@ -1,7 +1,7 @@
 -- `reader::variable::init` meets its contract. Assumes nothing.
 use Rattle.semantics.proofs.Prelude.{sym, ap, _∙_, needs}
 use Rattle.text.specs.Fields.{init-res}
-use Rattle.text.proofs.Judged.{then-fail, then-ok}
+use Rattle.text.proofs.FieldTests.{then-fail, then-ok}
 use Rattle.reader.proofs.variable.init.Statement.{statement}
 use Rattle.reader.proofs.variable.init.Tie as tie
 

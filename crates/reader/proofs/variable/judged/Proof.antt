@@ -1,7 +1,7 @@
 -- `reader::variable::judged` meets its contract. Assumes nothing.
 use Rattle.semantics.proofs.Prelude.{sym, _∙_, not-true, not-false, needs}
 use Rattle.semantics.specs.Text.{name-ok}
-use Rattle.reader.proofs.Judging.{check-no, check-yes, said}
+use Rattle.reader.proofs.CheckSteps.{check-no, check-yes, said}
 use Rattle.reader.proofs.variable.judged.Statement.{statement}
 use Rattle.reader.proofs.variable.judged.Tie as tie
 

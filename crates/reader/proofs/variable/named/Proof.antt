@@ -6,9 +6,9 @@ use Rattle.semantics.specs.Reading.{So-far, with-var}
 use Rattle.semantics.proofs.Encoded.{name-short}
 use Rattle.reader.specs.Answers.{var-of}
 use Rattle.reader.specs.ReadSoFar.{Names}
-use Rattle.reader.proofs.Growing.{rows-var, names-more}
-use Rattle.reader.proofs.Naming.{new-variable}
-use Rattle.reader.proofs.Judging.{check-no, check-yes}
+use Rattle.reader.proofs.OneRowMore.{rows-var, names-more}
+use Rattle.reader.proofs.NewNames.{new-variable}
+use Rattle.reader.proofs.CheckSteps.{check-no, check-yes}
 use Rattle.reader.proofs.variable.named.Statement.{statement}
 use Rattle.reader.proofs.variable.named.Tie as tie
 

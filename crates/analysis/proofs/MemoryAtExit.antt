@@ -1,0 +1,159 @@
+-- Record and words in form are exactly those of the exploration that they say, also as the semantics' own
+-- exploration: what `run_core` and `start_core` leave is what document 01's run and start put there. Assumes nothing.
+use Rattle.semantics.proofs.Prelude.{_≡_, refl, sym, ap, subst, _∙_, List, [], _∷_, _++_, map, ℕ, zero, suc, _+_, _-_, _*_, _≤_, min, suc-mul, add-comm, arith, T, ℤ, pos, length, take, drop, replicate, take-append-drop, length-map, take-add, length-take-le}
+use Rattle.semantics.specs.Layout.{most-iterations}
+use Rattle.semantics.specs.declared.Analysis.{Analysis}
+use Rattle.semantics.specs.declared.Settings.{Settings}
+use Rattle.semantics.specs.Lists.{each}
+use Rattle.semantics.specs.Chart.{Chart, numbered}
+use Rattle.semantics.specs.Constants.{AbstractState, constants, initial}
+use Rattle.semantics.specs.Algorithm.{Exploration, run, start}
+use Rattle.semantics.specs.Encoding.{decode, well-formed, padded}
+use Rattle.semantics.specs.Memory.{Memory, width, row, table-of, waitlist-of, analysis-of, load, analysis-ok}
+use Rattle.semantics.specs.Outcomes.{started, resumed, put-in}
+use Rattle.semantics.proofs.Encoded.{well-formed-split}
+use Rattle.semantics.proofs.SettingsKept.{run-kept}
+use Rattle.semantics.proofs.Simulate.{AllPairs, ExplorationR, run-R, start-R}
+use Rattle.state.specs.declared.Layout.{Layout}
+use Rattle.state.specs.Rows.{width-of, rows-of}
+use Rattle.state.proofs.Layouts.{LayoutOf}
+use Rattle.waitlist.specs.Waits.{waits}
+use Rattle.reached.specs.Reached.{Kept}
+use Rattle.reached.proofs.Table.{rows-length}
+use Rattle.reached.proofs.FormKept.{in-table}
+use Rattle.transfer.specs.Transfer.{edges-from, initial-row}
+use Rattle.transfer.proofs.Agree.{Says, Counts, edges-say, agree, initial-says}
+use Rattle.analysis.specs.Loaded.{domain-of, load-of, Loaded}
+use Rattle.analysis.proofs.RunEntry.{entry-says}
+
+-- ---- the words of a table in form are its rows, then zeros
+
+abbrev flat : List (List ℤ) → List ℤ
+flat en = each (λ e. e) en
+
+flat-rows : (y : Layout) → y .stride ≡ width-of y → (n : ℕ) (t : List ℤ) → flat (rows-of y n t) ≡ take (n * y .stride) t
+flat-rows y p zero t = let z : 0 * y .stride ≡ 0 = omega arith in rw z
+flat-rows y p (suc n) t =
+    let d = y .stride in
+    let e : suc n * d ≡ d + n * d = suc-mul n d ∙ add-comm (n * d) d in
+    rw e ((λ i. take (sym p i) t ++ flat-rows y p n (drop d t) i) ∙ sym (take-add d (n * d) t))
+
+module _ {y : Layout} {t l : List ℤ} {used waiting : ℕ} (k : Kept y t l used waiting) where
+  table-padded : y .stride ≡ width-of y → t ≡ padded (length l * y .stride) (flat (rows-of y used t))
+  table-padded p =
+      let d = y .stride in
+      let f = flat-rows y p used t in
+      let n : length (flat (rows-of y used t)) ≡ used * d = ap length f ∙ length-take-le (used * d) t (in-table k) in
+      let z : length t - used * d ≡ length l * d - length (flat (rows-of y used t)) = omega (arith, n, k .table) in
+      sym (take-append-drop (used * d) t) ∙ ap (λ (x : List ℤ). x ++ drop (used * d) t) (sym f)
+      ∙ ap (λ (x : List ℤ). flat (rows-of y used t) ++ x) (k .rest)
+      ∙ ap (λ (m : ℕ). flat (rows-of y used t) ++ replicate m (pos 0)) z
+
+  list-padded : l ≡ padded (length l) (map pos (waits waiting l))
+  list-padded =
+      let n : length (map pos (waits waiting l)) ≡ waiting = length-map (waits waiting l) pos ∙ sym (k .slots .count) in
+      let z : length l - waiting ≡ length l - length (map pos (waits waiting l)) = omega (arith, n) in
+      k .slots .words ∙ ap (λ (m : ℕ). map pos (waits waiting l) ++ replicate m (pos 0)) z
+
+-- ---- over the simulation
+
+-- memory and record are those of the exploration v
+pub record Stores (c : Chart) (a : Analysis) (t l : List ℤ) (v : Exploration AbstractState) : Type 0 where
+  pub table : t ≡ table-of c v
+  pub waitlist : l ≡ waitlist-of v
+  pub analysis : a ≡ analysis-of v
+
+rows-said : (c : Chart) (en : List (List ℤ)) (fs : List AbstractState) → AllPairs (Says c) en fs → flat en ≡ each row fs
+rows-said c [] [] a = refl
+rows-said c [] (f ∷ fs) a = absurd a
+rows-said c (e ∷ en) [] a = absurd a
+rows-said c (e ∷ en) (f ∷ fs) a = let p = a .0 .words in let q = rows-said c en fs (a .1) in λ i. p i ++ q i
+
+count-said : (c : Chart) (en : List (List ℤ)) (fs : List AbstractState) → AllPairs (Says c) en fs → length en ≡ length fs
+count-said c [] [] a = refl
+count-said c [] (f ∷ fs) a = absurd a
+count-said c (e ∷ en) [] a = absurd a
+count-said c (e ∷ en) (f ∷ fs) a = ap suc (count-said c en fs (a .1))
+
+module _ (c : Chart) (y : Layout) (o : LayoutOf c y) (last : ℕ) (a : Analysis) (t l : List ℤ) where
+  pub stores : (x : Exploration (List ℤ)) (v : Exploration AbstractState) → Loaded y last a t l x → ExplorationR (Says c) x v → Stores c a t l v
+  stores x v h s = go (subst (λ (z : Exploration (List ℤ)). ExplorationR (Says c) z v) (sym (h .load)) s)
+    where
+      k : Kept y t l (a .used) (a .waiting)
+      k = h .form .kept
+
+      go : ExplorationR (Says c) (load-of y a t l) v → Stores c a t l v
+      go q =
+          let rows = rows-said c (rows-of y (a .used) t) (v .reached) (q .reached) in
+          let used : a .used ≡ length (v .reached) = sym (rows-length y (a .used) t) ∙ count-said c (rows-of y (a .used) t) (v .reached) (q .reached) in
+          let waiting : a .waiting ≡ length (v .waitlist) = k .slots .count ∙ ap length (q .waitlist) in
+          let size : length l ≡ v .capacity = h .form .capacity ∙ q .capacity in
+          record {
+            table = table-padded k (o .stride ∙ sym (o .wide)) ∙ (λ i. padded (size i * o .stride i) (rows i));
+            waitlist = list-padded k ∙ (λ i. padded (size i) (map pos (q .waitlist i)));
+            analysis = λ i. record {
+              settings = q .settings i;
+              capacity = q .capacity i;
+              iterations = q .iterations i;
+              used = used i;
+              waiting = waiting i;
+              verdict = q .verdict i;
+              edge = record { 0 = q .edge i };
+            };
+          }
+
+-- ---- what `run_core` and `start_core` leave
+
+module _ (ws : List ℤ) (ok : T (well-formed ws)) (y : Layout) (o : LayoutOf (decode ws) y) (last : ℕ) (r : Analysis) (t l : List ℤ) where
+  abbrev c : Chart
+  c = decode ws
+
+  pub run-stores : (x : Exploration (List ℤ)) (v : Exploration AbstractState) → ExplorationR (Says c) x v → (gs : List ℕ) → AllPairs (Counts c) gs (numbered c) → (n : ℕ)
+      → Loaded y last r t l (run (domain-of ws) gs n x) → Stores c r t l (run (constants c) (numbered c) n v)
+  run-stores x v s gs z n h =
+      stores c y o last r t l (run (domain-of ws) gs n x) (run (constants c) (numbered c) n v) h
+      (run-R (domain-of ws) (constants c) (Says c) (Counts c) (agree ws ok) gs (numbered c) z n x v s)
+
+  pub start-stores : (z : Settings) (capacity : ℕ) → Loaded y last r t l (start (domain-of ws) z capacity (initial-row ws))
+      → Stores c r t l (start (constants c) z capacity (initial c))
+  start-stores z capacity h =
+      stores c y o last r t l (start (domain-of ws) z capacity (initial-row ws)) (start (constants c) z capacity (initial c)) h
+      (start-R (domain-of ws) (constants c) (Says c) (Counts c) (agree ws ok) z capacity (initial-row ws) (initial c) (initial-says ws ok))
+
+-- ---- the lent memory at exit: the capacity's words and the record, and the words past them as they were
+
+module _ (c : Chart) (y : Layout) (o : LayoutOf c y) (m : Memory) (r : Analysis) (t l : List ℤ) (v : Exploration AbstractState) (s : Stores c r t l v) where
+  pub put-is : (capacity : ℕ) → v .capacity ≡ capacity
+      → put-in c v m ≡ record { table = t ++ drop (capacity * y .stride) (m .table); waitlist = l ++ drop capacity (m .waitlist); analysis = r }
+  put-is capacity e =
+      let pt = sym (s .table) in
+      let pl = sym (s .waitlist) in
+      let pa = sym (s .analysis) in
+      let w = sym (o .stride) in
+      λ i. record { table = pt i ++ drop (e i * w i) (m .table); waitlist = pl i ++ drop (e i) (m .waitlist); analysis = pa i }
+
+module _ (ws : List ℤ) (ok : T (well-formed ws)) (y : Layout) (o : LayoutOf (decode ws) y) (m : Memory) (r : Analysis) (t l : List ℤ) where
+  -- a run with a budget, from the capacity's words of an analysis in form
+  pub run-leaves : m .analysis .capacity * width (decode ws) ≤ length (m .table) → m .analysis .capacity ≤ length (m .waitlist) → T (analysis-ok (decode ws) m) → (budget : ℕ)
+      → Loaded y (length (decode ws .edges)) r t l (run (domain-of ws) (edges-from 0 (length (decode ws .edges))) (min budget (most-iterations - m .analysis .iterations))
+      (load-of y (m .analysis) (take (m .analysis .capacity * y .stride) (m .table)) (take (m .analysis .capacity) (m .waitlist))))
+      → put-in (decode ws) (resumed (decode ws) (pos budget) (load (decode ws) m)) m
+      ≡ record { table = t ++ drop (m .analysis .capacity * y .stride) (m .table); waitlist = l ++ drop (m .analysis .capacity) (m .waitlist); analysis = r }
+  unfolding load
+  run-leaves lt ll form budget h =
+      let c = decode ws in
+      let v = load c m in
+      let n = min budget (most-iterations - m .analysis .iterations) in
+      let x = load-of y (m .analysis) (take (m .analysis .capacity * y .stride) (m .table)) (take (m .analysis .capacity) (m .waitlist)) in
+      let z = edges-say c (well-formed-split ws ok .1) in
+      put-is c y o m r t l (resumed c (pos budget) v) (run-stores ws ok y o (length (c .edges)) r t l x v (entry-says c y o m lt ll form) (edges-from 0 (length (c .edges))) z n h)
+      (m .analysis .capacity) (run-kept (constants c) (numbered c) n v .capacity)
+
+  -- a start, from the row of the initial state
+  pub start-leaves : (z : Settings) (capacity last : ℕ) → Loaded y last r t l (start (domain-of ws) z capacity (initial-row ws))
+      → put-in (decode ws) (started (decode ws) z (pos capacity)) m
+      ≡ record { table = t ++ drop (capacity * y .stride) (m .table); waitlist = l ++ drop capacity (m .waitlist); analysis = r }
+  unfolding start
+  start-leaves z capacity last h =
+      let c = decode ws in
+      put-is c y o m r t l (started c z (pos capacity)) (start-stores ws ok y o last r t l z capacity h) capacity refl

@@ -1,0 +1,41 @@
+-- Edges that do not leave the location of the taken state are passed over: their play changes nothing. Assumes nothing.
+use Rattle.semantics.proofs.Prelude.{_≡_, refl, sym, ap, _∙_, Bool, true, false, List, ℕ, zero, suc, _+_, _-_, _≤_, arith, ne-eqb, ltb-true, ltb-false, ltb, ℤ}
+use Rattle.semantics.specs.declared.Settings.{Settings}
+use Rattle.semantics.specs.Algorithm.{Step, halt, Out, then, visit, visit-all}
+use Rattle.state.specs.Rows.{location-in}
+use Rattle.transfer.specs.Transfer.{edges-from, post-at, post-words}
+use Rattle.analysis.specs.Chains.{from-at, Passed}
+use Rattle.analysis.specs.Loaded.{domain-of}
+use Rattle.analysis.proofs.Arrival.{edges-turn, edges-none}
+
+-- an edge that leaves another location has no successor
+no-successor : (c : List ℤ) (g : ℕ) (e : List ℤ) → (from-at c g ≡ location-in e → ⊥) → post-words c g e ≡ halt
+unfolding post-words post-at
+no-successor c g e h = rw (ne-eqb (from-at c g) (location-in e) h)
+
+module _ (c : List ℤ) (s : Settings) (r : ℕ) (e : List ℤ) (n : ℕ) (en : List (List ℤ)) (wa : List ℕ) where
+  abbrev rest : ℕ → Out (List ℤ)
+  rest g = visit-all (domain-of c) s r e (edges-from g (n - g)) en wa
+
+  pass-one : (g : ℕ) → (from-at c g ≡ location-in e → ⊥) → rest g ≡ rest (g + 1)
+  pass-one g h = go (ltb g n) refl
+    where
+      go : (b : Bool) → ltb g n ≡ b → rest g ≡ rest (g + 1)
+      go true t =
+          ap (λ (gs : List ℕ). visit-all (domain-of c) s r e gs en wa) (edges-turn g n (ltb-true g n t))
+          ∙ ap (λ (x : Step (List ℤ)). then (visit (domain-of c) s r (suc g) x en wa) (λ en wa. visit-all (domain-of c) s r e (edges-from (g + 1) (n - (g + 1))) en wa)) (no-successor c g e h)
+      go false t =
+          ap (λ (gs : List ℕ). visit-all (domain-of c) s r e gs en wa)
+          (edges-none g n (ltb-false g n t) ∙ sym (edges-none (g + 1) n (omega (arith, ltb-false g n t))))
+
+  pass-some : (k g : ℕ) → Passed c (location-in e) g (g + k) → rest g ≡ rest (g + k)
+  pass-some zero g h = let z : g ≡ g + 0 = omega arith in ap rest z
+  pass-some (suc k) g h =
+      let m : g + suc k ≡ g + 1 + k = omega arith in
+      pass-one g (h g (omega arith) (omega arith)) ∙ pass-some k (g + 1) (λ j lo hi q. h j (omega arith) (omega arith) q) ∙ ap rest (sym m)
+
+  -- edges from g, and from m on, where none up to m leaves the location
+  pub passed : (g m : ℕ) → g ≤ m → Passed c (location-in e) g m → rest g ≡ rest m
+  passed g m h p =
+      let k : g + (m - g) ≡ m = omega arith in
+      pass-some (m - g) g (λ j lo hi q. p j lo (omega arith) q) ∙ ap rest k

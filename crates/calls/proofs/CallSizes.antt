@@ -1,0 +1,43 @@
+-- What a well-formed chart's counts say of a slot's words and of products with them. Assumes nothing.
+use Rattle.semantics.proofs.Prelude.{List, ℕ, _*_, _≤_, _<_, mul-le-mul, arith, T, leb, leb→le, ℤ, pos, negsuc, natAbs, nonNeg}
+use Rattle.semantics.specs.Layout.{most-slots, most-iterations}
+use Rattle.semantics.specs.Encoding.{decode, well-formed}
+use Rattle.semantics.specs.Memory.{capacity-ok}
+use Rattle.semantics.specs.Outcomes.{budget-ok}
+use Rattle.semantics.proofs.ConstantValues.{and-left, and-right}
+use Rattle.state.specs.declared.Layout.{Layout}
+use Rattle.state.specs.Rows.{width-of, most-width}
+use Rattle.state.proofs.Layouts.{LayoutOf}
+use Rattle.analysis.proofs.ChartSizes.{narrow}
+
+-- the layout of a well-formed chart's tables
+module _ (ws : List ℤ) (ok : T (well-formed ws)) (y : Layout) (o : LayoutOf (decode ws) y) where
+  pub thin : width-of y ≤ most-width
+  thin = omega (arith, o .wide, narrow ws ok)
+
+  -- the words of a capacity of 32 bits
+  pub words-fit : (r : ℕ) → r < 4294967296 → r * y .stride < 18446744073709551616
+  words-fit r h =
+      let few : r ≤ 4294967296 = omega arith in
+      let d : y .stride ≤ most-width = omega (arith, o .stride, narrow ws ok) in
+      let m : r * y .stride ≤ 4294967296 * 9 = mul-le-mul few d in
+      omega arith
+
+-- a capacity that 11 lets pass is a number from 1 to 256
+pub record Counted (z : ℤ) : Type 0 where
+  pub sign : T (nonNeg z)
+  pub some : 1 ≤ natAbs z
+  pub few : natAbs z ≤ most-slots
+
+pub counted : (z : ℤ) → T (capacity-ok z) → Counted z
+counted (pos n) t = record { sign = tt; some = leb→le 1 n (and-left (leb 1 n) (leb n most-slots) t); few = leb→le n most-slots (and-right (leb 1 n) (leb n most-slots) t) }
+counted (negsuc n) t = absurd t
+
+-- a budget that 13 lets pass is a number up to 60,000
+pub record Budgeted (z : ℤ) : Type 0 where
+  pub sign : T (nonNeg z)
+  pub few : natAbs z ≤ most-iterations
+
+pub budgeted : (z : ℤ) → T (budget-ok z) → Budgeted z
+budgeted (pos n) t = record { sign = tt; few = leb→le n most-iterations (and-right (leb 0 n) (leb n most-iterations) t) }
+budgeted (negsuc n) t = absurd t

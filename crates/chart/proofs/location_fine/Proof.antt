@@ -1,0 +1,36 @@
+-- `chart::location_fine` meets its contract. Assumes nothing.
+use Rattle.semantics.proofs.Prelude.{_≡_, _+_, _-_, arith, needs, sfits-of, pos, sfits-lit}
+use Rattle.semantics.specs.Encoding.{word-at}
+use Rattle.semantics.specs.Layout.{name-size, location-size}
+use Rattle.chart.specs.Encoded.{location-fine}
+use Rattle.words.proofs.Words.{tested}
+use Rattle.chart.proofs.location_fine.Statement.{statement}
+use Rattle.chart.proofs.location_fine.Tie as tie
+
+returns : tie.Need-returns
+unfolding location-fine
+returns c =
+    let b = c .before .before in
+    let n = b .before .before .row-name-length in
+    let k = b .before .before .before .word-at in
+    let e : n .result + 1 - 1 ≡ n .result = omega arith in
+    let d : location-size - (n .result + 1) ≡ name-size - n .result = omega arith in
+    let fk = sfits-of {z = k .result} (k .ok) in
+    rw (
+      c .all-zero .ensures,
+      b .name-words-ok .ensures,
+      e,
+      d,
+      n .ensures .0,
+      tested fk (k .ensures) {n = pos 0} (sfits-lit tt),
+      tested fk (k .ensures) {n = pos 1} (sfits-lit tt),
+    )
+
+pub location-fine-spec : {M : Type 1} → statement M
+location-fine-spec =
+    tie.close
+    (tie.spec
+    (λ c κs. search needs) (λ c κs. search needs) (λ c. search needs) (λ c. search needs) (λ c. search needs)
+    (λ c. search needs) (λ c κs. search needs) (λ c. search needs) (λ c. search needs) (λ c. search needs)
+    (λ c. search needs) (λ c κs. search needs)
+    returns)

@@ -1,0 +1,202 @@
+-- Facts of values, of any number of variables. Assumes nothing.
+use Rattle.semantics.proofs.Prelude.{_≡_, refl, sym, ap, _∙_, subst, Bool, true, false, _&&_, List, [], _∷_, Option, some, none, ℕ, zero, suc, arith, le-antisymm, T, eqb→eq, leb→le, length, getD, set, ℤ, pos, negsuc, _+ℤ_, _-ℤ_, leZ}
+use Rattle.semantics.specs.Lists.{all-pairs, pick}
+use Rattle.semantics.specs.Chart.{Value, known, top, Var, Operand, num, var, Rel, eq, ne, lt, le, gt, ge, Op, assign, add, sub, input, assume, skip, eqZ, within, holds, Ranged, Matches₁, Matches, value, Becomes, in-range}
+use Rattle.semantics.specs.Constants.{equal-value, leq-value, value-or-top, join-values, operand-value, both, assign-value, refine, one-known, tested, one-of, effect}
+use Rattle.semantics.proofs.AtAndIn.{from-true}
+
+pub and-left : (a b : Bool) → T (a && b) → T a
+and-left true b t = tt
+and-left false b t = absurd t
+
+pub and-right : (a b : Bool) → T (a && b) → T b
+and-right true b t = t
+and-right false b t = absurd t
+
+-- the same of Bools that are equal to true
+pub left-true : (a b : Bool) → a && b ≡ true → a ≡ true
+left-true true b e = refl
+left-true false b e = e
+
+pub right-true : (a b : Bool) → a && b ≡ true → b ≡ true
+right-true true b e = e
+right-true false b e = absurd (subst T (sym e) tt)
+
+pub and-true : (a : Bool) → a && true ≡ a
+and-true true = refl
+and-true false = refl
+
+pub and-assoc : (a b c : Bool) → a && (b && c) ≡ a && b && c
+and-assoc true b c = refl
+and-assoc false b c = refl
+
+pub eqZ-same : (a b : ℤ) → T (eqZ a b) → a ≡ b
+eqZ-same (pos a) (pos b) t = ap pos (eqb→eq a b t)
+eqZ-same (pos a) (negsuc b) t = absurd t
+eqZ-same (negsuc a) (pos b) t = absurd t
+eqZ-same (negsuc a) (negsuc b) t = ap negsuc (eqb→eq a b t)
+
+pub leZ-antisym : (a b : ℤ) → T (leZ a b) → T (leZ b a) → a ≡ b
+leZ-antisym (pos a) (pos b) s t = ap pos (le-antisymm (leb→le a b s) (leb→le b a t))
+leZ-antisym (pos a) (negsuc b) s t = absurd s
+leZ-antisym (negsuc a) (pos b) s t = absurd t
+leZ-antisym (negsuc a) (negsuc b) s t = ap negsuc (le-antisymm (leb→le a b t) (leb→le b a s))
+
+-- one value
+equal-value-same : (v w : Value) → T (equal-value v w) → v ≡ w
+equal-value-same (known a) (known b) t = ap known (eqZ-same a b t)
+equal-value-same (known a) top t = absurd t
+equal-value-same top (known b) t = absurd t
+equal-value-same top top t = refl
+
+leq-value-matches : (v w : Value) (x : ℤ) → T (leq-value v w) → Matches₁ v x → Matches₁ w x
+leq-value-matches (known a) (known b) x t m = sym (eqZ-same a b t) ∙ m
+leq-value-matches (known a) top x t m = tt
+leq-value-matches top (known b) x t m = absurd t
+leq-value-matches top top x t m = tt
+
+join-value-slot : (v w : Value) (x : ℤ) (b : Bool) → Matches₁ w x → Matches₁ (value-or-top b w) x
+join-value-slot v w x true m = m
+join-value-slot v w x false m = tt
+
+join-value-new : (v w : Value) (x : ℤ) (b : Bool) → equal-value v w ≡ b → Matches₁ v x → Matches₁ (value-or-top b w) x
+join-value-new v w x true e m = subst (λ (u : Value). Matches₁ u x) (equal-value-same v w (from-true e)) m
+join-value-new v w x false e m = tt
+
+both-matches : (f : ℤ → ℤ → ℤ) (v w : Value) (x y : ℤ) → Matches₁ v x → Matches₁ w y → Matches₁ (both f v w) (f x y)
+both-matches f (known a) (known b) x y p q = cc
+both-matches f (known a) top x y p q = tt
+both-matches f top (known b) x y p q = tt
+both-matches f top top x y p q = tt
+
+one-of-matches : (p q z : ℤ) (b : Bool) → eqZ p q ≡ b → T (within p q z) → Matches₁ (one-of b p) z
+one-of-matches p q z true e t =
+    let same : p ≡ q = eqZ-same p q (from-true e) in
+    leZ-antisym p z (and-left (leZ p z) (leZ z q) t) (subst (λ (y : ℤ). T (leZ z y)) (sym same) (and-right (leZ p z) (leZ z q) t))
+one-of-matches p q z false e t = tt
+
+-- lists of values
+pub all-same : (vs ws : List Value) → T (all-pairs equal-value vs ws) → vs ≡ ws
+all-same [] [] t = refl
+all-same [] (w ∷ ws) t = absurd t
+all-same (v ∷ vs) [] t = absurd t
+all-same (v ∷ vs) (w ∷ ws) t =
+    let p : v ≡ w = equal-value-same v w (and-left (equal-value v w) (all-pairs equal-value vs ws) t) in
+    let q : vs ≡ ws = all-same vs ws (and-right (equal-value v w) (all-pairs equal-value vs ws) t) in
+    cc
+
+pub leq-matches : (vs ws : List Value) (xs : List ℤ) → T (all-pairs leq-value vs ws) → Matches vs xs → Matches ws xs
+leq-matches [] [] xs t m = m
+leq-matches [] (w ∷ ws) xs t m = absurd t
+leq-matches (v ∷ vs) [] xs t m = absurd t
+leq-matches (v ∷ vs) (w ∷ ws) [] t m = absurd m
+leq-matches (v ∷ vs) (w ∷ ws) (x ∷ xs) t m =
+    (leq-value-matches v w x (and-left (leq-value v w) (all-pairs leq-value vs ws) t) (m .0), leq-matches vs ws xs (and-right (leq-value v w) (all-pairs leq-value vs ws) t) (m .1))
+
+pub joins-slot : (vs ws : List Value) (xs : List ℤ) → Matches ws xs → Matches (join-values vs ws) xs
+joins-slot [] ws xs m = m
+joins-slot (v ∷ vs) [] xs m = m
+joins-slot (v ∷ vs) (w ∷ ws) [] m = absurd m
+joins-slot (v ∷ vs) (w ∷ ws) (x ∷ xs) m = (join-value-slot v w x (equal-value v w) (m .0), joins-slot vs ws xs (m .1))
+
+pub joins-new : (vs ws : List Value) (xs : List ℤ) → length vs ≡ length ws → Matches vs xs → Matches (join-values vs ws) xs
+joins-new [] [] xs l m = m
+joins-new [] (w ∷ ws) xs l m = absurd (omega arith)
+joins-new (v ∷ vs) [] xs l m = absurd (omega arith)
+joins-new (v ∷ vs) (w ∷ ws) [] l m = absurd m
+joins-new (v ∷ vs) (w ∷ ws) (x ∷ xs) l m = (join-value-new v w x (equal-value v w) refl (m .0), joins-new vs ws xs (omega arith) (m .1))
+
+pub joins-length : (vs ws : List Value) → length (join-values vs ws) ≡ length ws
+joins-length [] ws = refl
+joins-length (v ∷ vs) [] = refl
+joins-length (v ∷ vs) (w ∷ ws) = ap suc (joins-length vs ws)
+
+matches-get : (vs : List Value) (xs : List ℤ) (k : ℕ) → Matches vs xs → Matches₁ (getD vs k (known (pos 0))) (getD xs k (pos 0))
+matches-get [] [] k m = refl
+matches-get [] (x ∷ xs) k m = absurd m
+matches-get (v ∷ vs) [] k m = absurd m
+matches-get (v ∷ vs) (x ∷ xs) zero m = m .0
+matches-get (v ∷ vs) (x ∷ xs) (suc k) m = matches-get vs xs k (m .1)
+
+matches-set : (vs : List Value) (xs : List ℤ) (k : ℕ) (v : Value) (x : ℤ) → Matches vs xs → Matches₁ v x → Matches (set vs k v) (set xs k x)
+matches-set [] [] k v x m h = tt
+matches-set [] (y ∷ ys) k v x m h = absurd m
+matches-set (w ∷ ws) [] k v x m h = absurd m
+matches-set (w ∷ ws) (y ∷ ys) zero v x m h = (h, m .1)
+matches-set (w ∷ ws) (y ∷ ys) (suc k) v x m h = (m .0, matches-set ws ys k v x (m .1) h)
+
+-- a value found out: the state is as it was
+matches-learn : (vs : List Value) (xs : List ℤ) (k : ℕ) (z : ℤ) → Matches vs xs → getD xs k (pos 0) ≡ z → Matches (set vs k (known z)) xs
+matches-learn [] [] k z m h = tt
+matches-learn [] (x ∷ xs) k z m h = absurd m
+matches-learn (v ∷ vs) [] k z m h = absurd m
+matches-learn (v ∷ vs) (x ∷ xs) zero z m h = (sym h, m .1)
+matches-learn (v ∷ vs) (x ∷ xs) (suc k) z m h = (m .0, matches-learn vs xs k z (m .1) h)
+
+ranged-get : (vars : List Var) (xs : List ℤ) (k : ℕ) → Ranged vars xs → T (in-range vars k (getD xs k (pos 0)))
+ranged-get [] xs k r = tt
+ranged-get (v ∷ vs) [] k r = absurd r
+ranged-get (v ∷ vs) (x ∷ xs) zero r = r .0
+ranged-get (v ∷ vs) (x ∷ xs) (suc k) r = ranged-get vs xs k (r .1)
+
+ranged-set : (vars : List Var) (xs : List ℤ) (k : ℕ) (z : ℤ) → Ranged vars xs → Ranged vars (set xs k z) → T (in-range vars k z)
+ranged-set [] xs k z r q = tt
+ranged-set (v ∷ vs) [] k z r q = absurd r
+ranged-set (v ∷ vs) (x ∷ xs) zero z r q = q .0
+ranged-set (v ∷ vs) (x ∷ xs) (suc k) z r q = ranged-set vs xs k z (r .1) (q .1)
+
+-- the moves
+Gives : Option (List Value) → List ℤ → Type 0
+Gives o ys = (us : List Value) × (o ≡ some us) × Matches us ys
+
+some-gives : (b : Bool) (us : List Value) (ys : List ℤ) → T b → Matches us ys → Gives (pick b (some us) none) ys
+unfolding Gives
+some-gives true us ys t m = (us, refl, m)
+some-gives false us ys t m = absurd t
+
+known-matches : (a : Operand) (vs : List Value) (xs : List ℤ) → Matches vs xs → Matches₁ (operand-value a vs) (value a xs)
+known-matches (num z) vs xs m = refl
+known-matches (var k) vs xs m = matches-get vs xs k m
+
+assign-gives : (vars : List Var) (k : ℕ) (v : Value) (vs : List Value) (xs : List ℤ) (z : ℤ) → Ranged vars xs → Ranged vars (set xs k z) → Matches vs xs → Matches₁ v z → Gives (assign-value vars k v vs) (set xs k z)
+unfolding Gives
+assign-gives vars k (known a) vs xs z r q m h =
+    some-gives (in-range vars k a) (set vs k (known a)) (set xs k z)
+    (subst (λ (y : ℤ). T (in-range vars k y)) (sym h) (ranged-set vars xs k z r q)) (matches-set vs xs k (known a) z m h)
+assign-gives vars k top vs xs z r q m h = (set vs k top, refl, matches-set vs xs k top z m h)
+
+refine-gives : (vars : List Var) (a : Operand) (z : ℤ) (vs : List Value) (xs : List ℤ) → Ranged vars xs → Matches vs xs → value a xs ≡ z → Gives (refine vars a z vs) xs
+unfolding Gives
+refine-gives vars (num a) z vs xs r m h = (vs, refl, m)
+refine-gives vars (var k) z vs xs r m h =
+    some-gives (in-range vars k z) (set vs k (known z)) xs (subst (λ (y : ℤ). T (in-range vars k y)) h (ranged-get vars xs k r)) (matches-learn vs xs k z m h)
+
+one-known-gives : (vars : List Var) (r : Rel) (a : Operand) (x y z : ℤ) (vs : List Value) (xs : List ℤ) → Ranged vars xs → Matches vs xs → T (holds r x y) → (x ≡ y → value a xs ≡ z) → Gives (one-known vars r a z vs) xs
+unfolding Gives
+one-known-gives vars eq a x y z vs xs r m t f = refine-gives vars a z vs xs r m (f (eqZ-same x y t))
+one-known-gives vars ne a x y z vs xs r m t f = (vs, refl, m)
+one-known-gives vars lt a x y z vs xs r m t f = (vs, refl, m)
+one-known-gives vars le a x y z vs xs r m t f = (vs, refl, m)
+one-known-gives vars gt a x y z vs xs r m t f = (vs, refl, m)
+one-known-gives vars ge a x y z vs xs r m t f = (vs, refl, m)
+
+tested-gives : (vars : List Var) (r : Rel) (a b : Operand) (v w : Value) (vs : List Value) (xs : List ℤ) → Ranged vars xs → Matches vs xs → Matches₁ v (value a xs) → Matches₁ w (value b xs) → T (holds r (value a xs) (value b xs)) → Gives (tested vars r a b v w vs) xs
+unfolding Gives
+tested-gives vars r a b (known x) (known y) vs xs g m p q t = some-gives (holds r x y) vs xs (rw (p, q) t) m
+tested-gives vars r a b (known x) top vs xs g m p q t = one-known-gives vars r b (value a xs) (value b xs) x vs xs g m t (λ h. sym h ∙ sym p)
+tested-gives vars r a b top (known y) vs xs g m p q t = one-known-gives vars r a (value a xs) (value b xs) y vs xs g m t (λ h. h ∙ sym q)
+tested-gives vars r a b top top vs xs g m p q t = (vs, refl, m)
+
+pub effect-gives : (vars : List Var) (o : Op) (vs : List Value) (xs ys : List ℤ) → Ranged vars xs → Ranged vars ys → Matches vs xs → Becomes o xs ys → (us : List Value) × (effect vars o vs ≡ some us) × Matches us ys
+unfolding Gives
+effect-gives vars (assign v a) vs xs ys r q m b =
+    rw b (assign-gives vars v (operand-value a vs) vs xs (value a xs) r (rw b at q) m (known-matches a vs xs m))
+effect-gives vars (add v a b) vs xs ys r q m h =
+    rw h (assign-gives vars v (both _+ℤ_ (operand-value a vs) (operand-value b vs)) vs xs (value a xs +ℤ value b xs) r (rw h at q) m (both-matches _+ℤ_ (operand-value a vs) (operand-value b vs) (value a xs) (value b xs) (known-matches a vs xs m) (known-matches b vs xs m)))
+effect-gives vars (sub v a b) vs xs ys r q m h =
+    rw h (assign-gives vars v (both _-ℤ_ (operand-value a vs) (operand-value b vs)) vs xs (value a xs -ℤ value b xs) r (rw h at q) m (both-matches _-ℤ_ (operand-value a vs) (operand-value b vs) (value a xs) (value b xs) (known-matches a vs xs m) (known-matches b vs xs m)))
+effect-gives vars (input v p u) vs xs ys r q m h =
+    (set vs v (one-of (eqZ p u) p), refl, rw (h .2) (matches-set vs xs v (one-of (eqZ p u) p) (h .0) m (one-of-matches p u (h .0) (eqZ p u) refl (h .1))))
+effect-gives vars (assume v t a) vs xs ys r q m h =
+    rw (h .1) (tested-gives vars t (var v) a (operand-value (var v) vs) (operand-value a vs) vs xs r m (known-matches (var v) vs xs m) (known-matches a vs xs m) (h .0))
+effect-gives vars skip vs xs ys r q m h = (vs, refl, rw h m)

@@ -1,0 +1,108 @@
+-- The program's input: what an accepted go line says, and how much of the input matters. Assumes nothing.
+use Rattle.semantics.proofs.Prelude.{_≡_, refl, sym, ap, _∙_, subst, Bool, true, false, _||_, List, [], _∷_, _++_, ℕ, zero, suc, _+_, _≤_, _<_, arith, T, ltb, eqb, lt→ltb, length, take, drop, take-append-drop, length-append, take-all, take-append-le, length-take-le}
+use native.Mathlib.Decide.{decLe}
+use Rattle.semantics.specs.Lists.{pick}
+use Rattle.semantics.specs.Layout.{most-bytes}
+use Rattle.semantics.specs.Reading.{Res, fail, ok, check, refused, read}
+use Rattle.semantics.specs.Program.{has-lf, first-line, past-line, Go, go-line, print-read, print-go, output}
+use Rattle.semantics.proofs.AtAndIn.{from-true}
+use Rattle.semantics.proofs.MemoryOf.{to-true}
+use Rattle.semantics.proofs.ReadInBounds.{check-ok, then-ok}
+use Rattle.semantics.proofs.Program.{GoOk}
+
+-- ---- the go line
+
+ok-same : {A : Type 0} {a b : A} → ok a ≡ ok b → a ≡ b
+ok-same e = cc
+
+-- an accepted go line is one that 11, 12 and 13 let pass
+pub go-fine : (input : List ℕ) (g : Go) → go-line input ≡ ok g → GoOk g
+unfolding go-line
+go-fine input g e =
+    let fits = check-ok _ _ _ e .1 in
+    let plain = check-ok _ _ _ fits .1 in
+    let ends = check-ok _ _ _ plain .1 in
+    let six = check-ok _ _ _ ends .1 in
+    let go = check-ok _ _ _ six .1 in
+    let settings = then-ok _ _ go in
+    let capacity = then-ok _ _ (settings .2) in
+    let budget = then-ok _ _ (capacity .2) in
+    let eleven = check-ok _ _ _ (budget .2) in
+    let twelve = check-ok _ _ _ (eleven .1) in
+    let thirteen = check-ok _ _ _ (twelve .1) in
+    let p : _≡_ {A = Go} (record { settings = settings .0; capacity = capacity .0; budget = budget .0 }) g = ok-same (thirteen .1) in
+    subst (λ (x : Go). GoOk x) p (record { capacity = eleven .0; modes = twelve .0; budget = thirteen .0 })
+
+-- ---- the bytes after an LF: only what stands past the first line knows them
+
+record Past (p q : List ℕ) : Type 0 where
+  lf : T (has-lf (p ++ q))
+  line : first-line (p ++ q) ≡ first-line p
+  rest : past-line (p ++ q) ≡ past-line p ++ q
+
+after-lf : (p q : List ℕ) → T (has-lf p) → Past p q
+after-lf [] q t = absurd t
+after-lf (b ∷ bs) q t = go (eqb b 10) refl t (after-lf bs q)
+  where
+    go : (x : Bool) → eqb b 10 ≡ x → T (x || has-lf bs) → (T (has-lf bs) → Past bs q) → Past (b ∷ bs) q
+    go true e u ih = record { lf = rw e tt; line = rw e; rest = rw e }
+    go false e u ih = let r = ih u in record { lf = rw e (r .lf); line = rw (e, r .line); rest = rw (e, r .rest) }
+
+-- an LF among the first n bytes leaves all but n past the first line
+past-long : (n : ℕ) (p : List ℕ) → T (has-lf (take n p)) → T (has-lf p) × (length p ≤ n + length (past-line p))
+past-long zero p t = absurd t
+past-long (suc n) [] t = absurd t
+past-long (suc n) (b ∷ bs) t = go (eqb b 10) t (past-long n bs)
+  where
+    go : (x : Bool) → T (x || has-lf (take n bs)) → (T (has-lf (take n bs)) → T (has-lf bs) × (length bs ≤ n + length (past-line bs)))
+        → T (x || has-lf bs) × (suc (length bs) ≤ suc n + length (pick x bs (past-line bs)))
+    go true u ih = (tt, omega arith)
+    go false u ih = let r = ih u in (r .0, omega arith)
+
+-- ---- the first 32,833 bytes: 64 for the go line, 32,768 for the chart, and one more that tells a chart too long
+
+below-true : (m n : ℕ) → m < n → ltb m n ≡ true
+below-true m n h = to-true (ltb m n) (lt→ltb m n h)
+
+no-line : (x : List ℕ) → 64 < length x → has-lf (take 64 x) ≡ false → go-line x ≡ fail 1
+unfolding go-line check
+no-line x l e = rw (below-true 64 (length x) l, e)
+
+same-line : (p q : List ℕ) → 64 < length p → T (has-lf (take 64 p)) → go-line (p ++ q) ≡ go-line p
+unfolding go-line
+same-line p q l t =
+    let h = past-long 64 p t .0 in
+    let r = after-lf p q h in
+    rw (take-append-le 64 p q (omega arith), to-true (has-lf (take 64 p)) t, below-true 64 (length (p ++ q)) (omega (arith, length-append p q)), below-true 64 (length p) l, r .line, to-true (has-lf (p ++ q)) (r .lf), to-true (has-lf p) h)
+
+too-long : (text : List ℕ) → most-bytes < length text → read text ≡ refused 1 0
+unfolding read
+too-long text l = rw (below-true most-bytes (length text) l)
+
+same-print : (r : Res Go) (x y : List ℕ) → read x ≡ read y → print-go r x ≡ print-go r y
+same-print (fail n) x y e = refl
+same-print (ok g) x y e = ap (print-read g) e
+
+cut : (p q : List ℕ) → length p ≡ 32833 → output p ≡ output (p ++ q)
+unfolding output
+cut p q l = go (has-lf (take 64 p)) refl
+  where
+    longer : 64 < length (p ++ q)
+    longer = omega (arith, length-append p q)
+
+    go : (x : Bool) → has-lf (take 64 p) ≡ x → print-go (go-line p) (past-line p) ≡ print-go (go-line (p ++ q)) (past-line (p ++ q))
+    go false e = rw (no-line p (omega arith) e, no-line (p ++ q) longer (ap has-lf (take-append-le 64 p q (omega arith)) ∙ e))
+    go true e =
+        let t = from-true e in
+        let h = past-long 64 p t in
+        let r = after-lf p q (h .0) in
+        rw (same-line p q (omega arith) t, r .rest)
+        (same-print (go-line p) (past-line p) (past-line p ++ q) (too-long (past-line p) (omega (arith, h .1)) ∙ sym (too-long (past-line p ++ q) (omega (arith, h .1, length-append (past-line p) q)))))
+
+-- what stands past them changes nothing: the program need not read it
+pub cut-same : (input : List ℕ) → output (take 32833 input) ≡ output input
+cut-same input = go (decLe (length input) 32833)
+  where
+    go : Dec (length input ≤ 32833) → output (take 32833 input) ≡ output input
+    go (yes h) = ap output (take-all 32833 input h)
+    go (no h) = cut (take 32833 input) (drop 32833 input) (length-take-le 32833 input (omega arith)) ∙ ap output (take-append-drop 32833 input)

@@ -1,0 +1,134 @@
+-- A listing is short: 24,576 bytes hold every listing of an analysis that was begun by a start, or that is in form.
+-- Assumes nothing.
+use Rattle.semantics.proofs.Prelude.{_≡_, Bool, true, false, List, [], _∷_, _++_, map, ℕ, zero, suc, _+_, _*_, _≤_, arith, T, leb, eqb, leb→le, le→leb, length, length-append, ℤ, pos, negsuc, leZ}
+use Rattle.semantics.specs.Lists.{some-of, all}
+use Rattle.semantics.specs.Layout.{most-iterations, most-slots}
+use Rattle.semantics.specs.Text.{decimal, line-of, between, name-byte, name-ok}
+use Rattle.semantics.specs.Chart.{Value, known, top, Var, Loc, Chart, within}
+use Rattle.semantics.specs.Algorithm.{Mode, Sep, Order, Old, New, Verdict, Open, Safe, Alarm, Full, Exploration, Join}
+use Rattle.semantics.specs.Constants.{AbstractState}
+use Rattle.semantics.specs.Encoding.{var-ok}
+use Rattle.semantics.specs.Memory.{Memory, load, capacity-ok, analysis-ok}
+use Rattle.semantics.specs.Outcomes.{text-of}
+use Rattle.semantics.specs.Listing.{mode-text, order-text, verdict-text, loc-text, val-text, mark, slot-text, slots-text, listing-text}
+use Rattle.semantics.specs.Tidy.{Every}
+use Rattle.semantics.proofs.ConstantValues.{and-left, and-right}
+use Rattle.semantics.proofs.MemoryOf.{both-true, Good}
+use Rattle.semantics.proofs.StatesOk.{ValOk, ValsOk, StateOk, Bounds}
+use Rattle.semantics.proofs.MemoryInForm.{form, states-count, rows-states}
+use Rattle.semantics.proofs.Rendered.{size, dec-short, decZ-short}
+
+pub line-size : (f : List ℕ) (gs : List (List ℕ)) → length (line-of f gs) ≡ size (f ∷ gs)
+unfolding line-of
+line-size f [] = length-append f (10 ∷ [])
+line-size f (g ∷ gs) = omega (arith, length-append f (9 ∷ line-of g gs), line-size g gs)
+
+leZ-trans : (a b c : ℤ) → T (leZ a b) → T (leZ b c) → T (leZ a c)
+leZ-trans (pos a) (pos b) (pos c) s t = le→leb a c (let p = leb→le a b s in let q = leb→le b c t in omega arith)
+leZ-trans (pos a) (pos b) (negsuc c) s t = absurd t
+leZ-trans (pos a) (negsuc b) c s t = absurd s
+leZ-trans (negsuc a) b (pos c) s t = tt
+leZ-trans (negsuc a) (pos b) (negsuc c) s t = absurd t
+leZ-trans (negsuc a) (negsuc b) (negsuc c) s t = le→leb c a (let p = leb→le b a s in let q = leb→le c b t in omega arith)
+
+val-short : (v : Var) (x : Value) → T (var-ok v) → ValOk v x → length (val-text x) ≤ 6
+val-short v (known z) t h =
+    let a : T (leZ (negsuc 32767) (v .lo)) = search (and-left, and-right) depth 8 in
+    let b : T (leZ (v .hi) (pos 32767)) = search (and-left, and-right) depth 8 in
+    let p = leZ-trans (negsuc 32767) (v .lo) z a (and-left (leZ (v .lo) z) (leZ z (v .hi)) h) in
+    let q = leZ-trans z (v .hi) (pos 32767) (and-right (leZ (v .lo) z) (leZ z (v .hi)) h) b in
+    decZ-short z (both-true (leZ (negsuc 32767) z) (leZ z (pos 32767)) p q)
+val-short v top t h = omega arith
+
+vals-short : (vs : List Var) (xs : List Value) (m : List ℕ) → T (all var-ok vs) → ValsOk vs xs → size (map val-text xs ++ (m ∷ [])) ≤ 7 * length vs + suc (length m)
+vals-short [] [] m t h = omega arith
+vals-short [] (x ∷ xs) m t h = absurd h
+vals-short (v ∷ vs) [] m t h = absurd h
+vals-short (v ∷ vs) (x ∷ xs) m t h = omega (arith, val-short v x (and-left (var-ok v) (all var-ok vs) t) (h .0), vals-short vs xs m (and-right (var-ok v) (all var-ok vs) t) (h .1))
+
+name-short : (ls : List Loc) (n : ℕ) → T (all (λ l. name-ok (l .name)) ls) → length (loc-text ls n) ≤ 16
+name-short [] n t = omega arith
+name-short (l ∷ ls) zero t = leb→le (length (l .name)) 16 (and-right (leb 1 (length (l .name))) (leb (length (l .name)) 16) (and-left (between 1 16 (length (l .name))) (all name-byte (l .name)) (and-left (name-ok (l .name)) (all (λ l. name-ok (l .name)) ls) t)))
+name-short (l ∷ ls) (suc n) t = name-short ls n (and-right (name-ok (l .name)) (all (λ l. name-ok (l .name)) ls) t)
+
+mark-short : (b : Bool) → length (mark b) ≤ 1
+mark-short true = omega arith
+mark-short false = omega arith
+
+mode-short : (m : Mode) → length (mode-text m) ≤ 4
+mode-short Sep = omega arith
+mode-short Join = omega arith
+
+order-short : (o : Order) → length (order-text o) ≤ 3
+order-short Old = omega arith
+order-short New = omega arith
+
+verdict-short : (v : Verdict) → length (verdict-text v) ≤ 5
+verdict-short Open = omega arith
+verdict-short Safe = omega arith
+verdict-short Alarm = omega arith
+verdict-short Full = omega arith
+
+pub few-slots : (n : ℕ) → T (capacity-ok (pos n)) → n ≤ most-slots
+few-slots n t = leb→le n most-slots (and-right (leb 1 n) (leb n most-slots) t)
+
+pub few-used : (c : Chart) (m : Memory) → T (analysis-ok c m) → m .analysis .used ≤ most-slots
+few-used c m t =
+    let f = form c m t in
+    omega (arith, leb→le (m .analysis .used) (m .analysis .capacity) (f .used), few-slots (m .analysis .capacity) (f .capacity))
+
+module _ (c : Chart) (b : Bounds c) where
+  slot-short : (s : ℕ) (e : AbstractState) (waits : Bool) → s ≤ most-slots → StateOk c e → length (slot-text c s e waits) ≤ 82
+  slot-short s e waits l h =
+      let m = mark waits in
+      omega (
+        arith,
+        line-size (decimal s) (loc-text (c .locs) (e .loc) ∷ (map val-text (e .vals) ++ (m ∷ []))),
+        dec-short s (omega arith),
+        name-short (c .locs) (e .loc) (b .names),
+        vals-short (c .vars) (e .vals) m (b .vars) (h .vals),
+        mark-short waits,
+        b .few-vars,
+      )
+
+  slots-short : (wa : List ℕ) (s : ℕ) (es : List AbstractState) → s + length es ≤ most-slots → Every (StateOk c) es → length (slots-text c wa s es) ≤ length es * 82
+  slots-short wa s [] l h = omega arith
+  slots-short wa s (e ∷ es) l h = omega (arith, length-append (slot-text c s e (some-of (eqb s) wa)) (slots-text c wa (suc s) es), slot-short s e (some-of (eqb s) wa) (omega arith) (h .0), slots-short wa (suc s) es (omega arith) (h .1))
+
+  listing-fits : (w : Exploration AbstractState) → length (w .reached) ≤ most-slots → w .iterations ≤ most-iterations → w .edge ≤ length (c .edges) → Every (StateOk c) (w .reached)
+      → length (listing-text c w) ≤ 24576
+  unfolding listing-text
+  listing-fits w n i e every =
+      let fs = mode-text (w .settings .stop) ∷ order-text (w .settings .order) ∷ verdict-text (w .verdict) ∷ decimal (w .iterations) ∷ decimal (length (w .reached)) ∷ decimal (w .edge) ∷ [] in
+      let h = line-size (119 ∷ 97 ∷ 108 ∷ 107 ∷ []) (mode-text (w .settings .merge) ∷ fs) in
+      omega (
+        arith,
+        length-append (line-of (119 ∷ 97 ∷ 108 ∷ 107 ∷ []) (mode-text (w .settings .merge) ∷ fs)) (slots-text c (w .waitlist) 0 (w .reached)),
+        h,
+        mode-short (w .settings .merge),
+        mode-short (w .settings .stop),
+        order-short (w .settings .order),
+        verdict-short (w .verdict),
+        iterations-short,
+        dec-short (length (w .reached)) (omega arith),
+        dec-short (w .edge) (omega (arith, b .few-edges)),
+        slots-short (w .waitlist) 0 (w .reached) (omega arith) every,
+      )
+    where
+      iterations-short : length (decimal (w .iterations)) ≤ 5
+      iterations-short = omega (arith, Rattle.semantics.proofs.Numbers.digits-few 4 (w .iterations) (w .iterations) [] (omega (arith, i)))
+
+  pub listing-short : (w : Exploration AbstractState) → Good c w → length (listing-text c w) ≤ 24576
+  listing-short w g = listing-fits w (omega (arith, g .tidy .within, few-slots (w .capacity) (g .capacity))) (g .iterations) (g .tidy .edge-in) (g .tidy .every)
+
+  -- and of any analysis in form, whoever made it
+  pub text-short : (m : Memory) → T (analysis-ok c m) → length (text-of c m) ≤ 24576
+  unfolding load
+  text-short m t =
+      let r = m .analysis in
+      let f = form c m t in
+      listing-fits (load c m)
+      (omega (arith, states-count c (r .used) (m .table), few-used c m t))
+      (leb→le (r .iterations) most-iterations (f .iterations))
+      (leb→le (r .edge .0) (length (c .edges)) (f .edge))
+      (rows-states c (r .used) (m .table) (f .rows))

@@ -1,0 +1,226 @@
+-- An exploration stored in words, with any words after, is read back and is in form. Assumes nothing.
+use Rattle.semantics.proofs.Prelude.{_≡_, refl, sym, ap, _∙_, subst, _⊎_, inl, inr, Bool, true, false, _&&_, _||_, not, List, [], _∷_, _++_, map, append-assoc, ℕ, zero, suc, _-_, _*_, _≤_, _<_, mul-le-mul-right, arith, T, ltb, eqb, leb→le, le→leb, lt→ltb, eqb→eq, eqb-refl, length, take, drop, replicate, length-append, length-map, length-replicate, take-at, drop-at, ℤ, pos, negsuc, natAbs, leZ}
+use Rattle.semantics.specs.Lists.{In, some-of, each, all, all-of, all-pairs, pick}
+use Rattle.semantics.specs.Layout.{most-iterations, top-word}
+use Rattle.semantics.specs.Chart.{Value, known, top, Var, Chart, eqZ, within}
+use Rattle.semantics.specs.Algorithm.{Verdict, Open, Safe, Alarm, Full, Exploration, allowed}
+use Rattle.semantics.specs.Constants.{AbstractState, Covers, constants}
+use Rattle.semantics.specs.Coverage.{system}
+use Rattle.semantics.specs.Laws.{Fit}
+use Rattle.semantics.specs.Tidy.{Every, Distinct, Tidy}
+use Rattle.semantics.specs.Encoding.{word, val, padded, var-ok}
+use Rattle.semantics.specs.Memory.{Memory, width, row, table-of, waitlist-of, analysis-of, state-in, states-in, load, value-ok, below, row-ok, rows-ok, each-once, zeros, is-alarm, empty-if-safe, capacity-ok, form-tests, analysis-ok}
+use Rattle.semantics.proofs.AtAndIn.{from-true}
+use Rattle.semantics.proofs.ConstantValues.{and-left, and-right}
+use Rattle.semantics.proofs.Covering.{Sound}
+use Rattle.semantics.proofs.ConstantsSound.{laws}
+use Rattle.semantics.proofs.Tidy.{queue-few}
+use Rattle.semantics.proofs.StatesOk.{ValOk, ValsOk, StateOk, Bounds}
+
+-- ---- tests
+
+pub to-true : (b : Bool) → T b → b ≡ true
+to-true true t = refl
+to-true false t = absurd t
+
+pub to-false : (b : Bool) → (T b → ⊥) → b ≡ false
+to-false true t = absurd (t tt)
+to-false false t = refl
+
+pub both-true : (a b : Bool) → T a → T b → T (a && b)
+both-true true b s t = t
+both-true false b s t = absurd s
+
+or-right : (a b : Bool) → T b → T (a || b)
+or-right true b t = tt
+or-right false b t = t
+
+or-left : (a b : Bool) → T a → T (a || b)
+or-left true b t = tt
+or-left false b t = absurd t
+
+pub eqZ-refl : (z : ℤ) → T (eqZ z z)
+eqZ-refl (pos n) = eqb-refl n
+eqZ-refl (negsuc n) = eqb-refl n
+
+all-true : (bs : List Bool) → Every (λ b. T b) bs → T (all-of bs)
+all-true [] h = tt
+all-true (b ∷ bs) h = both-true b (all-of bs) (h .0) (all-true bs (h .1))
+
+-- ---- one value and one row
+
+pub not-any : (z hi : ℤ) → T (leZ z hi) → T (leZ hi (pos 32767)) → eqZ z top-word ≡ false
+not-any (pos z) (pos hi) a b = to-false (eqb z (natAbs top-word)) (λ t. let p = eqb→eq z (natAbs top-word) t in let q = leb→le z hi a in let r = leb→le hi 32767 b in omega arith)
+not-any (pos z) (negsuc hi) a b = absurd a
+not-any (negsuc z) hi a b = refl
+
+val-back : (v : Var) (x : Value) → T (var-ok v) → ValOk v x → val (word x) ≡ x
+val-back v (known z) t h =
+    let p : T (leZ z (v .hi)) = search (and-left, and-right) in
+    let q : T (leZ (v .hi) (pos 32767)) = search (and-left, and-right) depth 8 in
+    ap (λ (b : Bool). pick b top (known z)) (not-any z (v .hi) p q)
+val-back v top t h = refl
+
+vals-back : (vars : List Var) (xs : List Value) → T (all var-ok vars) → ValsOk vars xs → map val (map word xs) ≡ xs
+vals-back [] [] t h = refl
+vals-back [] (x ∷ xs) t h = absurd h
+vals-back (v ∷ vs) [] t h = absurd h
+vals-back (v ∷ vs) (x ∷ xs) t h = rw (val-back v x (and-left (var-ok v) (all var-ok vs) t) (h .0), vals-back vs xs (and-right (var-ok v) (all var-ok vs) t) (h .1))
+
+pub vals-length : (vars : List Var) (xs : List Value) → ValsOk vars xs → length xs ≡ length vars
+vals-length [] [] h = refl
+vals-length [] (x ∷ xs) h = absurd h
+vals-length (v ∷ vs) [] h = absurd h
+vals-length (v ∷ vs) (x ∷ xs) h = ap suc (vals-length vs xs (h .1))
+
+vals-formed : (vars : List Var) (xs : List Value) → ValsOk vars xs → T (all-pairs value-ok vars (map word xs))
+vals-formed [] [] h = tt
+vals-formed [] (x ∷ xs) h = absurd h
+vals-formed (v ∷ vs) [] h = absurd h
+vals-formed (v ∷ vs) (x ∷ xs) h = both-true (value-ok v (word x)) (all-pairs value-ok vs (map word xs)) (one x (h .0)) (vals-formed vs xs (h .1))
+  where
+    one : (x : Value) → ValOk v x → T (value-ok v (word x))
+    one (known z) q = or-right (eqZ z top-word) (within (v .lo) (v .hi) z) q
+    one top q = tt
+
+-- ---- lists of words
+
+pub map-back : (wa : List ℕ) → map natAbs (map pos wa) ≡ wa
+map-back [] = refl
+map-back (x ∷ xs) = ap (λ (l : List ℕ). x ∷ l) (map-back xs)
+
+pub padded-length : (n : ℕ) (ws : List ℤ) → length ws ≤ n → length (padded n ws) ≡ n
+padded-length n ws l = length-append ws (replicate (n - length ws) (pos 0)) ∙ simp length-replicate (omega arith)
+
+zeros-zeros : (n : ℕ) → T (zeros (replicate n (pos 0)))
+zeros-zeros zero = tt
+zeros-zeros (suc n) = zeros-zeros n
+
+-- past what was stored, the words of the capacity hold 0
+pub padded-zeros : (n : ℕ) (ws : List ℤ) (k : ℕ) → length ws ≡ k → T (zeros (drop k (padded n ws)))
+padded-zeros n ws k l = rw (drop-at ws (replicate (n - length ws) (pos 0)) k l) (zeros-zeros (n - length ws))
+
+below-all : (n : ℕ) (wa : List ℕ) → ((j : ℕ) → In j wa → j < n) → T (all (below n) (map pos wa))
+below-all n [] h = tt
+below-all n (x ∷ xs) h = both-true (ltb x n) (all (below n) (map pos xs)) (lt→ltb x n (h x (inl refl))) (below-all n xs (λ j i. h j (inr i)))
+
+in-words : (x : ℕ) (xs : List ℕ) → T (some-of (eqZ (pos x)) (map pos xs)) → In x xs
+in-words x [] t = t
+in-words x (y ∷ ys) t = go (eqb x y) refl t (in-words x ys)
+  where
+    go : (b : Bool) → eqb x y ≡ b → T (elim b [ true ↦ true | false ↦ some-of (eqZ (pos x)) (map pos ys) ]) → (T (some-of (eqZ (pos x)) (map pos ys)) → In x ys) → In x (y ∷ ys)
+    go true e t ih = inl (eqb→eq x y (from-true e))
+    go false e t ih = inr (ih t)
+
+once-all : (wa : List ℕ) → Distinct wa → T (each-once (map pos wa))
+once-all [] d = tt
+once-all (x ∷ xs) d = both-true (not (some-of (eqZ (pos x)) (map pos xs))) (each-once (map pos xs)) (lib.Dec.not-T (some-of (eqZ (pos x)) (map pos xs)) (λ t. d .0 (in-words x xs t))) (once-all xs (d .1))
+
+module _ (c : Chart) where
+  row-length : (e : AbstractState) → StateOk c e → length (row e) ≡ width c
+  row-length e h = ap suc (length-map (e .vals) word ∙ vals-length (c .vars) (e .vals) (h .vals))
+
+  rows-length : (es : List AbstractState) → Every (StateOk c) es → length (each row es) ≡ length es * width c
+  rows-length [] h = omega arith
+  rows-length (e ∷ es) h = omega (arith, length-append (row e) (each row es), rows-length es (h .1), row-length e (h .0))
+
+  state-back : (b : Bounds c) (e : AbstractState) → StateOk c e → state-in (row e) ≡ e
+  state-back b e h = ap (λ (vs : List Value). record { loc = e .loc; vals = vs }) (vals-back (c .vars) (e .vals) (b .vars) (h .vals))
+
+  first-state : (r rest : List ℤ) (n : ℕ) → length r ≡ width c → states-in (width c) (suc n) (r ++ rest) ≡ state-in r ∷ states-in (width c) n rest
+  first-state r rest n l = rw (take-at r rest (width c) l, drop-at r rest (width c) l)
+
+  states-back : (b : Bounds c) (es : List AbstractState) (rest : List ℤ) → Every (StateOk c) es → states-in (width c) (length es) (each row es ++ rest) ≡ es
+  states-back b [] rest h = refl
+  states-back b (e ∷ es) rest h =
+      ap (states-in (width c) (suc (length es))) (append-assoc (row e) (each row es) rest)
+      ∙ first-state (row e) (each row es ++ rest) (length es) (row-length e (h .0))
+      ∙ rw (state-back b e (h .0), states-back b es rest (h .1))
+
+  row-formed : (e : AbstractState) → StateOk c e → T (row-ok c (row e))
+  row-formed e h = both-true (below (length (c .locs)) (pos (e .loc))) (all-pairs value-ok (c .vars) (map word (e .vals))) (lt→ltb (e .loc) (length (c .locs)) (h .loc)) (vals-formed (c .vars) (e .vals) (h .vals))
+
+  first-formed : (r rest : List ℤ) (n : ℕ) → length r ≡ width c → T (row-ok c r) → T (rows-ok c n rest) → T (rows-ok c (suc n) (r ++ rest))
+  first-formed r rest n l t u = rw (take-at r rest (width c) l, drop-at r rest (width c) l) (both-true (row-ok c r) (rows-ok c n rest) t u)
+
+  rows-formed : (es : List AbstractState) (rest : List ℤ) → Every (StateOk c) es → T (rows-ok c (length es) (each row es ++ rest))
+  rows-formed [] rest h = tt
+  rows-formed (e ∷ es) rest h =
+      subst (λ (t : List ℤ). T (rows-ok c (suc (length es)) t)) (sym (append-assoc (row e) (each row es) rest))
+      (first-formed (row e) (each row es ++ rest) (length es) (row-length e (h .0)) (row-formed e (h .0)) (rows-formed es rest (h .1)))
+
+  -- what every exploration keeps that was begun by a start that went through
+  pub record Good (w : Exploration AbstractState) : Type 0 where
+    pub tidy : Tidy (StateOk c) (length (c .edges)) w
+    pub held : Sound (system c) (constants c) (Fit c) (Covers c) (laws c) w
+    pub capacity : T (capacity-ok (pos (w .capacity)))
+    pub iterations : w .iterations ≤ most-iterations
+
+  module _ (b : Bounds c) (w : Exploration AbstractState) (g : Good w) where
+    rows-fit : length (each row (w .reached)) ≤ w .capacity * width c
+    rows-fit = omega (arith, rows-length (w .reached) (g .tidy .every), mul-le-mul-right (width c) (g .tidy .within))
+
+    list-fit : length (map pos (w .waitlist)) ≤ w .capacity
+    list-fit = omega (arith, length-map (w .waitlist) pos, queue-few (length (w .reached)) (w .waitlist) (g .tidy .queue), g .tidy .within)
+
+    pub table-length : length (table-of c w) ≡ w .capacity * width c
+    table-length = padded-length (w .capacity * width c) (each row (w .reached)) rows-fit
+
+    pub list-length : length (waitlist-of w) ≡ w .capacity
+    list-length = padded-length (w .capacity) (map pos (w .waitlist)) list-fit
+
+    module _ (more-table more-list : List ℤ) where
+      -- the stored exploration, with words after it
+      abbrev pub lent : Memory
+      lent = record { table = table-of c w ++ more-table; waitlist = waitlist-of w ++ more-list; analysis = analysis-of w }
+
+      waiting-words : take (length (w .waitlist)) (lent .waitlist) ≡ map pos (w .waitlist)
+      waiting-words = rw (append-assoc (map pos (w .waitlist)) (replicate (w .capacity - length (map pos (w .waitlist))) (pos 0)) more-list) (take-at (map pos (w .waitlist)) _ (length (w .waitlist)) (length-map (w .waitlist) pos))
+
+      pub load-back : load c lent ≡ w
+      unfolding load
+      load-back =
+          let p : states-in (width c) (length (w .reached)) (lent .table) ≡ w .reached = rw (append-assoc (each row (w .reached)) (replicate (w .capacity * width c - length (each row (w .reached))) (pos 0)) more-table) (states-back b (w .reached) _ (g .tidy .every)) in
+          let q : map natAbs (take (length (w .waitlist)) (lent .waitlist)) ≡ w .waitlist = ap (map natAbs) waiting-words ∙ map-back (w .waitlist) in
+          λ i. record { settings = w .settings; capacity = w .capacity; iterations = w .iterations; reached = p i; waitlist = q i; verdict = w .verdict; edge = w .edge }
+
+      pub table-part : take (w .capacity * width c) (lent .table) ≡ table-of c w
+      table-part = take-at (table-of c w) more-table (w .capacity * width c) table-length
+
+      pub list-part : take (w .capacity) (lent .waitlist) ≡ waitlist-of w
+      list-part = take-at (waitlist-of w) more-list (w .capacity) list-length
+
+      no-list : (wa : List ℕ) → T (not (eqb (length wa) 0)) ⊎ (wa ≡ [])
+      no-list [] = inr refl
+      no-list (x ∷ xs) = inl (rw (lib.Dec.eqb·suc-zero (length xs)) tt)
+
+      verdict-listed : (v : Verdict) → w .verdict ≡ v → T (empty-if-safe v (length (w .waitlist)))
+      verdict-listed Open e = elim (no-list (w .waitlist)) [ inl t ↦ t | inr p ↦ absurd (let q = g .tidy .empty-safe p in let z : _≡_ {A = ℕ} 0 1 = cc in omega arith) ]
+      verdict-listed Safe e = rw (g .tidy .safe-empty e) tt
+      verdict-listed Alarm e = elim (no-list (w .waitlist)) [ inl t ↦ t | inr p ↦ absurd (let q = g .tidy .empty-safe p in let z : _≡_ {A = ℕ} 0 1 = cc in omega arith) ]
+      verdict-listed Full e = elim (no-list (w .waitlist)) [ inl t ↦ t | inr p ↦ absurd (let q = g .tidy .empty-safe p in let z : _≡_ {A = ℕ} 0 1 = cc in omega arith) ]
+
+      alarm-edge : (v : Verdict) → w .verdict ≡ v → T (eqb (w .edge) 0 || is-alarm v)
+      alarm-edge Open e = or-left (eqb (w .edge) 0) false (rw (g .tidy .no-edge (λ q. let z : _≡_ {A = ℕ} 0 1 = cc in omega arith)) tt)
+      alarm-edge Safe e = or-left (eqb (w .edge) 0) false (rw (g .tidy .no-edge (λ q. let z : _≡_ {A = ℕ} 0 1 = cc in omega arith)) tt)
+      alarm-edge Alarm e = or-right (eqb (w .edge) 0) true tt
+      alarm-edge Full e = or-left (eqb (w .edge) 0) false (rw (g .tidy .no-edge (λ q. let z : _≡_ {A = ℕ} 0 1 = cc in omega arith)) tt)
+
+      pub formed-back : T (analysis-ok c lent)
+      unfolding analysis-ok
+      formed-back =
+          let q = g .tidy .queue in
+          let t₁ = le→leb (length (w .reached)) (w .capacity) (g .tidy .within) in
+          let t₂ = le→leb (length (w .waitlist)) (length (w .reached)) (queue-few (length (w .reached)) (w .waitlist) q) in
+          let t₃ : T (rows-ok c (length (w .reached)) (lent .table)) = rw (append-assoc (each row (w .reached)) (replicate (w .capacity * width c - length (each row (w .reached))) (pos 0)) more-table) (rows-formed (w .reached) _ (g .tidy .every)) in
+          let t₄ : T (all (below (length (w .reached))) (take (length (w .waitlist)) (lent .waitlist))) = rw waiting-words (below-all (length (w .reached)) (w .waitlist) (q .used)) in
+          let t₅ : T (each-once (take (length (w .waitlist)) (lent .waitlist))) = rw waiting-words (once-all (w .waitlist) (q .once)) in
+          let t₆ : T (zeros (drop (length (w .reached) * width c) (take (w .capacity * width c) (lent .table)))) = rw table-part (padded-zeros (w .capacity * width c) (each row (w .reached)) (length (w .reached) * width c) (rows-length (w .reached) (g .tidy .every))) in
+          let t₇ : T (zeros (drop (length (w .waitlist)) (take (w .capacity) (lent .waitlist)))) = rw list-part (padded-zeros (w .capacity) (map pos (w .waitlist)) (length (w .waitlist)) (length-map (w .waitlist) pos)) in
+          let t₈ = le→leb (w .iterations) most-iterations (g .iterations) in
+          let t₉ = le→leb (w .edge) (length (c .edges)) (g .tidy .edge-in) in
+          let t₁₀ = alarm-edge (w .verdict) refl in
+          let t₁₁ = g .capacity in
+          let t₁₂ = g .held .allowed in
+          let t₁₃ = verdict-listed (w .verdict) refl in
+          all-true (form-tests c lent) (t₁, (t₂, (t₃, (t₄, (t₅, (t₆, (t₇, (t₈, (t₉, (t₁₀, (t₁₁, (t₁₂, (t₁₃, tt)))))))))))))
