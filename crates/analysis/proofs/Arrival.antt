@@ -9,9 +9,10 @@ use Rattle.waitlist.specs.Waits.{waits}
 use Rattle.reached.proofs.Table.{Sized, rows-sized, rows-length}
 use Rattle.reached.proofs.FormKept.{in-table}
 use Rattle.transfer.specs.Transfer.{post-at, post-words, edge-at, edges-from}
-use Rattle.analysis.specs.declared.Exit.{Exit}
-use Rattle.analysis.specs.declared.Exit.the-variants.{On, Alarm, Full}
-use Rattle.analysis.specs.Loaded.{rows-only, Ready, Merged, out-by, has-ended}
+use Rattle.progress.specs.declared.Exit.{Exit}
+use Rattle.progress.specs.declared.Exit.the-variants.{On, Alarm, Full}
+use Rattle.progress.specs.Progress.{rows-only, out-by, has-ended}
+use Rattle.analysis.specs.Loaded.{Ready, Merged}
 use Rattle.analysis.proofs.Merges.{stop-same}
 
 -- the successor e is merged; what arrives is decided by the test against the slots

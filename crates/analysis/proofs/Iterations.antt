@@ -12,9 +12,10 @@ use Rattle.waitlist.specs.Waits.{waits, TakenFrom}
 use Rattle.reached.specs.Reached.{Kept}
 use Rattle.reached.proofs.Table.{rows-length, rows-get}
 use Rattle.reached.proofs.FormKept.{kept-after}
-use Rattle.analysis.specs.declared.Progress.{Progress}
+use Rattle.progress.specs.declared.Progress.{Progress}
 use Rattle.transfer.specs.Transfer.{edges-from}
-use Rattle.analysis.specs.Loaded.{domain-of, Any, load-of, Resumable, Loaded, Finished, Progressed}
+use Rattle.progress.specs.Progress.{load-of, Finished}
+use Rattle.analysis.specs.Loaded.{domain-of, Any, Resumable, Loaded, Progressed}
 
 -- each edge has a number up to the last
 pub keeps : (c : List ℤ) (last i n : ℕ) → i + n ≤ last → Every (Keeps (domain-of c) Any last) (edges-from i n)
@@ -72,14 +73,6 @@ module _ (D : Domain (List ℤ) ℕ) (gs : List ℕ) where
   pub run-none : (n : ℕ) (x : Exploration (List ℤ)) → n ≡ 0 → run D gs n x ≡ x
   unfolding run
   run-none n x e = ap (λ (q : ℕ). run D gs q x) e
-
-pub none-safe : (wa : List ℕ) → length wa ≡ 0 → Safe ≡ verdict-of wa
-none-safe [] e = refl
-none-safe (x ∷ wa) e = absurd (omega arith)
-
-pub some-open : (wa : List ℕ) → 0 < length wa → Open ≡ verdict-of wa
-some-open [] e = absurd (omega arith)
-some-open (x ∷ wa) e = refl
 
 -- an open analysis has a slot waiting
 pub open-waits : (y : Layout) (last : ℕ) (a : Analysis) (t l : List ℤ) → Resumable y last a t l → has-verdict (a .verdict) ≡ false → 0 < a .waiting

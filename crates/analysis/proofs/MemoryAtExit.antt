@@ -23,7 +23,8 @@ use Rattle.reached.proofs.Table.{rows-length}
 use Rattle.reached.proofs.FormKept.{in-table}
 use Rattle.transfer.specs.Transfer.{edges-from, initial-row}
 use Rattle.transfer.proofs.Agree.{Says, Counts, edges-say, agree, initial-says}
-use Rattle.analysis.specs.Loaded.{domain-of, load-of, Loaded}
+use Rattle.progress.specs.Progress.{load-of}
+use Rattle.analysis.specs.Loaded.{domain-of, Loaded}
 use Rattle.analysis.proofs.RunEntry.{entry-says}
 
 -- ---- the words of a table in form are its rows, then zeros

@@ -15,7 +15,7 @@ use Rattle.state.proofs.RowLoops.{length-words-join}
 use Rattle.waitlist.specs.Waits.{wait-unless}
 use Rattle.reached.specs.Reached.{rewaits}
 use Rattle.reached.proofs.Table.{Sized}
-use Rattle.analysis.specs.Loaded.{rows-only}
+use Rattle.progress.specs.Progress.{rows-only}
 
 -- ---- the slots that wait again
 

@@ -22,7 +22,8 @@ use Rattle.reached.specs.Reached.{Kept}
 use Rattle.reached.proofs.Table.{rows-length, rows-prefix}
 use Rattle.transfer.proofs.Agree.{Says}
 use Rattle.transfer.proofs.RowsSayStates.{rows-say}
-use Rattle.analysis.specs.Loaded.{Any, load-of, Resumable}
+use Rattle.progress.specs.Progress.{load-of}
+use Rattle.analysis.specs.Loaded.{Any, Resumable}
 
 pub iterations-few : (c : Chart) (m : Memory) → T (analysis-ok c m) → m .analysis .iterations ≤ most-iterations
 iterations-few c m t = leb→le (m .analysis .iterations) most-iterations (form c m t .iterations)

@@ -12,7 +12,8 @@ use Rattle.reached.specs.Reached.{Kept}
 use Rattle.reached.proofs.Table.{rows-stored, stored}
 use Rattle.reached.proofs.FormKept.{next-slot-in, kept-stored}
 use Rattle.transfer.specs.Transfer.{error-row}
-use Rattle.analysis.specs.Loaded.{domain-of, Any, load-of, Loaded}
+use Rattle.progress.specs.Progress.{load-of}
+use Rattle.analysis.specs.Loaded.{domain-of, Any, Loaded}
 
 -- the first row is stored in a table with nothing in use, and its slot waits
 module _ (y : Layout) (t l : List ℤ) (k : Kept y t l 0 0) (h : 0 < length l) (e : List ℤ) (len : length e ≡ width-of y) where

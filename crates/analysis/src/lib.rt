@@ -1,24 +1,24 @@
 // The algorithm over lent words: a successor's arrival, the edges of an iteration in file order, the iteration, the run
 // of iterations and the start. Record and counts go by value.
 use chart::Edge;
+use progress::Progress;
 use semantics::Analysis;
-use semantics::EdgeId;
 use semantics::Mode;
 use semantics::Settings;
 use semantics::SlotId;
-use semantics::Verdict;
 use state::Layout;
 use transfer::Move;
 ghost use mathlib.Core.Path.{_≡_};
 ghost use Prim.Native.Nat.{ℕ, _+_, _-_, _*_, _<_, _≤_, min};
 ghost use lib.ListN.{length};
 ghost use Rattle.semantics.specs.Layout.{most-iterations, index-limit};
-ghost use Rattle.semantics.specs.Algorithm.{arrive, visit, visit-all, first-verdict, iteration, run, start};
+ghost use Rattle.semantics.specs.Algorithm.{arrive, visit, visit-all, iteration, run, start};
 ghost use Rattle.semantics.specs.Tidy.{Allowed};
 ghost use Rattle.state.specs.Rows.{width-of, most-width, rows-of};
-ghost use Rattle.waitlist.specs.Waits.{waits, Admits};
+ghost use Rattle.waitlist.specs.Waits.{waits};
 ghost use Rattle.transfer.specs.Transfer.{edge-at, edges-from, post-at};
-ghost use Rattle.analysis.specs.Loaded.{Outlined, Ready, Merged, rows-only, domain-of, has-ended, with-counts, went-on, alarm-by, table-full, Progressed, ended, load-of, Resumable, Loaded, Ended, Finished};
+ghost use Rattle.progress.specs.Progress.{rows-only, load-of};
+ghost use Rattle.analysis.specs.Loaded.{Outlined, Ready, Merged, domain-of, Progressed, Resumable, Loaded};
 
 mod outgoing;
 
@@ -27,67 +27,6 @@ struct Outline {
     layout: Layout,
     first: Edge,
     edges: usize,
-}
-
-// How the edges of an iteration, or some of them, end.
-enum Exit {
-    On,
-    Alarm,
-    Full,
-}
-
-// The state between two edges: how the last ended, the alarm's edge or 0, and the counts of slots in use and waiting.
-struct Progress {
-    exit: Exit,
-    edge: EdgeId,
-    used: usize,
-    waiting: usize,
-}
-
-// The record with other counts.
-fn with_counts(a: Analysis, used: usize, waiting: usize) -> Analysis
-    ensures { λ r. ⌜ r ≡ with-counts a used waiting ⌝ }
-{
-    let mut r = a;
-    r.used = used;
-    r.waiting = waiting;
-    r
-}
-
-// No edge so far has met an error or a full table.
-fn went_on(used: usize, waiting: usize) -> Progress
-    ensures { λ p. ⌜ p ≡ went-on used waiting ⌝ }
-{
-    Progress {
-        exit: Exit::On,
-        edge: EdgeId(0),
-        used,
-        waiting,
-    }
-}
-
-// An edge raises the alarm.
-fn alarm_by(edge: EdgeId, used: usize, waiting: usize) -> Progress
-    ensures { λ p. ⌜ p ≡ alarm-by edge used waiting ⌝ }
-{
-    Progress {
-        exit: Exit::Alarm,
-        edge,
-        used,
-        waiting,
-    }
-}
-
-// A successor finds no slot.
-fn table_full(used: usize, waiting: usize) -> Progress
-    ensures { λ p. ⌜ p ≡ table-full used waiting ⌝ }
-{
-    Progress {
-        exit: Exit::Full,
-        edge: EdgeId(0),
-        used,
-        waiting,
-    }
 }
 
 // The merge of a successor with each slot, by the setting. How many slots are waiting then.
@@ -112,14 +51,14 @@ fn arrive(layout: Layout, a: Analysis, e: &[i32], table: &mut [i32], list: &mut 
     let used = a.used;
     let count = merge_by(layout, a, e, table, list);
     if reached::covered(layout, table, used, e) {
-        return went_on(used, count);
+        return progress::went_on(used, count);
     }
     if used < list.len() {
         reached::put_row(layout, table, SlotId(used), e);
         let more = waitlist::append(list, count, SlotId(used));
-        return went_on(used + 1, more);
+        return progress::went_on(used + 1, more);
     }
-    table_full(used, count)
+    progress::table_full(used, count)
 }
 
 // One edge, with the copy of the taken state. `next` is a row lent for the successor.
@@ -137,25 +76,14 @@ fn visit(
     ensures { λ p. ⌜ Progressed layout (now (table .exit)) (now (list .exit)) p (visit (domain-of (now (chart .entry))) (a .settings) (length (now (list .entry))) (edge .id .0) (post-at (now (chart .entry)) (edge .at) (now (copy .entry))) (rows-of layout (a .used) (now (table .entry))) (waits (a .waiting) (now (list .entry)))) ⌝ }
 {
     match transfer::successor(chart, edge, copy, next) {
-        Move::Halt => went_on(a.used, a.waiting),
-        Move::Fault => alarm_by(edge.id, a.used, a.waiting),
+        Move::Halt => progress::went_on(a.used, a.waiting),
+        Move::Fault => progress::alarm_by(edge.id, a.used, a.waiting),
         Move::Successor => {
             if transfer::is_error(chart, next) {
-                return alarm_by(edge.id, a.used, a.waiting);
+                return progress::alarm_by(edge.id, a.used, a.waiting);
             }
             arrive(layout, a, next, table, list)
         }
-    }
-}
-
-// Whether an edge has ended the iteration: none after it is played.
-fn has_ended(exit: Exit) -> bool
-    ensures { λ r. ⌜ r ≡ has-ended exit ⌝ }
-{
-    match exit {
-        Exit::On => false,
-        Exit::Alarm => true,
-        Exit::Full => true,
     }
 }
 
@@ -194,62 +122,13 @@ fn visit_all(
             list,
         );
         let exit = p.exit;
-        if has_ended(exit) {
+        if progress::has_ended(exit) {
             return p;
         }
-        at = with_counts(at, p.used, p.waiting);
+        at = progress::with_counts(at, p.used, p.waiting);
         id = outgoing::next(chart, edge, nexts, location);
     }
-    went_on(at.used, at.waiting)
-}
-
-// The verdict after an iteration that met no error and no full table.
-fn verdict_of(waiting: usize) -> Verdict
-    ensures { λ r. ⌜ Ended waiting r ⌝ }
-{
-    if waiting == 0 {
-        return Verdict::Safe;
-    }
-    Verdict::Open
-}
-
-// The record after one iteration more.
-fn ended(a: Analysis, used: usize, waiting: usize, verdict: Verdict, edge: EdgeId) -> Analysis
-    requires { ⌜ a .iterations < most-iterations ⌝ }
-    ensures { λ r. ⌜ r ≡ ended a used waiting verdict edge ⌝ }
-{
-    let settings = a.settings;
-    Analysis {
-        settings,
-        capacity: a.capacity,
-        iterations: a.iterations + 1,
-        used,
-        waiting,
-        verdict,
-        edge,
-    }
-}
-
-// The end of an iteration that took the slot.
-fn finish(a: Analysis, slot: SlotId, p: Progress, list: &mut [i32]) -> Analysis
-    requires { ⌜ Admits (now list) (p .waiting) (slot .0) × (a .iterations < most-iterations) ⌝ }
-    ensures { λ r. ⌜ Finished a (slot .0) p (now (list .entry)) r (now (list .exit)) ⌝ }
-{
-    let settings = a.settings;
-    let order = settings.order;
-    let count = p.waiting;
-    let exit = p.exit;
-    match exit {
-        Exit::On => ended(a, p.used, count, verdict_of(count), EdgeId(0)),
-        Exit::Alarm => {
-            let back = waitlist::put_back(order, list, count, slot);
-            ended(a, p.used, back, Verdict::Alarm, p.edge)
-        }
-        Exit::Full => {
-            let back = waitlist::put_back(order, list, count, slot);
-            ended(a, p.used, back, Verdict::Full, EdgeId(0))
-        }
-    }
+    progress::went_on(at.used, at.waiting)
 }
 
 // One iteration, with a row lent for the copy of the taken state.
@@ -271,9 +150,9 @@ fn iteration_with(
     let order = settings.order;
     let slot = waitlist::take_slot(order, list, a.waiting);
     reached::get_row(layout, table, slot, copy);
-    let taken = with_counts(a, a.used, a.waiting - 1);
+    let taken = progress::with_counts(a, a.used, a.waiting - 1);
     let p = visit_all(chart, outline, heads, nexts, taken, copy, table, list);
-    finish(a, slot, p, list)
+    progress::finish(a, slot, p, list)
 }
 
 // One iteration.
@@ -371,16 +250,6 @@ pub fn run_core(
     play(chart, outline, &heads, &nexts, a, most, table, list)
 }
 
-// The verdict of a start: alarm where the initial state is at an error location.
-fn first_verdict(error: bool) -> Verdict
-    ensures { λ r. ⌜ r ≡ first-verdict error ⌝ }
-{
-    if error {
-        return Verdict::Alarm;
-    }
-    Verdict::Open
-}
-
 // An analysis begins with the initial state, in the row lent, in slot 0, waiting.
 pub fn start_core(
     chart: &[i32],
@@ -399,14 +268,5 @@ pub fn start_core(
     reached::put_row(layout, table, SlotId(0), row);
     let count = waitlist::append(list, 0, SlotId(0));
     let error = transfer::is_error(chart, row);
-    let verdict = first_verdict(error);
-    Analysis {
-        settings,
-        capacity,
-        iterations: 0,
-        used: 1,
-        waiting: count,
-        verdict,
-        edge: EdgeId(0),
-    }
+    progress::first_record(settings, capacity, count, error)
 }

@@ -3,7 +3,8 @@ use Rattle.semantics.proofs.Prelude.{_≡_, refl, sym, _∙_, List, ℕ, suc, _
 use Rattle.semantics.specs.Layout.{most-iterations}
 use Rattle.semantics.specs.Algorithm.{Domain, Exploration, run}
 use Rattle.transfer.specs.Transfer.{edges-from}
-use Rattle.analysis.specs.Loaded.{domain-of, load-of, Resumable}
+use Rattle.progress.specs.Progress.{load-of}
+use Rattle.analysis.specs.Loaded.{domain-of, Resumable}
 use Rattle.analysis.proofs.Iterations.{run-closed, run-open, run-none, open-waits}
 use Rattle.analysis.proofs.play.Statement.{statement}
 use Rattle.analysis.proofs.play.Tie as tie

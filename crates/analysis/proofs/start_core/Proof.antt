@@ -1,5 +1,6 @@
 -- `analysis::start_core` meets its contract. Assumes nothing.
 use Rattle.semantics.proofs.Prelude.{_≡_, refl, sym, ap, _∙_, List, ℕ, _*_, _<_, arith, needs, ℤ, pos, length, replicate}
+use Rattle.semantics.specs.Algorithm.{first-verdict}
 use Rattle.reached.specs.Reached.{Kept}
 use Rattle.reached.proofs.FormKept.{empty-kept, next-slot-in}
 use Rattle.analysis.proofs.StartWords.{begun}
@@ -43,8 +44,8 @@ returns c =
     let s = at-start d in
     let put = c .before .before .before .before .before .before .put-row in
     let app = c .before .before .before .append in
-    let v = rw (c .before .is-error .ensures) at (c .first-verdict .ensures) in
-    λ last. rw (put .ensures, s .pre .1) (begun (s .args .layout) (table d) (list d) (form d) (some d) (s .args .row .now) (s .pre .1) last (s .args .chart .now) _ (app .last .0) (app .ensures) (app .kept .0) (s .pre .7) (size d) refl refl refl v)
+    let v = ap first-verdict (c .before .is-error .ensures) in
+    λ last. rw (c .first-record .ensures, put .ensures, s .pre .1) (begun (s .args .layout) (table d) (list d) (form d) (some d) (s .args .row .now) (s .pre .1) last (s .args .chart .now) _ (app .last .0) (app .ensures) (app .kept .0) (s .pre .7) (size d) refl refl refl v)
 
 pub start-core-spec : {M : Type 1} → statement M
 start-core-spec =

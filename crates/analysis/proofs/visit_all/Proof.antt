@@ -5,7 +5,8 @@ use Rattle.state.specs.Rows.{most-width, location-in, rows-of}
 use Rattle.waitlist.specs.Waits.{waits}
 use Rattle.transfer.specs.Transfer.{edge-at, post-at, post-words, edges-from}
 use Rattle.analysis.specs.Chains.{from-at}
-use Rattle.analysis.specs.Loaded.{Is-edge, Ready, domain-of, out-of}
+use Rattle.progress.specs.Progress.{out-of}
+use Rattle.analysis.specs.Loaded.{Is-edge, Ready, domain-of}
 use Rattle.analysis.proofs.Arrival.{edges-turn, edges-none, post-is, then-on, then-ended}
 use Rattle.analysis.proofs.PassedEdges.{passed}
 use Rattle.analysis.proofs.visit_all.Statement.{statement}

@@ -1,0 +1,2 @@
+-- The record as it advances.
+pub mod Progress
