@@ -1,8 +1,7 @@
 -- A line by its kind, and reading goes on by one line. Assumes nothing.
 use Rattle.semantics.proofs.Prelude.{_≡_, refl, _∙_, Bool, true, false, List, map, ℕ, suc, _+_, _-_, _≤_, _<_, add-one, arith, length, take, drop, ℤ}
-use Rattle.semantics.specs.Lists.{is-empty}
 use Rattle.semantics.specs.Text.{bytes, same-bytes, lines, fields}
-use Rattle.semantics.specs.Reading.{fail, ok, nth, So-far, nothing-read, var-line, loc-line, edge-line, judge, refused, ended, judged}
+use Rattle.semantics.specs.Reading.{fail, ok, nth, So-far, nothing-read, var-line, loc-line, edge-line, judge, refused, at-end, judged}
 use Rattle.text.specs.Fields.{up-to}
 use Rattle.text.proofs.LineEnds.{lines-at, lines-done}
 use Rattle.text.specs.Places.{line-at, place-after}
@@ -46,7 +45,7 @@ module _ (text : List ℕ) (at e n : ℕ) (s : So-far) (h : at < length text) (i
   unfolding judged
   judged-on q = rw (lines-at text at e h is, q, add-one n)
 
-pub judged-end : (text : List ℕ) (at n : ℕ) (s : So-far) → length text ≤ at → judged n s (map fields (lines (drop at text))) ≡ ended (is-empty (s .chart .locs)) (s .chart)
+pub judged-end : (text : List ℕ) (at n : ℕ) (s : So-far) → length text ≤ at → judged n s (map fields (lines (drop at text))) ≡ at-end (s .chart)
 unfolding judged
 judged-end text at n s h = rw (lines-done text at h)
 

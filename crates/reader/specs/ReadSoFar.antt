@@ -6,12 +6,12 @@ use Prim.Native.Nat.{ℕ, _+_, _*_, _≤_, _<_}
 use lib.Dec.{T}
 use lib.ListN.{length, take, drop}
 use lib.IntN.{ℤ}
-use Rattle.semantics.specs.Lists.{all, each, is-empty}
+use Rattle.semantics.specs.Lists.{all, each}
 use Rattle.semantics.specs.Text.{name-ok, lines, fields}
 use Rattle.semantics.specs.Chart.{Loc, Chart}
 use Rattle.semantics.specs.Layout.{location-size, most-variables, most-locations, most-edges}
 use Rattle.semantics.specs.Encoding.{var-words, loc-words, edge-words}
-use Rattle.semantics.specs.Reading.{Res, fail, ok, So-far, Reading, nothing-read, refused, ended, judged}
+use Rattle.semantics.specs.Reading.{Res, fail, ok, So-far, Reading, nothing-read, refused, at-end, judged}
 use Rattle.text.specs.Places.{line-at, place-after}
 use Rattle.text.specs.declared.lines.Line.{Line}
 use Rattle.chart.specs.Rows.{rows-size, the-location}
@@ -102,7 +102,7 @@ pub record Through (text : List ℕ) (t : Tally) (rows : List ℤ) : Type 0 wher
   pub chart : Chart
   pub few : Few t
   pub held : Rows t rows chart
-  pub is : lines-judged text ≡ ended (is-empty (chart .locs)) chart
+  pub is : lines-judged text ≡ at-end chart
 
 -- reading goes on after a line, which was not refused
 abbrev pub Goes : List ℕ → ℕ → ℕ → Judgement → List ℤ → List ℤ → Type 0

@@ -4,11 +4,10 @@
 ghost use mathlib.Core.Path.{_≡_};
 ghost use lib.ListN.{length};
 ghost use lib.Dec.{ltb};
-ghost use Rattle.semantics.specs.Lists.{is-empty};
 ghost use Rattle.semantics.specs.Text.{fields};
 ghost use Rattle.semantics.specs.Chart.{Chart};
 ghost use Rattle.semantics.specs.Encoding.{encode};
-ghost use Rattle.semantics.specs.Reading.{So-far, judge, ended, refused-at, bad-byte-line, open-line};
+ghost use Rattle.semantics.specs.Reading.{So-far, judge, at-end, refused-at, bad-byte-line, open-line};
 ghost use Rattle.semantics.specs.Outcomes.{chart-outcome, held-by, read-outcome};
 ghost use Rattle.reader.specs.ReadSoFar.{Few, Rows, Names, LineJudged, lines-judged, goes-on, nothing-judged, Came, Ready, Advanced, most-rows, most-names};
 
@@ -46,8 +45,8 @@ fn copy_out(t: Tally, rows: &[i32], words: &mut [i32]) -> semantics::Answer
 // After the last line: 8, where there is no location.
 fn finish(t: Tally, rows: &[i32], words: &mut [i32]) -> semantics::Answer
     requires { ⌜ Few t × (length (now rows) ≡ most-rows) ⌝ }
-    ensures answered { λ r. ⌜ ((c : Chart) → Rows t (now (rows .entry)) c → r ≡ held-by (ended (is-empty (c .locs)) c) (now (words .entry)) .answer) ⌝ }
-    ensures written { λ _. ⌜ ((c : Chart) → Rows t (now (rows .entry)) c → now (words .exit) ≡ held-by (ended (is-empty (c .locs)) c) (now (words .entry)) .words) ⌝ }
+    ensures answered { λ r. ⌜ ((c : Chart) → Rows t (now (rows .entry)) c → r ≡ held-by (at-end c) (now (words .entry)) .answer) ⌝ }
+    ensures written { λ _. ⌜ ((c : Chart) → Rows t (now (rows .entry)) c → now (words .exit) ≡ held-by (at-end c) (now (words .entry)) .words) ⌝ }
 {
     if t.locs == 0 {
         return semantics::refused(8, 0);

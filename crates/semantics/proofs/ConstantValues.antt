@@ -2,7 +2,7 @@
 use Rattle.semantics.proofs.Prelude.{_≡_, refl, sym, ap, _∙_, subst, Bool, true, false, _&&_, List, [], _∷_, Option, some, none, ℕ, zero, suc, arith, le-antisymm, T, eqb→eq, leb→le, length, getD, set, ℤ, pos, negsuc, _+ℤ_, _-ℤ_, leZ}
 use Rattle.semantics.specs.Lists.{all-pairs, pick}
 use Rattle.semantics.specs.Chart.{Value, known, top, Var, Operand, num, var, Rel, eq, ne, lt, le, gt, ge, Op, assign, add, sub, input, assume, skip, eqZ, within, holds, Ranged, Matches₁, Matches, value, Becomes, in-range}
-use Rattle.semantics.specs.Constants.{equal-value, leq-value, value-or-top, join-values, operand-value, both, assign-value, refine, one-known, tested, one-of, effect}
+use Rattle.semantics.specs.Constants.{equal-value, leq-value, join-values, operand-value, both, assign-value, refine, one-known, tested, one-of, effect}
 use Rattle.semantics.proofs.AtAndIn.{from-true}
 
 pub and-left : (a b : Bool) → T (a && b) → T a
@@ -55,11 +55,11 @@ leq-value-matches (known a) top x t m = tt
 leq-value-matches top (known b) x t m = absurd t
 leq-value-matches top top x t m = tt
 
-join-value-slot : (v w : Value) (x : ℤ) (b : Bool) → Matches₁ w x → Matches₁ (value-or-top b w) x
+join-value-slot : (v w : Value) (x : ℤ) (b : Bool) → Matches₁ w x → Matches₁ (pick b w top) x
 join-value-slot v w x true m = m
 join-value-slot v w x false m = tt
 
-join-value-new : (v w : Value) (x : ℤ) (b : Bool) → equal-value v w ≡ b → Matches₁ v x → Matches₁ (value-or-top b w) x
+join-value-new : (v w : Value) (x : ℤ) (b : Bool) → equal-value v w ≡ b → Matches₁ v x → Matches₁ (pick b w top) x
 join-value-new v w x true e m = subst (λ (u : Value). Matches₁ u x) (equal-value-same v w (from-true e)) m
 join-value-new v w x false e m = tt
 
@@ -69,7 +69,7 @@ both-matches f (known a) top x y p q = tt
 both-matches f top (known b) x y p q = tt
 both-matches f top top x y p q = tt
 
-one-of-matches : (p q z : ℤ) (b : Bool) → eqZ p q ≡ b → T (within p q z) → Matches₁ (one-of b p) z
+one-of-matches : (p q z : ℤ) (b : Bool) → eqZ p q ≡ b → T (within p q z) → Matches₁ (pick b (known p) top) z
 one-of-matches p q z true e t =
     let same : p ≡ q = eqZ-same p q (from-true e) in
     leZ-antisym p z (and-left (leZ p z) (leZ z q) t) (subst (λ (y : ℤ). T (leZ z y)) (sym same) (and-right (leZ p z) (leZ z q) t))
@@ -196,7 +196,7 @@ effect-gives vars (add v a b) vs xs ys r q m h =
 effect-gives vars (sub v a b) vs xs ys r q m h =
     rw h (assign-gives vars v (both _-ℤ_ (operand-value a vs) (operand-value b vs)) vs xs (value a xs -ℤ value b xs) r (rw h at q) m (both-matches _-ℤ_ (operand-value a vs) (operand-value b vs) (value a xs) (value b xs) (known-matches a vs xs m) (known-matches b vs xs m)))
 effect-gives vars (input v p u) vs xs ys r q m h =
-    (set vs v (one-of (eqZ p u) p), refl, rw (h .2) (matches-set vs xs v (one-of (eqZ p u) p) (h .0) m (one-of-matches p u (h .0) (eqZ p u) refl (h .1))))
+    (set vs v (one-of p u), refl, rw (h .2) (matches-set vs xs v (one-of p u) (h .0) m (one-of-matches p u (h .0) (eqZ p u) refl (h .1))))
 effect-gives vars (assume v t a) vs xs ys r q m h =
     rw (h .1) (tested-gives vars t (var v) a (operand-value (var v) vs) (operand-value a vs) vs xs r m (known-matches (var v) vs xs m) (known-matches a vs xs m) (h .0))
 effect-gives vars skip vs xs ys r q m h = (vs, refl, rw h m)

@@ -4,7 +4,7 @@ use Rattle.semantics.specs.Lists.{all, pick, is-empty}
 use Rattle.semantics.specs.Layout.{most-bytes, most-edges, most-locations, most-variables}
 use Rattle.semantics.specs.Text.{between, name-ok, same-bytes, natural-of, nonnegative, number-of, lines, fields}
 use Rattle.semantics.specs.Chart.{Value, known, top, Var, Loc, Operand, num, var, Op, assign, add, sub, input, assume, skip, Edge, Chart, within, in-range, small}
-use Rattle.semantics.specs.Reading.{Reading, refused, accepted, Res, fail, ok, check, if-ok, small-or, below-or, location-field, target-field, operand-field, init-field, OpWord, do-set, do-add, do-sub, do-in, do-if, do-skip, So-far, nth, with-var, with-loc, with-edge, var-line, loc-line, op-fields-read, edge-line, judge, onward, ended, judged, nothing-read, bad-byte-line, open-line, refused-at, read, number-field}
+use Rattle.semantics.specs.Reading.{Reading, refused, accepted, Res, fail, ok, check, if-ok, small-or, below-or, location-field, target-field, operand-field, init-field, OpWord, do-set, do-add, do-sub, do-in, do-if, do-skip, So-far, nth, with-var, with-loc, with-edge, var-line, loc-line, op-fields-read, edge-line, judge, onward, judged, nothing-read, bad-byte-line, open-line, refused-at, read, number-field}
 use Rattle.semantics.specs.Encoding.{init-ok, var-ok, distinct-names, operand-ok, op-ok, edge-ok, chart-ok}
 use Rattle.semantics.proofs.ConstantValues.{and-left, and-right}
 use Rattle.semantics.proofs.MemoryOf.{both-true}
@@ -245,7 +245,7 @@ judged-ok : (ls : List (List (List ℕ))) (n : ℕ) (s : So-far) (c : Chart) →
 unfolding judged
 judged-ok [] n s c h e = go (s .chart .locs) refl e
   where
-    go : (ls : List Loc) → s .chart .locs ≡ ls → ended (is-empty ls) (s .chart) ≡ accepted c → Sound c × (1 ≤ length (c .locs))
+    go : (ls : List Loc) → s .chart .locs ≡ ls → pick (is-empty ls) (refused 8 0) (accepted (s .chart)) ≡ accepted c → Sound c × (1 ≤ length (c .locs))
     go [] q e = absurd (refused-not e)
     go (l ∷ ls) q e = let p : s .chart ≡ c = cc in (subst Sound p h, subst (λ (x : Chart). 1 ≤ length (x .locs)) p (omega (arith, ap length q)))
 judged-ok (l ∷ ls) n s c h e = go (judge s l) refl e (judged-ok ls (suc n))

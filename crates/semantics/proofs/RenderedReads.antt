@@ -4,7 +4,7 @@ use Rattle.semantics.specs.Lists.{all, is-empty}
 use Rattle.semantics.specs.Layout.{most-edges, most-locations}
 use Rattle.semantics.specs.Text.{decimal, decimalZ, between, name-byte, name-ok, same-bytes}
 use Rattle.semantics.specs.Chart.{Value, known, top, Var, Loc, Operand, num, var, Rel, eq, ne, lt, le, gt, ge, Op, assign, add, sub, input, assume, skip, Edge, Chart, within, in-range, small}
-use Rattle.semantics.specs.Reading.{ok, check, if-ok, location-field, target-field, operand-field, init-field, kind-field, rel-text, rel-field, OpWord, do-set, do-add, do-sub, do-in, do-if, do-skip, op-word-field, field-count, So-far, nth, none-empty, var-line, loc-line, op-fields-read, edge-line, judge, ended, judged, number-field, kind-text}
+use Rattle.semantics.specs.Reading.{ok, check, if-ok, location-field, target-field, operand-field, init-field, kind-field, rel-text, rel-field, OpWord, do-set, do-add, do-sub, do-in, do-if, do-skip, op-word-field, field-count, So-far, nth, none-empty, var-line, loc-line, op-fields-read, edge-line, judge, at-end, judged, number-field, kind-text}
 use Rattle.semantics.specs.Encoding.{init-ok, var-ok, distinct-names, operand-ok, op-ok, edge-ok}
 use Rattle.semantics.specs.Rendering.{operand-text, var-fields, loc-fields, op-fields, edge-fields, vars-fields}
 use Rattle.semantics.specs.Listing.{val-text}
@@ -164,9 +164,9 @@ pub steps-append : (ls ms : List (List (List ℕ))) (s t u : So-far) → Steps s
 steps-append [] ms s t u p q = subst (λ (x : So-far). Steps x ms u) (sym p) q
 steps-append (l ∷ ls) ms s t u p q = (p .0, p .1, steps-append ls ms (p .0) t u (p .2) q)
 
-pub steps-judged : (ls : List (List (List ℕ))) (n : ℕ) (s t : So-far) → Steps s ls t → judged n s ls ≡ ended (is-empty (t .chart .locs)) (t .chart)
+pub steps-judged : (ls : List (List (List ℕ))) (n : ℕ) (s t : So-far) → Steps s ls t → judged n s ls ≡ at-end (t .chart)
 unfolding judged
-steps-judged [] n s t p = ap (λ (x : So-far). ended (is-empty (x .chart .locs)) (x .chart)) p
+steps-judged [] n s t p = ap (λ (x : So-far). at-end (x .chart)) p
 steps-judged (l ∷ ls) n s t p = rw (p .1) (steps-judged ls (suc n) (p .0) t (p .2))
 
 -- variables

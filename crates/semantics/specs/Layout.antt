@@ -1,8 +1,8 @@
--- The numbers that several definitions need, each under its name: document 01's limits, the word for top, the sizes of the
--- rows of an encoded chart, the place of each word in its row, and the codes of operations. docs/memory.md shows the
--- layout as pictures. Assumes nothing.
-use Prim.Native.Nat.{ℕ, _+_, _*_}
-use lib.IntN.{ℤ, pos}
+-- The numbers that several definitions, contracts and proofs need, each under its name: document 01's limits, the bounds of
+-- a number and the word for top, the sizes of the rows of an encoded chart, the place of each word in its row, and the codes
+-- of operations. docs/memory.md has the layout in tables. Assumes nothing.
+use Prim.Native.Nat.{ℕ, suc, _+_, _*_}
+use lib.IntN.{ℤ, pos, negsuc}
 
 -- ---- limits
 
@@ -28,7 +28,18 @@ most-slots = 256
 abbrev pub most-iterations : ℕ
 most-iterations = 60000
 
+-- 1: the most bytes of the go line, "input above 64 bytes with no LF in its first 64"
+abbrev pub go-line-bytes : ℕ
+go-line-bytes = 64
+
 -- ---- a value
+
+-- "lies in −32,768..32,767"
+abbrev pub least-number : ℤ
+least-number = negsuc 32767
+
+abbrev pub most-number : ℤ
+most-number = pos 32767
 
 -- "unspecific written 32,768, which no variable can hold"
 abbrev pub top-word : ℤ
@@ -56,9 +67,37 @@ location-size = 17
 abbrev pub edge-size : ℕ
 edge-size = 8
 
--- ---- places
+-- ---- what is enough for every chart: "It lends enough, so 14 and 15 never appear"
 
--- of variable k in an encoded chart
+-- the program's input: a go line, a chart file, and one byte by which the file is too long (`cut-same`)
+abbrev pub input-bytes : ℕ
+input-bytes = go-line-bytes + most-bytes + 1
+
+-- the largest encoded chart
+abbrev pub chart-size : ℕ
+chart-size = counts-size + variable-size * most-variables + location-size * most-locations + edge-size * most-edges
+
+-- the largest table: "room × (v + 1) table words"
+abbrev pub table-words : ℕ
+table-words = most-slots * suc most-variables
+
+-- no listing has more bytes (`listing-short`)
+abbrev pub listing-bytes : ℕ
+listing-bytes = 24576
+
+-- ---- places in an encoded chart
+
+-- of the three counts
+abbrev pub variables-place : ℕ
+variables-place = 0
+
+abbrev pub locations-place : ℕ
+locations-place = 1
+
+abbrev pub edges-place : ℕ
+edges-place = 2
+
+-- of variable k
 abbrev pub variable-at : ℕ → ℕ
 variable-at k = counts-size + variable-size * k
 

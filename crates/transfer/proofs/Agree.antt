@@ -5,7 +5,7 @@ use Rattle.semantics.specs.Layout.{top-word, from-place, to-place}
 use Rattle.semantics.specs.Lists.{At, pick, all, all-pairs}
 use Rattle.semantics.specs.Chart.{Value, known, top, Edge, Numbered, number-from, numbered, Chart, eqZ, error-location}
 use Rattle.semantics.specs.Algorithm.{Step, halt, fault, to}
-use Rattle.semantics.specs.Constants.{AbstractState, equal-value, leq-value, value-or-top, join-value, join-values, same-location, equal, leq, join, join-all, leq-join-all, effect, arrive-at, post, constants, initial}
+use Rattle.semantics.specs.Constants.{AbstractState, equal-value, leq-value, join-value, join-values, same-location, equal, leq, join, join-all, leq-join-all, effect, arrive-at, post, constants, initial}
 use Rattle.semantics.specs.Tidy.{Every}
 use Rattle.semantics.specs.Encoding.{word, encode, count, decode, op-ok, edge-ok, chart-ok, well-formed}
 use Rattle.semantics.specs.Memory.{row}
@@ -38,7 +38,7 @@ leq-is top top p q = refl
 join-is : (x y : Value) → Plain x → Plain y → word-join (word x) (word y) ≡ word (join-value x y)
 join-is x y p q = ap (λ (t : Bool). pick t (word y) top-word) (equal-is x y p q) ∙ go (equal-value x y)
   where
-    go : (t : Bool) → pick t (word y) top-word ≡ word (value-or-top t y)
+    go : (t : Bool) → pick t (word y) top-word ≡ word (pick t y top)
     go true = refl
     go false = refl
 

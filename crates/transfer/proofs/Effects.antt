@@ -92,10 +92,10 @@ module _ (c : Chart) (ok : T (chart-ok c)) (rest : List ℤ) (l : ℤ) (xs : Lis
   both-is f k top (known b) h p q = top-is k
   both-is f k top top h p q = top-is k
 
-  join-is : (k : ℕ) (p q : ℤ) → to (with-value e k (word-join p q)) ≡ row-step l (some (set xs k (one-of (eqZ p q) p)))
-  join-is k p q = ap (λ (z : ℤ). to (with-value e k z)) (go (eqZ p q) refl) ∙ ap to (set-word k (one-of (eqZ p q) p))
+  join-is : (k : ℕ) (p q : ℤ) → to (with-value e k (word-join p q)) ≡ row-step l (some (set xs k (one-of p q)))
+  join-is k p q = ap (λ (z : ℤ). to (with-value e k z)) (go (eqZ p q) refl) ∙ ap to (set-word k (one-of p q))
     where
-      go : (t : Bool) → eqZ p q ≡ t → pick t q top-word ≡ word (one-of t p)
+      go : (t : Bool) → eqZ p q ≡ t → pick t q top-word ≡ word (pick t (known p) top)
       go true h = sym (eqZ-true p q h)
       go false h = refl
 
