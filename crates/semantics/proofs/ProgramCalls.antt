@@ -1,5 +1,5 @@
 -- The program's calls go through one after the other on the words that it lends. Assumes nothing.
-use Rattle.semantics.proofs.Prelude.{_≡_, ap, true, false, List, [], _++_, ℕ, _*_, _≤_, mul-le-mul, arith, T, leb, ltb, eqb, leb→le, ltb→lt, length, drop, length-append, length-drop, ℤ, pos, negsuc, natAbs}
+use Rattle.semantics.proofs.Prelude.{_≡_, ap, true, false, List, [], _++_, ℕ, _*_, _≤_, mul-le-mul, arith, T, leb, eqb, leb→le, length, drop, length-append, length-drop, ℤ, pos, negsuc, natAbs, le-ltb}
 use Rattle.semantics.specs.Layout.{most-iterations, most-slots}
 use Rattle.semantics.specs.Chart.{Chart}
 use Rattle.semantics.specs.Reading.{accepted, read}
@@ -12,7 +12,7 @@ use Rattle.semantics.specs.Outcomes.{fine, too-few, budget-ok, started, 
 use Rattle.semantics.specs.Program.{Go}
 use Rattle.semantics.proofs.ConstantValues.{and-right}
 use Rattle.semantics.proofs.StatesOk.{Bounds, bounds}
-use Rattle.semantics.proofs.MemoryOf.{to-true, to-false, Good, table-length, list-length, load-back, formed-back}
+use Rattle.semantics.proofs.MemoryOf.{to-true, Good, table-length, list-length, load-back, formed-back}
 use Rattle.semantics.proofs.Encoded.{encode-short, well-formed-split}
 use Rattle.semantics.proofs.ReadInBounds.{in-bounds}
 use Rattle.semantics.proofs.ListingShort.{listing-short}
@@ -27,8 +27,7 @@ pub read-goes : (text : List ℕ) (c : Chart) → read text ≡ accepted c → (
     → read-outcome text ws ≡ record { answer = fine 0; words = encode c ++ drop (length (encode c)) ws }
 unfolding read-outcome
 read-goes text c e ws l =
-    let p : ltb (length ws) (length (encode c)) ≡ false = to-false (ltb (length ws) (length (encode c))) (λ t. let q = ltb→lt (length ws) (length (encode c)) t in omega (arith, encode-short c (in-bounds text c e))) in
-    rw (e, p)
+    rw (e, le-ltb (length ws) (length (encode c)) (omega (arith, encode-short c (in-bounds text c e))))
 
 module _ (words : List ℤ) (formed : T (well-formed words)) where
   abbrev chart : Chart
@@ -81,5 +80,4 @@ module _ (words : List ℤ) (formed : T (well-formed words)) where
         → let text = listing-text chart w in listing-outcome words held sp ≡ record { answer = fine (length text); memory = held; space = text ++ drop (length text) sp }
     unfolding listing-outcome
     listing-goes sp s =
-        let q : ltb (length sp) (length (listing-text chart w)) ≡ false = to-false (ltb (length sp) (length (listing-text chart w))) (λ p. let r = ltb→lt (length sp) (length (listing-text chart w)) p in omega (arith, listing-short chart b w good)) in
-        rw (to-true (well-formed words) formed, enough, in-form, loaded, q)
+        rw (to-true (well-formed words) formed, enough, in-form, loaded, le-ltb (length sp) (length (listing-text chart w)) (omega (arith, listing-short chart b w good)))
