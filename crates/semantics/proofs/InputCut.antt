@@ -1,6 +1,5 @@
 -- The program's input: what an accepted go line says, and how much of the input matters. Assumes nothing.
-use Rattle.semantics.proofs.Prelude.{_≡_, refl, sym, ap, _∙_, subst, Bool, true, false, _||_, List, [], _∷_, _++_, ℕ, zero, suc, _+_, _≤_, _<_, arith, T, eqb, length, take, drop, take-append-drop, length-append, take-all, take-append-le, length-take-le, lt-ltb}
-use native.Mathlib.Decide.{decLe}
+use Rattle.semantics.proofs.Prelude.{_≡_, refl, sym, ap, _∙_, subst, Bool, true, false, _||_, List, [], _∷_, _++_, ℕ, zero, suc, _+_, _≤_, _<_, arith, T, eqb, length, take, drop, take-append-drop, length-append, take-all, take-append-le, length-take-le, lt-ltb, decLe}
 use Rattle.semantics.specs.Lists.{pick}
 use Rattle.semantics.specs.Layout.{most-bytes}
 use Rattle.semantics.specs.Reading.{Res, fail, ok, check, refused, read}
