@@ -1,7 +1,7 @@
 -- An exploration stored in words, with any words after, is read back and is in form. Assumes nothing.
-use Rattle.semantics.proofs.Prelude.{_≡_, refl, sym, ap, _∙_, subst, inl, inr, Bool, true, false, _&&_, _||_, not, List, [], _∷_, _++_, map, append-assoc, ℕ, zero, suc, _-_, _*_, _≤_, _<_, mul-le-mul-right, arith, T, ltb, eqb, leb→le, le→leb, lt→ltb, eqb-refl, length, take, drop, replicate, length-append, length-map, length-replicate, take-at, drop-at, ℤ, pos, negsuc, natAbs, leZ, ne-eqb, not-T, eqb-true, eqb·suc-zero}
+use Rattle.semantics.proofs.Prelude.{_≡_, refl, sym, ap, _∙_, subst, inl, inr, Bool, true, false, _&&_, _||_, not, List, [], _∷_, _++_, map, append-assoc, ℕ, zero, suc, _-_, _*_, _≤_, _<_, mul-le-mul-right, arith, T, ltb, eqb, leb→le, le→leb, lt→ltb, eqb-refl, length, take, drop, replicate, length-append, length-map, length-replicate, take-at, drop-at, ℤ, pos, negsuc, natAbs, leZ, ne-eqb, not-T, eqb-true, eqb·suc-zero, nonNeg}
 use Rattle.semantics.specs.Lists.{In, some-of, each, all, all-of, all-pairs, pick}
-use Rattle.semantics.specs.Layout.{most-iterations, top-word}
+use Rattle.semantics.specs.Layout.{most-iterations, most-slots, top-word}
 use Rattle.semantics.specs.Chart.{Value, known, top, Var, Chart, eqZ, within, small}
 use Rattle.semantics.specs.Algorithm.{Verdict, Open, Safe, Alarm, Full, Exploration, allowed}
 use Rattle.semantics.specs.Constants.{AbstractState, Covers, constants}
@@ -38,6 +38,16 @@ or-right false b t = t
 pub eqZ-refl : (z : ℤ) → T (eqZ z z)
 eqZ-refl (pos n) = eqb-refl n
 eqZ-refl (negsuc n) = eqb-refl n
+
+-- a capacity that 11 lets pass is a number from 1 to 256
+pub record Counted (z : ℤ) : Type 0 where
+  pub sign : T (nonNeg z)
+  pub some : 1 ≤ natAbs z
+  pub few : natAbs z ≤ most-slots
+
+pub counted : (z : ℤ) → T (capacity-ok z) → Counted z
+counted (pos n) t = record { sign = tt; some = leb→le 1 n (search (and-left)); few = leb→le n most-slots (search (and-right)) }
+counted (negsuc n) t = absurd t
 
 all-true : (bs : List Bool) → Every (λ b. T b) bs → T (all-of bs)
 all-true [] h = tt
