@@ -276,6 +276,6 @@ in-bounds text c e =
     let n = length (c .locs) in
     and3 (leb (length (c .vars)) most-variables && between 1 most-locations n && leb (length (c .edges)) most-edges && all var-ok (c .vars) && all (λ l. name-ok (l .name)) (c .locs)) (distinct-names (c .locs)) (all (edge-ok c) (c .edges))
     (and3 (leb (length (c .vars)) most-variables && between 1 most-locations n && leb (length (c .edges)) most-edges) (all var-ok (c .vars)) (all (λ l. name-ok (l .name)) (c .locs))
-    (and3 (leb (length (c .vars)) most-variables) (between 1 most-locations n) (leb (length (c .edges)) most-edges) (le→leb (length (c .vars)) most-variables (h .few-vars)) (both-true (leb 1 n) (leb n 64) (le→leb 1 n (q .1)) (le→leb n 64 (h .few-locs))) (le→leb (length (c .edges)) most-edges (h .few-edges)))
+    (and3 (leb (length (c .vars)) most-variables) (between 1 most-locations n) (leb (length (c .edges)) most-edges) (le→leb (length (c .vars)) most-variables (h .few-vars)) (both-true (leb 1 n) (leb n most-locations) (le→leb 1 n (q .1)) (le→leb n most-locations (h .few-locs))) (le→leb (length (c .edges)) most-edges (h .few-edges)))
     (h .vars) (h .names))
     (h .distinct) (h .edges)
