@@ -10,8 +10,8 @@ use Rattle.semantics.specs.Tidy.{Distinct, Queue, Every, Tidy}
 use Rattle.semantics.specs.Memory.{Memory, width, load, below, each-once, zeros, is-alarm, empty-if-safe, analysis-ok}
 use Rattle.semantics.proofs.ConstantValues.{and-left, and-right}
 use Rattle.semantics.proofs.Tidy.{some-not}
+use Rattle.semantics.proofs.MemoryOf.{counted}
 use Rattle.semantics.proofs.MemoryInForm.{Form, form, slots-back, zeros-back}
-use Rattle.semantics.proofs.ListingShort.{few-slots}
 use Rattle.semantics.proofs.Simulate.{ExplorationR}
 use Rattle.state.specs.declared.Layout.{Layout}
 use Rattle.state.specs.Rows.{rows-of}
@@ -137,7 +137,7 @@ module _ (c : Chart) (y : Layout) (o : LayoutOf c y) (m : Memory) (lt : m .analy
         wide = omega (arith, o .wide);
         apart = omega (arith, o .wide, o .stride);
         capacity = omega (arith, few, size);
-        small = omega (arith, few-slots (m .analysis .capacity) (f .capacity), size);
+        small = omega (arith, counted (pos (m .analysis .capacity)) (f .capacity) .few, size);
         table = length-take-le (m .analysis .capacity * y .stride) (m .table) table-fits ∙ ap (λ (k : ℕ). k * y .stride) (sym size);
         rest = sym (zeros-back (drop n table-in) zero) ∙ ap (λ (q : ℕ). replicate q (pos 0)) (length-drop n table-in);
         slots = put;

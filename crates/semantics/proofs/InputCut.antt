@@ -1,6 +1,5 @@
 -- The program's input: what an accepted go line says, and how much of the input matters. Assumes nothing.
-use Rattle.semantics.proofs.Prelude.{_≡_, refl, sym, ap, _∙_, subst, Bool, true, false, _||_, List, [], _∷_, _++_, ℕ, zero, suc, _+_, _≤_, _<_, arith, T, ltb, eqb, lt→ltb, length, take, drop, take-append-drop, length-append, take-all, take-append-le, length-take-le}
-use native.Mathlib.Decide.{decLe}
+use Rattle.semantics.proofs.Prelude.{_≡_, refl, sym, ap, _∙_, subst, Bool, true, false, _||_, List, [], _∷_, _++_, ℕ, zero, suc, _+_, _≤_, _<_, arith, T, eqb, length, take, drop, take-append-drop, length-append, take-all, take-append-le, length-take-le, lt-ltb, decLe}
 use Rattle.semantics.specs.Lists.{pick}
 use Rattle.semantics.specs.Layout.{most-bytes}
 use Rattle.semantics.specs.Reading.{Res, fail, ok, check, refused, read}
@@ -61,23 +60,20 @@ past-long (suc n) (b ∷ bs) t = go (eqb b 10) t (past-long n bs)
 
 -- ---- the first 32,833 bytes: 64 for the go line, 32,768 for the chart, and one more that tells a chart too long
 
-below-true : (m n : ℕ) → m < n → ltb m n ≡ true
-below-true m n h = to-true (ltb m n) (lt→ltb m n h)
-
 no-line : (x : List ℕ) → 64 < length x → has-lf (take 64 x) ≡ false → go-line x ≡ fail 1
 unfolding go-line check
-no-line x l e = rw (below-true 64 (length x) l, e)
+no-line x l e = rw (lt-ltb 64 (length x) l, e)
 
 same-line : (p q : List ℕ) → 64 < length p → T (has-lf (take 64 p)) → go-line (p ++ q) ≡ go-line p
 unfolding go-line
 same-line p q l t =
     let h = past-long 64 p t .0 in
     let r = after-lf p q h in
-    rw (take-append-le 64 p q (omega arith), to-true (has-lf (take 64 p)) t, below-true 64 (length (p ++ q)) (omega (arith, length-append p q)), below-true 64 (length p) l, r .line, to-true (has-lf (p ++ q)) (r .lf), to-true (has-lf p) h)
+    rw (take-append-le 64 p q (omega arith), to-true (has-lf (take 64 p)) t, lt-ltb 64 (length (p ++ q)) (omega (arith, length-append p q)), lt-ltb 64 (length p) l, r .line, to-true (has-lf (p ++ q)) (r .lf), to-true (has-lf p) h)
 
 too-long : (text : List ℕ) → most-bytes < length text → read text ≡ refused 1 0
 unfolding read
-too-long text l = rw (below-true most-bytes (length text) l)
+too-long text l = rw (lt-ltb most-bytes (length text) l)
 
 same-print : (r : Res Go) (x y : List ℕ) → read x ≡ read y → print-go r x ≡ print-go r y
 same-print (fail n) x y e = refl

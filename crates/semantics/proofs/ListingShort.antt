@@ -1,21 +1,23 @@
 -- A listing is short: 24,576 bytes hold every listing of an analysis that was begun by a start, or that is in form.
 -- Assumes nothing.
-use Rattle.semantics.proofs.Prelude.{_≡_, Bool, true, false, List, [], _∷_, _++_, map, ℕ, zero, suc, _+_, _*_, _≤_, arith, T, leb, eqb, leb→le, le→leb, length, length-append, ℤ, pos, negsuc, leZ}
+use Rattle.semantics.proofs.Prelude.{_≡_, Bool, true, false, List, [], _∷_, _++_, map, ℕ, zero, suc, _+_, _*_, _≤_, arith, T, eqb, leb→le, le→leb, length, length-append, ℤ, pos, negsuc, leZ}
 use Rattle.semantics.specs.Lists.{some-of, all}
-use Rattle.semantics.specs.Layout.{most-iterations, most-slots}
-use Rattle.semantics.specs.Text.{decimal, line-of, between, name-byte, name-ok}
+use Rattle.semantics.specs.Layout.{most-iterations, most-slots, name-size}
+use Rattle.semantics.specs.Text.{bytes, decimal, line-of, name-ok}
 use Rattle.semantics.specs.Chart.{Value, known, top, Var, Loc, Chart, within}
 use Rattle.semantics.specs.Algorithm.{Mode, Sep, Order, Old, New, Verdict, Open, Safe, Alarm, Full, Exploration, Join}
 use Rattle.semantics.specs.Constants.{AbstractState}
 use Rattle.semantics.specs.Encoding.{var-ok}
-use Rattle.semantics.specs.Memory.{Memory, load, capacity-ok, analysis-ok}
+use Rattle.semantics.specs.Memory.{Memory, load, analysis-ok}
 use Rattle.semantics.specs.Outcomes.{text-of}
 use Rattle.semantics.specs.Listing.{mode-text, order-text, verdict-text, loc-text, val-text, mark, slot-text, slots-text, listing-text}
 use Rattle.semantics.specs.Tidy.{Every}
 use Rattle.semantics.proofs.ConstantValues.{and-left, and-right}
-use Rattle.semantics.proofs.MemoryOf.{both-true, Good}
+use Rattle.semantics.proofs.MemoryOf.{both-true, counted, Good}
 use Rattle.semantics.proofs.StatesOk.{ValOk, ValsOk, StateOk, Bounds}
 use Rattle.semantics.proofs.MemoryInForm.{form, states-count, rows-states}
+use Rattle.semantics.proofs.Numbers.{digits-few}
+use Rattle.semantics.proofs.Encoded.{name-short}
 use Rattle.semantics.proofs.Rendered.{size, dec-short, decZ-short}
 
 pub line-size : (f : List ℕ) (gs : List (List ℕ)) → length (line-of f gs) ≡ size (f ∷ gs)
@@ -46,10 +48,10 @@ vals-short [] (x ∷ xs) m t h = absurd h
 vals-short (v ∷ vs) [] m t h = absurd h
 vals-short (v ∷ vs) (x ∷ xs) m t h = omega (arith, val-short v x (and-left (var-ok v) (all var-ok vs) t) (h .0), vals-short vs xs m (and-right (var-ok v) (all var-ok vs) t) (h .1))
 
-name-short : (ls : List Loc) (n : ℕ) → T (all (λ l. name-ok (l .name)) ls) → length (loc-text ls n) ≤ 16
-name-short [] n t = omega arith
-name-short (l ∷ ls) zero t = leb→le (length (l .name)) 16 (and-right (leb 1 (length (l .name))) (leb (length (l .name)) 16) (and-left (between 1 16 (length (l .name))) (all name-byte (l .name)) (and-left (name-ok (l .name)) (all (λ l. name-ok (l .name)) ls) t)))
-name-short (l ∷ ls) (suc n) t = name-short ls n (and-right (name-ok (l .name)) (all (λ l. name-ok (l .name)) ls) t)
+loc-short : (ls : List Loc) (n : ℕ) → T (all (λ l. name-ok (l .name)) ls) → length (loc-text ls n) ≤ name-size
+loc-short [] n t = omega arith
+loc-short (l ∷ ls) zero t = name-short (l .name) (and-left (name-ok (l .name)) (all (λ l. name-ok (l .name)) ls) t)
+loc-short (l ∷ ls) (suc n) t = loc-short ls n (and-right (name-ok (l .name)) (all (λ l. name-ok (l .name)) ls) t)
 
 mark-short : (b : Bool) → length (mark b) ≤ 1
 mark-short true = omega arith
@@ -69,13 +71,10 @@ verdict-short Safe = omega arith
 verdict-short Alarm = omega arith
 verdict-short Full = omega arith
 
-pub few-slots : (n : ℕ) → T (capacity-ok (pos n)) → n ≤ most-slots
-few-slots n t = leb→le n most-slots (and-right (leb 1 n) (leb n most-slots) t)
-
 pub few-used : (c : Chart) (m : Memory) → T (analysis-ok c m) → m .analysis .used ≤ most-slots
 few-used c m t =
     let f = form c m t in
-    omega (arith, leb→le (m .analysis .used) (m .analysis .capacity) (f .used), few-slots (m .analysis .capacity) (f .capacity))
+    omega (arith, leb→le (m .analysis .used) (m .analysis .capacity) (f .used), counted (pos (m .analysis .capacity)) (f .capacity) .few)
 
 module _ (c : Chart) (b : Bounds c) where
   slot-short : (s : ℕ) (e : AbstractState) (waits : Bool) → s ≤ most-slots → StateOk c e → length (slot-text c s e waits) ≤ 82
@@ -85,7 +84,7 @@ module _ (c : Chart) (b : Bounds c) where
         arith,
         line-size (decimal s) (loc-text (c .locs) (e .loc) ∷ (map val-text (e .vals) ++ (m ∷ []))),
         dec-short s (omega arith),
-        name-short (c .locs) (e .loc) (b .names),
+        loc-short (c .locs) (e .loc) (b .names),
         vals-short (c .vars) (e .vals) m (b .vars) (h .vals),
         mark-short waits,
         b .few-vars,
@@ -100,10 +99,10 @@ module _ (c : Chart) (b : Bounds c) where
   unfolding listing-text
   listing-fits w n i e every =
       let fs = mode-text (w .settings .stop) ∷ order-text (w .settings .order) ∷ verdict-text (w .verdict) ∷ decimal (w .iterations) ∷ decimal (length (w .reached)) ∷ decimal (w .edge) ∷ [] in
-      let h = line-size (119 ∷ 97 ∷ 108 ∷ 107 ∷ []) (mode-text (w .settings .merge) ∷ fs) in
+      let h = line-size (bytes "walk") (mode-text (w .settings .merge) ∷ fs) in
       omega (
         arith,
-        length-append (line-of (119 ∷ 97 ∷ 108 ∷ 107 ∷ []) (mode-text (w .settings .merge) ∷ fs)) (slots-text c (w .waitlist) 0 (w .reached)),
+        length-append (line-of (bytes "walk") (mode-text (w .settings .merge) ∷ fs)) (slots-text c (w .waitlist) 0 (w .reached)),
         h,
         mode-short (w .settings .merge),
         mode-short (w .settings .stop),
@@ -116,10 +115,10 @@ module _ (c : Chart) (b : Bounds c) where
       )
     where
       iterations-short : length (decimal (w .iterations)) ≤ 5
-      iterations-short = omega (arith, Rattle.semantics.proofs.Numbers.digits-few 4 (w .iterations) (w .iterations) [] (omega (arith, i)))
+      iterations-short = omega (arith, digits-few 4 (w .iterations) (w .iterations) [] (omega (arith, i)))
 
   pub listing-short : (w : Exploration AbstractState) → Good c w → length (listing-text c w) ≤ 24576
-  listing-short w g = listing-fits w (omega (arith, g .tidy .within, few-slots (w .capacity) (g .capacity))) (g .iterations) (g .tidy .edge-in) (g .tidy .every)
+  listing-short w g = listing-fits w (omega (arith, g .tidy .within, counted (pos (w .capacity)) (g .capacity) .few)) (g .iterations) (g .tidy .edge-in) (g .tidy .every)
 
   -- and of any analysis in form, whoever made it
   pub text-short : (m : Memory) → T (analysis-ok c m) → length (text-of c m) ≤ 24576

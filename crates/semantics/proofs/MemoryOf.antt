@@ -1,8 +1,8 @@
 -- An exploration stored in words, with any words after, is read back and is in form. Assumes nothing.
-use Rattle.semantics.proofs.Prelude.{_≡_, refl, sym, ap, _∙_, subst, _⊎_, inl, inr, Bool, true, false, _&&_, _||_, not, List, [], _∷_, _++_, map, append-assoc, ℕ, zero, suc, _-_, _*_, _≤_, _<_, mul-le-mul-right, arith, T, ltb, eqb, leb→le, le→leb, lt→ltb, eqb→eq, eqb-refl, length, take, drop, replicate, length-append, length-map, length-replicate, take-at, drop-at, ℤ, pos, negsuc, natAbs, leZ}
+use Rattle.semantics.proofs.Prelude.{_≡_, refl, sym, ap, _∙_, subst, inl, inr, Bool, true, false, _&&_, _||_, not, List, [], _∷_, _++_, map, append-assoc, ℕ, zero, suc, _-_, _*_, _≤_, _<_, mul-le-mul-right, arith, T, ltb, eqb, leb→le, le→leb, lt→ltb, eqb-refl, length, take, drop, replicate, length-append, length-map, length-replicate, take-at, drop-at, ℤ, pos, negsuc, natAbs, leZ, ne-eqb, not-T, eqb-true, eqb·suc-zero, nonNeg}
 use Rattle.semantics.specs.Lists.{In, some-of, each, all, all-of, all-pairs, pick}
-use Rattle.semantics.specs.Layout.{most-iterations, top-word}
-use Rattle.semantics.specs.Chart.{Value, known, top, Var, Chart, eqZ, within}
+use Rattle.semantics.specs.Layout.{most-iterations, most-slots, top-word}
+use Rattle.semantics.specs.Chart.{Value, known, top, Var, Chart, eqZ, within, small}
 use Rattle.semantics.specs.Algorithm.{Verdict, Open, Safe, Alarm, Full, Exploration, allowed}
 use Rattle.semantics.specs.Constants.{AbstractState, Covers, constants}
 use Rattle.semantics.specs.Coverage.{system}
@@ -10,7 +10,7 @@ use Rattle.semantics.specs.Laws.{Fit}
 use Rattle.semantics.specs.Tidy.{Every, Distinct, Tidy}
 use Rattle.semantics.specs.Encoding.{word, val, padded, var-ok}
 use Rattle.semantics.specs.Memory.{Memory, width, row, table-of, waitlist-of, analysis-of, state-in, states-in, load, value-ok, below, row-ok, rows-ok, each-once, zeros, is-alarm, empty-if-safe, capacity-ok, form-tests, analysis-ok}
-use Rattle.semantics.proofs.AtAndIn.{from-true}
+use Rattle.semantics.proofs.AtAndIn.{clash}
 use Rattle.semantics.proofs.ConstantValues.{and-left, and-right}
 use Rattle.semantics.proofs.Covering.{Sound}
 use Rattle.semantics.proofs.ConstantsSound.{laws}
@@ -35,13 +35,19 @@ or-right : (a b : Bool) → T b → T (a || b)
 or-right true b t = tt
 or-right false b t = t
 
-or-left : (a b : Bool) → T a → T (a || b)
-or-left true b t = tt
-or-left false b t = absurd t
-
 pub eqZ-refl : (z : ℤ) → T (eqZ z z)
 eqZ-refl (pos n) = eqb-refl n
 eqZ-refl (negsuc n) = eqb-refl n
+
+-- a capacity that 11 lets pass is a number from 1 to 256
+pub record Counted (z : ℤ) : Type 0 where
+  pub sign : T (nonNeg z)
+  pub some : 1 ≤ natAbs z
+  pub few : natAbs z ≤ most-slots
+
+pub counted : (z : ℤ) → T (capacity-ok z) → Counted z
+counted (pos n) t = record { sign = tt; some = leb→le 1 n (search (and-left)); few = leb→le n most-slots (search (and-right)) }
+counted (negsuc n) t = absurd t
 
 all-true : (bs : List Bool) → Every (λ b. T b) bs → T (all-of bs)
 all-true [] h = tt
@@ -49,16 +55,24 @@ all-true (b ∷ bs) h = both-true b (all-of bs) (h .0) (all-true bs (h .1))
 
 -- ---- one value and one row
 
-pub not-any : (z hi : ℤ) → T (leZ z hi) → T (leZ hi (pos 32767)) → eqZ z top-word ≡ false
-not-any (pos z) (pos hi) a b = to-false (eqb z (natAbs top-word)) (λ t. let p = eqb→eq z (natAbs top-word) t in let q = leb→le z hi a in let r = leb→le hi 32767 b in omega arith)
-not-any (pos z) (negsuc hi) a b = absurd a
-not-any (negsuc z) hi a b = refl
+pub not-top : (z hi : ℤ) → T (leZ z hi) → T (leZ hi (pos 32767)) → eqZ z top-word ≡ false
+not-top (pos z) (pos hi) a b = ne-eqb z (natAbs top-word) (λ e. let q = leb→le z hi a in let r = leb→le hi 32767 b in omega arith)
+not-top (pos z) (negsuc hi) a b = absurd a
+not-top (negsuc z) hi a b = refl
 
-val-back : (v : Var) (x : Value) → T (var-ok v) → ValOk v x → val (word x) ≡ x
-val-back v (known z) t h =
+-- a number that a file can hold is not the word for top
+pub small-not-top : (z : ℤ) → T (small z) → eqZ z top-word ≡ false
+small-not-top z t = not-top z (pos 32767) (search (and-left, and-right)) tt
+
+-- nor is one in a variable's range
+pub known-not-top : (v : Var) (z : ℤ) → T (var-ok v) → ValOk v (known z) → eqZ z top-word ≡ false
+known-not-top v z t h =
     let p : T (leZ z (v .hi)) = search (and-left, and-right) in
     let q : T (leZ (v .hi) (pos 32767)) = search (and-left, and-right) depth 8 in
-    ap (λ (b : Bool). pick b top (known z)) (not-any z (v .hi) p q)
+    not-top z (v .hi) p q
+
+val-back : (v : Var) (x : Value) → T (var-ok v) → ValOk v x → val (word x) ≡ x
+val-back v (known z) t h = ap (λ (b : Bool). pick b top (known z)) (known-not-top v z t h)
 val-back v top t h = refl
 
 vals-back : (vars : List Var) (xs : List Value) → T (all var-ok vars) → ValsOk vars xs → map val (map word xs) ≡ xs
@@ -109,12 +123,12 @@ in-words x [] t = t
 in-words x (y ∷ ys) t = go (eqb x y) refl t (in-words x ys)
   where
     go : (b : Bool) → eqb x y ≡ b → T (elim b [ true ↦ true | false ↦ some-of (eqZ (pos x)) (map pos ys) ]) → (T (some-of (eqZ (pos x)) (map pos ys)) → In x ys) → In x (y ∷ ys)
-    go true e t ih = inl (eqb→eq x y (from-true e))
+    go true e t ih = inl (eqb-true x y e)
     go false e t ih = inr (ih t)
 
 once-all : (wa : List ℕ) → Distinct wa → T (each-once (map pos wa))
 once-all [] d = tt
-once-all (x ∷ xs) d = both-true (not (some-of (eqZ (pos x)) (map pos xs))) (each-once (map pos xs)) (lib.Dec.not-T (some-of (eqZ (pos x)) (map pos xs)) (λ t. d .0 (in-words x xs t))) (once-all xs (d .1))
+once-all (x ∷ xs) d = both-true (not (some-of (eqZ (pos x)) (map pos xs))) (each-once (map pos xs)) (not-T (some-of (eqZ (pos x)) (map pos xs)) (λ t. d .0 (in-words x xs t))) (once-all xs (d .1))
 
 module _ (c : Chart) where
   row-length : (e : AbstractState) → StateOk c e → length (row e) ≡ width c
@@ -190,21 +204,29 @@ module _ (c : Chart) where
       pub list-part : take (w .capacity) (lent .waitlist) ≡ waitlist-of w
       list-part = take-at (waitlist-of w) more-list (w .capacity) list-length
 
-      no-list : (wa : List ℕ) → T (not (eqb (length wa) 0)) ⊎ (wa ≡ [])
-      no-list [] = inr refl
-      no-list (x ∷ xs) = inl (rw (lib.Dec.eqb·suc-zero (length xs)) tt)
+      -- without safe, some slot waits
+      some-wait : (w .verdict ≡ Safe → ⊥) → T (not (eqb (length (w .waitlist)) 0))
+      some-wait n = go (w .waitlist) (λ p. n (g .tidy .empty-safe p))
+        where
+          go : (wa : List ℕ) → (wa ≡ [] → ⊥) → T (not (eqb (length wa) 0))
+          go [] m = absurd (m refl)
+          go (x ∷ xs) m = rw (eqb·suc-zero (length xs)) tt
 
       verdict-listed : (v : Verdict) → w .verdict ≡ v → T (empty-if-safe v (length (w .waitlist)))
-      verdict-listed Open e = elim (no-list (w .waitlist)) [ inl t ↦ t | inr p ↦ absurd (let q = g .tidy .empty-safe p in let z : _≡_ {A = ℕ} 0 1 = cc in omega arith) ]
+      verdict-listed Open e = some-wait (λ p. clash cc)
       verdict-listed Safe e = rw (g .tidy .safe-empty e) tt
-      verdict-listed Alarm e = elim (no-list (w .waitlist)) [ inl t ↦ t | inr p ↦ absurd (let q = g .tidy .empty-safe p in let z : _≡_ {A = ℕ} 0 1 = cc in omega arith) ]
-      verdict-listed Full e = elim (no-list (w .waitlist)) [ inl t ↦ t | inr p ↦ absurd (let q = g .tidy .empty-safe p in let z : _≡_ {A = ℕ} 0 1 = cc in omega arith) ]
+      verdict-listed Alarm e = some-wait (λ p. clash cc)
+      verdict-listed Full e = some-wait (λ p. clash cc)
+
+      -- without alarm, no edge is named
+      edge-0 : (w .verdict ≡ Alarm → ⊥) → T (eqb (w .edge) 0 || false)
+      edge-0 n = rw (g .tidy .no-edge n) tt
 
       alarm-edge : (v : Verdict) → w .verdict ≡ v → T (eqb (w .edge) 0 || is-alarm v)
-      alarm-edge Open e = or-left (eqb (w .edge) 0) false (rw (g .tidy .no-edge (λ q. let z : _≡_ {A = ℕ} 0 1 = cc in omega arith)) tt)
-      alarm-edge Safe e = or-left (eqb (w .edge) 0) false (rw (g .tidy .no-edge (λ q. let z : _≡_ {A = ℕ} 0 1 = cc in omega arith)) tt)
+      alarm-edge Open e = edge-0 (λ p. clash cc)
+      alarm-edge Safe e = edge-0 (λ p. clash cc)
       alarm-edge Alarm e = or-right (eqb (w .edge) 0) true tt
-      alarm-edge Full e = or-left (eqb (w .edge) 0) false (rw (g .tidy .no-edge (λ q. let z : _≡_ {A = ℕ} 0 1 = cc in omega arith)) tt)
+      alarm-edge Full e = edge-0 (λ p. clash cc)
 
       pub formed-back : T (analysis-ok c lent)
       unfolding analysis-ok

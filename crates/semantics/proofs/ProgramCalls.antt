@@ -1,68 +1,61 @@
--- The program's calls go through one after the other on the words that it lends. Assumes nothing.
-use Rattle.semantics.proofs.Prelude.{_≡_, ap, true, false, List, [], _++_, ℕ, _*_, _≤_, mul-le-mul, arith, T, leb, ltb, eqb, leb→le, ltb→lt, length, drop, length-append, length-drop, ℤ, pos, negsuc, natAbs}
+-- The program's calls go through one after the other on the words that it lends: 14 and 15 never come up. Assumes nothing.
+use Rattle.semantics.proofs.Prelude.{_≡_, ap, true, false, List, [], _++_, ℕ, _*_, _≤_, mul-le-mul, arith, T, eqb, length, drop, length-append, length-drop, ℤ, pos, natAbs, le-ltb}
 use Rattle.semantics.specs.Layout.{most-iterations, most-slots}
 use Rattle.semantics.specs.Chart.{Chart}
 use Rattle.semantics.specs.Reading.{accepted, read}
 use Rattle.semantics.specs.Algorithm.{Exploration, allowed, has-verdict}
 use Rattle.semantics.specs.Constants.{AbstractState}
-use Rattle.semantics.specs.Encoding.{encode, decode, well-formed, chart-ok}
+use Rattle.semantics.specs.Encoding.{encode, decode, well-formed}
 use Rattle.semantics.specs.Memory.{Memory, width, table-of, waitlist-of, capacity-ok, analysis-ok, load}
 use Rattle.semantics.specs.Listing.{listing-text}
 use Rattle.semantics.specs.Outcomes.{fine, too-few, budget-ok, started, resumed, put-in, read-outcome, start-outcome, run-outcome, listing-outcome}
 use Rattle.semantics.specs.Program.{Go}
-use Rattle.semantics.proofs.ConstantValues.{and-right}
-use Rattle.semantics.proofs.StatesOk.{Bounds, bounds}
-use Rattle.semantics.proofs.MemoryOf.{to-true, to-false, Good, table-length, list-length, load-back, formed-back}
-use Rattle.semantics.proofs.Encoded.{encode-short, well-formed-split}
+use Rattle.semantics.proofs.StatesOk.{Bounds}
+use Rattle.semantics.proofs.MemoryOf.{to-true, counted, Good, table-length, list-length, load-back, formed-back}
+use Rattle.semantics.proofs.Encoded.{encode-short, formed-bounds}
 use Rattle.semantics.proofs.ReadInBounds.{in-bounds}
 use Rattle.semantics.proofs.ListingShort.{listing-short}
-use Rattle.semantics.proofs.Program.{GoOk, never-too-few, capacity-high}
-
-capacity-few : (r : ℤ) → T (capacity-ok r) → natAbs r ≤ most-slots
-capacity-few (pos n) t = leb→le n most-slots (and-right (leb 1 n) (leb n most-slots) t)
-capacity-few (negsuc n) t = absurd t
+use Rattle.semantics.proofs.Program.{GoOk, never-too-few}
 
 -- 3,163 words hold every chart
 pub read-goes : (text : List ℕ) (c : Chart) → read text ≡ accepted c → (ws : List ℤ) → length ws ≡ 3163
     → read-outcome text ws ≡ record { answer = fine 0; words = encode c ++ drop (length (encode c)) ws }
 unfolding read-outcome
 read-goes text c e ws l =
-    let p : ltb (length ws) (length (encode c)) ≡ false = to-false (ltb (length ws) (length (encode c))) (λ t. let q = ltb→lt (length ws) (length (encode c)) t in omega (arith, encode-short c (in-bounds text c e))) in
-    rw (e, p)
+    rw (e, le-ltb (length ws) (length (encode c)) (omega (arith, encode-short c (in-bounds text c e))))
 
 module _ (words : List ℤ) (formed : T (well-formed words)) where
   abbrev chart : Chart
   chart = decode words
 
-  inside : T (chart-ok chart)
-  inside = well-formed-split words formed .1
-
   b : Bounds chart
-  b = bounds chart inside
+  b = formed-bounds words formed
 
   pub start-goes : (g : Go) → GoOk g → (m : Memory) → length (m .table) ≡ 2304 → length (m .waitlist) ≡ most-slots
       → start-outcome words (g .settings) (g .capacity) m ≡ record { answer = fine 0; memory = put-in chart (started chart (g .settings) (g .capacity)) m; space = [] }
   unfolding start-outcome
   start-goes g h m t l =
-      let r : natAbs (g .capacity) ≤ most-slots = capacity-few (g .capacity) (h .capacity) in
-      rw (to-true (capacity-ok (g .capacity)) (h .capacity), to-true (allowed (g .settings .merge) (g .settings .stop)) (h .modes), to-true (well-formed words) formed, never-too-few chart b (natAbs (g .capacity)) (length (m .table)) (length (m .waitlist)) r (omega arith) (omega arith))
+      rw (to-true (capacity-ok (g .capacity)) (h .capacity), to-true (allowed (g .settings .merge) (g .settings .stop)) (h .modes), to-true (well-formed words) formed, never-too-few chart b (natAbs (g .capacity)) (length (m .table)) (length (m .waitlist)) (counted (g .capacity) (h .capacity) .few) (omega arith) (omega arith))
 
   -- on words that hold an exploration, over any others
   module _ (w : Exploration AbstractState) (good : Good chart w) (m : Memory) (t : length (m .table) ≡ 2304) (l : length (m .waitlist) ≡ most-slots) where
     abbrev held : Memory
     held = put-in chart w m
 
+    few : w .capacity ≤ most-slots
+    few = counted (pos (w .capacity)) (good .capacity) .few
+
     pub held-table : length (held .table) ≡ 2304
     held-table =
         let k : width chart ≤ 9 = omega (arith, b .few-vars) in
-        let n : w .capacity * width chart ≤ most-slots * 9 = mul-le-mul (capacity-high chart w good) k in
+        let n : w .capacity * width chart ≤ most-slots * 9 = mul-le-mul few k in
         omega (arith, length-append (table-of chart w) (drop (w .capacity * width chart) (m .table)), table-length chart b w good, length-drop (w .capacity * width chart) (m .table))
 
     pub held-list : length (held .waitlist) ≡ most-slots
-    held-list = omega (arith, length-append (waitlist-of w) (drop (w .capacity) (m .waitlist)), list-length chart b w good, length-drop (w .capacity) (m .waitlist), capacity-high chart w good)
+    held-list = omega (arith, length-append (waitlist-of w) (drop (w .capacity) (m .waitlist)), list-length chart b w good, length-drop (w .capacity) (m .waitlist), few)
 
     enough : too-few chart (w .capacity) (length (held .table)) (length (held .waitlist)) ≡ false
-    enough = never-too-few chart b (w .capacity) (length (held .table)) (length (held .waitlist)) (capacity-high chart w good) (omega (arith, held-table)) (omega (arith, held-list))
+    enough = never-too-few chart b (w .capacity) (length (held .table)) (length (held .waitlist)) few (omega (arith, held-table)) (omega (arith, held-list))
 
     loaded : load chart held ≡ w
     loaded = load-back chart b w good (drop (w .capacity * width chart) (m .table)) (drop (w .capacity) (m .waitlist))
@@ -81,5 +74,4 @@ module _ (words : List ℤ) (formed : T (well-formed words)) where
         → let text = listing-text chart w in listing-outcome words held sp ≡ record { answer = fine (length text); memory = held; space = text ++ drop (length text) sp }
     unfolding listing-outcome
     listing-goes sp s =
-        let q : ltb (length sp) (length (listing-text chart w)) ≡ false = to-false (ltb (length sp) (length (listing-text chart w))) (λ p. let r = ltb→lt (length sp) (length (listing-text chart w)) p in omega (arith, listing-short chart b w good)) in
-        rw (to-true (well-formed words) formed, enough, in-form, loaded, q)
+        rw (to-true (well-formed words) formed, enough, in-form, loaded, le-ltb (length sp) (length (listing-text chart w)) (omega (arith, listing-short chart b w good)))

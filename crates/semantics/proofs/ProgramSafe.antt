@@ -18,8 +18,9 @@ use Rattle.semantics.specs.ProgramSafe.{verdict-field, ChartSafe, Progra
 use Rattle.semantics.proofs.ConstantValues.{and-left, and-right}
 use Rattle.semantics.proofs.Covering.{covering}
 use Rattle.semantics.proofs.ConstantsSound.{laws}
-use Rattle.semantics.proofs.Numbers.{plain, digits-plain}
+use Rattle.semantics.proofs.Numbers.{plain}
 use Rattle.semantics.proofs.Texts.{Plain, inner, inner-not-10, tabbed-inner, fields-back}
+use Rattle.semantics.proofs.Rendered.{dec-plain}
 use Rattle.semantics.proofs.ReadInBounds.{in-bounds}
 use Rattle.semantics.proofs.Program.{GoOk, explored-good}
 use Rattle.semantics.proofs.InputCut.{go-fine}
@@ -42,9 +43,6 @@ first-fields f gs more t h =
     ∙ fields-back f gs t h
 
 -- ---- the header's words
-
-decimal-plain : (n : ℕ) → Plain (decimal n)
-decimal-plain n = digits-plain n n [] tt
 
 mode-plain : (m : Mode) → Plain (mode-text m)
 unfolding plain
@@ -89,13 +87,13 @@ header-verdict c w =
     (first-fields (bytes "walk")
     (mode-text (a .settings .merge) ∷ mode-text (a .settings .stop) ∷ order-text (a .settings .order) ∷ verdict-text (a .verdict) ∷ decimal (a .iterations) ∷ decimal (a .used) ∷ decimal (a .edge .0) ∷ [])
     (slots-text c (w .waitlist) 0 (w .reached)) walk-plain
-    (mode-plain (a .settings .merge), (mode-plain (a .settings .stop), (order-plain (a .settings .order), (verdict-plain (a .verdict), (decimal-plain (a .iterations), (decimal-plain (a .used), (decimal-plain (a .edge .0), tt))))))))
+    (mode-plain (a .settings .merge), (mode-plain (a .settings .stop), (order-plain (a .settings .order), (verdict-plain (a .verdict), (dec-plain (a .iterations), (dec-plain (a .used), (dec-plain (a .edge .0), tt))))))))
 
 refused-none : (n l : ℕ) → verdict-field (refused-text n l) ≡ bytes "safe" → ⊥
 refused-none n l e =
     let p : verdict-field (refused-text n l) ≡ [] =
     ap (λ (t : List ℕ). verdict-field t) (sym (append-nil (refused-text n l)))
-    ∙ ap (λ (t : List (List ℕ)). nth t 4) (first-fields (bytes "refused") (decimal n ∷ decimal l ∷ []) [] refused-plain (decimal-plain n, (decimal-plain l, tt))) in
+    ∙ ap (λ (t : List (List ℕ)). nth t 4) (first-fields (bytes "refused") (decimal n ∷ decimal l ∷ []) [] refused-plain (dec-plain n, (dec-plain l, tt))) in
     let z : _≡_ {A = ℕ} 0 115 = ap head (sym p ∙ e) in
     omega arith
 

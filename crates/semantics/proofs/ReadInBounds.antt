@@ -6,13 +6,14 @@ use Rattle.semantics.specs.Text.{between, name-ok, same-bytes, natural-o
 use Rattle.semantics.specs.Chart.{Value, known, top, Var, Loc, Operand, num, var, Op, assign, add, sub, input, assume, skip, Edge, Chart, within, in-range, small}
 use Rattle.semantics.specs.Reading.{Reading, refused, accepted, Res, fail, ok, check, if-ok, small-or, below-or, location-field, target-field, operand-field, init-field, OpWord, do-set, do-add, do-sub, do-in, do-if, do-skip, So-far, nth, with-var, with-loc, with-edge, var-line, loc-line, op-fields-read, edge-line, judge, onward, judged, nothing-read, bad-byte-line, open-line, refused-at, read, number-field}
 use Rattle.semantics.specs.Encoding.{init-ok, var-ok, distinct-names, operand-ok, op-ok, edge-ok, chart-ok}
+use Rattle.semantics.proofs.AtAndIn.{clash}
 use Rattle.semantics.proofs.ConstantValues.{and-left, and-right}
 use Rattle.semantics.proofs.MemoryOf.{both-true}
 
 -- ---- a check that did not refuse
 
-fail-ok : {A : Type 0} {n : ℕ} {a : A} → fail n ≡ ok a → ⊥
-fail-ok e = let z : _≡_ {A = ℕ} 0 1 = cc in omega arith
+pub fail-ok : {A : Type 0} {n : ℕ} {a : A} → fail n ≡ ok a → ⊥
+fail-ok e = clash cc
 
 pub check-ok : {A : Type 0} (b : Bool) (n : ℕ) (r : Res A) {a : A} → check b n r ≡ ok a → T b × (r ≡ ok a)
 unfolding check
@@ -32,7 +33,7 @@ then-ok {A} r f {b} e = go r e
 
 -- ---- one field
 
-number-small : (f : List ℕ) (z : ℤ) → number-field f ≡ ok z → T (small z)
+pub number-small : (f : List ℕ) (z : ℤ) → number-field f ≡ ok z → T (small z)
 unfolding number-field
 number-small f z e = go (number-of f) e
   where
@@ -239,7 +240,7 @@ judge-sound s t fs e h = go (same-bytes (nth fs 0) (86 ∷ [])) (same-bytes (nth
 -- ---- the file
 
 pub refused-not : {n l : ℕ} {c : Chart} → refused n l ≡ accepted c → ⊥
-refused-not e = let z : _≡_ {A = ℕ} 0 1 = cc in omega arith
+refused-not e = clash cc
 
 judged-ok : (ls : List (List (List ℕ))) (n : ℕ) (s : So-far) (c : Chart) → Sound (s .chart) → judged n s ls ≡ accepted c → Sound c × (1 ≤ length (c .locs))
 unfolding judged
@@ -275,6 +276,6 @@ in-bounds text c e =
     let n = length (c .locs) in
     and3 (leb (length (c .vars)) most-variables && between 1 most-locations n && leb (length (c .edges)) most-edges && all var-ok (c .vars) && all (λ l. name-ok (l .name)) (c .locs)) (distinct-names (c .locs)) (all (edge-ok c) (c .edges))
     (and3 (leb (length (c .vars)) most-variables && between 1 most-locations n && leb (length (c .edges)) most-edges) (all var-ok (c .vars)) (all (λ l. name-ok (l .name)) (c .locs))
-    (and3 (leb (length (c .vars)) most-variables) (between 1 most-locations n) (leb (length (c .edges)) most-edges) (le→leb (length (c .vars)) most-variables (h .few-vars)) (both-true (leb 1 n) (leb n 64) (le→leb 1 n (q .1)) (le→leb n 64 (h .few-locs))) (le→leb (length (c .edges)) most-edges (h .few-edges)))
+    (and3 (leb (length (c .vars)) most-variables) (between 1 most-locations n) (leb (length (c .edges)) most-edges) (le→leb (length (c .vars)) most-variables (h .few-vars)) (both-true (leb 1 n) (leb n most-locations) (le→leb 1 n (q .1)) (le→leb n most-locations (h .few-locs))) (le→leb (length (c .edges)) most-edges (h .few-edges)))
     (h .vars) (h .names))
     (h .distinct) (h .edges)

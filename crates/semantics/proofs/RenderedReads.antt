@@ -1,5 +1,5 @@
 -- The lines made for a chart in bounds are judged back to that chart. Assumes nothing.
-use Rattle.semantics.proofs.Prelude.{_≡_, refl, sym, ap, subst, Bool, true, false, _&&_, _||_, not, List, [], _∷_, _++_, map, append-assoc, append-nil, ℕ, zero, suc, _+_, _≤_, _<_, arith, T, leb, ltb, eqb, lt→ltb, length, getD, length-append, ℤ, pos, negsuc, leZ}
+use Rattle.semantics.proofs.Prelude.{_≡_, refl, sym, ap, subst, Bool, true, false, _&&_, _||_, not, List, [], _∷_, _++_, map, append-assoc, append-nil, ℕ, zero, suc, _+_, _≤_, _<_, arith, T, leb, ltb, eqb, lt→ltb, length, getD, length-append, ℤ, pos, negsuc, leZ, ne-eqb}
 use Rattle.semantics.specs.Lists.{all, is-empty}
 use Rattle.semantics.specs.Layout.{most-edges, most-locations}
 use Rattle.semantics.specs.Text.{decimal, decimalZ, between, name-byte, name-ok, same-bytes}
@@ -10,7 +10,7 @@ use Rattle.semantics.specs.Rendering.{operand-text, var-fields, loc-fiel
 use Rattle.semantics.specs.Listing.{val-text}
 use Rattle.semantics.proofs.ConstantValues.{and-left, and-right}
 use Rattle.semantics.proofs.MemoryOf.{to-true, both-true}
-use Rattle.semantics.proofs.Numbers.{in-between, not-eq, leads, natural-back, number-back}
+use Rattle.semantics.proofs.Numbers.{in-between, leads, natural-back, number-back}
 
 -- ---- one field
 
@@ -32,10 +32,10 @@ filled : (l : List ℕ) → Head l → is-empty l ≡ false
 filled l h = ap is-empty (h .same)
 
 not-star : (l : List ℕ) → Head l → same-bytes l (42 ∷ []) ≡ false
-not-star l h = rw (h .same, not-eq (h .byte) 42 (λ e. omega (arith, h .low)))
+not-star l h = rw (h .same, ne-eqb (h .byte) 42 (λ e. omega (arith, h .low)))
 
 not-dollar : (l : List ℕ) → Head l → eqb (getD l 0 0) 36 ≡ false
-not-dollar l h = rw (h .same) (not-eq (h .byte) 36 (λ e. omega (arith, h .low)))
+not-dollar l h = rw (h .same) (ne-eqb (h .byte) 36 (λ e. omega (arith, h .low)))
 
 number-at : (z : ℤ) → T (small z) → number-field (decimalZ z) ≡ ok z
 unfolding number-field check if-ok
@@ -177,7 +177,7 @@ made (suc i) = ((97 + i) ∷ []) ∷ made i
 made-new : (i j : ℕ) → j ≤ i → T (all (λ m. not (same-bytes m ((97 + i) ∷ []))) (made j))
 unfolding made
 made-new i zero l = tt
-made-new i (suc j) l = both-true (not (same-bytes ((97 + j) ∷ []) ((97 + i) ∷ []))) (all (λ m. not (same-bytes m ((97 + i) ∷ []))) (made j)) (rw (not-eq (97 + j) (97 + i) (λ e. omega arith)) tt) (made-new i j (omega arith))
+made-new i (suc j) l = both-true (not (same-bytes ((97 + j) ∷ []) ((97 + i) ∷ []))) (all (λ m. not (same-bytes m ((97 + i) ∷ []))) (made j)) (rw (ne-eqb (97 + j) (97 + i) (λ e. omega arith)) tt) (made-new i j (omega arith))
 
 made-name : (i : ℕ) → i < 8 → name-byte (97 + i) ≡ true
 unfolding name-byte

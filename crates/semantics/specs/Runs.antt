@@ -1,10 +1,12 @@
--- Runs are not too few: moves that each operation makes, as one list with a single claim over it. Coverage alone would
--- hold of a system without a move. Document 01, "The chart file" (the operations) and "Runs". Assumes nothing.
-use mathlib.Core.Bool.{false}
+-- Runs are not too few: moves that each operation makes, as one list with a single claim over it, and a run that meets
+-- an error state. Coverage alone would hold of a system without a move, and safety of one without an error state.
+-- Document 01, "The chart file" (the operations) and "Runs". Assumes nothing.
+use mathlib.Core.Bool.{true, false}
 use mathlib.Core.List.{List, [], _∷_}
+use Prim.Native.Nat.{ℕ}
 use lib.IntN.{ℤ, pos, negsuc}
 use Rattle.semantics.specs.Text.{bytes}
-use Rattle.semantics.specs.Chart.{top, Var, num, var, eq, ne, lt, le, gt, ge, Op, assign, add, sub, input, assume, skip, Chart}
+use Rattle.semantics.specs.Chart.{top, Var, num, var, eq, ne, lt, le, gt, ge, Op, assign, add, sub, input, assume, skip, Chart, State, Error}
 use Rattle.semantics.specs.Coverage.{system, Execution}
 
 -- a variable of range −9..9 that begins anywhere in it
@@ -67,3 +69,22 @@ some-moves =
     ∷ keeps (assume 0 ge (var 1)) (pos 2) (pos 1)
     ∷ keeps (assume 0 ge (var 1)) (negsuc 2) (negsuc 2)
     ∷ []
+
+-- ---- an error state that is met
+
+-- no variable, and one edge, a `skip`, from the first location to the second, an error location
+abbrev pub into-error : Chart
+into-error = record {
+  vars = [];
+  locs = record { name = bytes "a"; error = false } ∷ record { name = bytes "b"; error = true } ∷ [];
+  edges = record { from = 0; to = 1; op = skip } ∷ [];
+}
+
+-- a state of that chart is a location
+abbrev pub at-loc : ℕ → State
+at-loc l = record { loc = l; vals = [] }
+
+-- from the first location to the second is a run, and it ends in an error state
+pub record ErrorMet : Type 0 where
+  pub run : Execution (system into-error) (at-loc 0 ∷ at-loc 1 ∷ [])
+  pub error : Error into-error (at-loc 1)

@@ -8,7 +8,7 @@ use Rattle.semantics.specs.Constants.{operand-value, both, assign-value, one-of
 use Rattle.semantics.specs.Encoding.{word, word-at, tag, operand-word, rel-code, op-words, encode, count, var-ok, operand-ok, op-ok, chart-ok}
 use Rattle.semantics.proofs.ConstantValues.{and-left, and-right}
 use Rattle.semantics.proofs.StatesOk.{ValOk, ValsOk}
-use Rattle.semantics.proofs.MemoryOf.{not-any}
+use Rattle.semantics.proofs.MemoryOf.{not-top}
 use Rattle.words.proofs.Words.{eqZ-true}
 use Rattle.state.specs.Rows.{value-at, with-value, word-join}
 use Rattle.transfer.specs.Transfer.{operand-by, set-ranged, set-value, assign-at, set-result, both-at, input-at, holds-by, refine-by, tested-by, assume-at, op-by}
@@ -20,13 +20,13 @@ Plain (known z) = eqZ z top-word ≡ false
 Plain top = Unit
 
 small-plain : (z : ℤ) → T (small z) → Plain (known z)
-small-plain z t = not-any z (pos 32767) (search (and-left, and-right)) tt
+small-plain z t = not-top z (pos 32767) (search (and-left, and-right)) tt
 
 value-plain : (v : Var) (x : Value) → T (var-ok v) → ValOk v x → Plain x
 value-plain v (known z) t h =
     let p : T (leZ z (v .hi)) = search (and-left, and-right) in
     let q : T (leZ (v .hi) (pos 32767)) = search (and-left, and-right) depth 8 in
-    not-any z (v .hi) p q
+    not-top z (v .hi) p q
 value-plain v top t h = tt
 
 -- each value of a list

@@ -1,12 +1,7 @@
 -- The decimal digits of a number: those of its tenth, and its last. Assumes nothing.
-use Rattle.semantics.proofs.Prelude.{_≡_, refl, sym, ap, subst, _∙_, Bool, true, false, List, [], _∷_, _++_, append-assoc, ℕ, zero, suc, _+_, _/_, _%_, _≤_, _<_, arith, T, ltb, ℤ, pos, negsuc, natAbs, ltZ, lt-ltb, le-ltb, ltb-true, ltb-false}
+use Rattle.semantics.proofs.Prelude.{_≡_, refl, sym, ap, subst, _∙_, Bool, true, false, List, [], _∷_, _++_, append-assoc, ℕ, zero, suc, _/_, _≤_, _<_, arith, T, ltb, ℤ, pos, negsuc, natAbs, ltZ, lt-ltb, le-ltb, ltb-true}
 use Rattle.semantics.specs.Text.{digits-of, decimal, decimalZ}
-
-abbrev last : ℕ → ℕ
-last n = 48 + n % 10
-
-abbrev digits-if : Bool → ℕ → ℕ → List ℕ → List ℕ
-digits-if t f n bs = elim t [ true ↦ last n ∷ bs | false ↦ digits-of f (n / 10) (last n ∷ bs) ]
+use Rattle.semantics.proofs.Numbers.{last, digits-if, digits-enough}
 
 -- what stands behind stays behind
 digits-front : (f n : ℕ) (bs : List ℕ) → digits-of f n bs ≡ digits-of f n [] ++ bs
@@ -18,18 +13,6 @@ digits-front (suc f) n bs = go (ltb n 10) (digits-front f (n / 10) (last n ∷ b
         → digits-of f (n / 10) (last n ∷ []) ≡ digits-of f (n / 10) [] ++ (last n ∷ []) → digits-if t f n bs ≡ digits-if t f n [] ++ bs
     go true p q = refl
     go false p q = p ∙ rw q (sym (append-assoc (digits-of f (n / 10) []) (last n ∷ []) bs))
-
--- more steps than enough change nothing
-digits-enough : (f g n : ℕ) (bs : List ℕ) → n ≤ f → n ≤ g → digits-of f n bs ≡ digits-of g n bs
-unfolding digits-of
-digits-enough zero zero n bs h k = refl
-digits-enough zero (suc g) n bs h k = ap (λ (t : Bool). digits-if t g n bs) (sym (lt-ltb n 10 (omega arith)))
-digits-enough (suc f) zero n bs h k = ap (λ (t : Bool). digits-if t f n bs) (lt-ltb n 10 (omega arith))
-digits-enough (suc f) (suc g) n bs h k = go (ltb n 10) refl (digits-enough f g (n / 10) (last n ∷ bs))
-  where
-    go : (t : Bool) → ltb n 10 ≡ t → (n / 10 ≤ f → n / 10 ≤ g → digits-of f (n / 10) (last n ∷ bs) ≡ digits-of g (n / 10) (last n ∷ bs)) → digits-if t f n bs ≡ digits-if t g n bs
-    go true e ih = refl
-    go false e ih = let l : 10 ≤ n = ltb-false n 10 e in ih (omega arith) (omega arith)
 
 pub decimal-one : (n : ℕ) → n < 10 → decimal n ≡ last n ∷ []
 unfolding digits-of

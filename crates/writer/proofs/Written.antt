@@ -1,6 +1,5 @@
 -- Writing goes on where it stopped; what fits is written whole. Assumes nothing.
-use Rattle.semantics.proofs.Prelude.{_≡_, refl, sym, ap, subst, _∙_, List, [], _∷_, _++_, ℕ, zero, suc, _+_, _≤_, _<_, zero-add, suc-add, arith, length, take, drop, set, length-append}
-use native.Mathlib.Decide.{decLt}
+use Rattle.semantics.proofs.Prelude.{_≡_, refl, sym, ap, subst, _∙_, List, [], _∷_, _++_, ℕ, zero, suc, _+_, _≤_, _<_, zero-add, suc-add, arith, length, take, drop, set, length-append, decLt}
 use Rattle.writer.specs.Writing.{overwritten, written, limit, Put}
 
 pub written-none : (at : ℕ) (out : List ℕ) → written at [] out ≡ out
