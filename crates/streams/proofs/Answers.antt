@@ -14,22 +14,34 @@ pub record Onward (xs : List ℕ) (a : ℕ) (z : ℤ) : Type 0 where
   pub some : 0 < natAbs z
   pub within : a + natAbs z ≤ length xs
 
-onward-by : (xs : List ℕ) (a : ℕ) (z : ℤ) → SFits w64 z → a ≤ length xs → leZ z (pos 0) ≡ false → Moved (length (take (length xs - a) (drop a xs))) z → Onward xs a z
-onward-by xs a (pos zero) f h e m = absurd (subst T e tt)
-onward-by xs a (pos (suc n)) f h e m =
+moves-on-by : (xs : List ℕ) (a : ℕ) (z : ℤ) → SFits w64 z → a ≤ length xs → leZ z (pos 0) ≡ false → Moved (length (take (length xs - a) (drop a xs))) z → Onward xs a z
+moves-on-by xs a (pos zero) f h e m = absurd (subst T e tt)
+moves-on-by xs a (pos (suc n)) f h e m =
     record { sign = tt; fits = record { fits = omega (arith, f .sfits) }; some = omega arith; within = omega (arith, h, m, length-take-le (length xs - a) (drop a xs) (omega (arith, length-drop a xs))) }
-onward-by xs a (negsuc n) f h e m = absurd (subst T e tt)
+moves-on-by xs a (negsuc n) f h e m = absurd (subst T e tt)
 
 -- of the local that the loop looks at
-pub onward : (xs : List ℕ) (a : ℕ) (z : ℤ) → SFits w64 z → a ≤ length xs → leZ (toZ w64 (ofZ w64 z)) (pos 0) ≡ false → Moved (length (take (length xs - a) (drop a xs))) z → Onward xs a (toZ w64 (ofZ w64 z))
-onward xs a z f h e m = rw (toZ-ofZ w64 z f) (onward-by xs a z f h (rw (toZ-ofZ w64 z f) at e) m)
+pub moves-on : (xs : List ℕ) (a : ℕ) (z : ℤ) → SFits w64 z → a ≤ length xs → leZ (toZ w64 (ofZ w64 z)) (pos 0) ≡ false → Moved (length (take (length xs - a) (drop a xs))) z → Onward xs a (toZ w64 (ofZ w64 z))
+moves-on xs a z f h e m = rw (toZ-ofZ w64 z f) (moves-on-by xs a z f h (rw (toZ-ofZ w64 z f) at e) m)
 
-pub stopped : (size count : ℕ) (z : ℤ) → leZ z (pos 0) ≡ true → Ends size count z
-stopped size count (pos zero) e = tt
-stopped size count (pos (suc n)) e = absurd (omega (arith, leb→le (suc n) 0 (subst T (sym e) tt)))
-stopped size count (negsuc n) e = tt
+-- before a turn the calls have moved nothing, or no less than the last one answered
+abbrev pub Counted : ℕ → ℤ → Type 0
+Counted count (pos zero) = count ≡ 0
+Counted count (pos (suc n)) = suc n ≤ count
+Counted count (negsuc n) = ⊥
 
-pub all-moved : (size count : ℕ) (z : ℤ) → count ≡ size → Ends size count z
-all-moved size count (pos zero) e = tt
-all-moved size count (pos (suc n)) e = e
-all-moved size count (negsuc n) e = tt
+pub counted-more : {xs : List ℕ} {a : ℕ} (z : ℤ) → Onward xs a z → Counted (a + natAbs z) z
+counted-more (pos zero) o = absurd (omega (arith, o .some))
+counted-more (pos (suc n)) o = omega arith
+counted-more (negsuc n) o = absurd (o .sign)
+
+pub all-moved : {size count : ℕ} (z : ℤ) → count ≡ size → Counted count z → Ends size count z
+all-moved (pos zero) e h = λ q. omega arith
+all-moved (pos (suc n)) e h = (e, h)
+all-moved (negsuc n) e h = absurd h
+
+-- a call answered 0 or below
+pub ended-short : {size count : ℕ} (z : ℤ) → count < size → leZ z (pos 0) ≡ true → Ends size count z
+ended-short (pos zero) h e = λ q. absurd (omega arith)
+ended-short (pos (suc n)) h e = absurd (omega (arith, leb→le (suc n) 0 (subst T (sym e) tt)))
+ended-short (negsuc n) h e = h

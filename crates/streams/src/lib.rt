@@ -26,9 +26,10 @@ fn is_interrupted(answer: isize, errno: i32) -> bool
     (answer < 0) & (errno == libc::EINTR)
 }
 
-// Whether the call that gave this answer is to be made again.
+// Whether the call that gave this answer is to be made again: it failed. No contract can say what errno is, so that
+// it is asked of this call, and only EINTR has it made again, is these two functions, read.
 fn is_to_repeat(answer: isize, left: u32) -> bool
-    ensures { λ r. ⌜ (r ≡ true → 0 < left) ⌝ }
+    ensures { λ r. ⌜ (r ≡ true → (0 < left) × (ltZ answer (pos 0) ≡ true)) ⌝ }
 {
     left > 0 && is_interrupted(answer, os::errno())
 }

@@ -1,5 +1,5 @@
 -- `streams::is_interrupted` meets its contract. Assumes nothing.
-use Rattle.semantics.proofs.Prelude.{needs, pos, w32, w64, sfits-lit, toZ-ofZ}
+use Rattle.semantics.proofs.Prelude.{pos, w32, w64, sfits-lit, toZ-ofZ}
 use Rattle.words.proofs.Words.{bits-eqb}
 use Rattle.streams.proofs.is_interrupted.Statement.{statement}
 use Rattle.streams.proofs.is_interrupted.Tie as tie

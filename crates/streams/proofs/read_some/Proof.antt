@@ -17,10 +17,10 @@ loop-holds c =
     (refl, answered (sfits-of {z = r .result} (r .ok)) (sym (r .kept .1 .0)) (r .ensures))
 
 sub-left : tie.Need-sub-left Inv-loop μ-loop
-sub-left c = omega (arith, c .before .before .before .before .before .is-to-repeat .ensures (c .before .before .before .before .if1 .taken))
+sub-left c = omega (arith, c .before .before .before .before .before .is-to-repeat .ensures (c .before .before .before .before .if1 .taken) .0)
 
 loop-less : tie.Need-loop-less Inv-loop μ-loop
-loop-less c = omega (arith, c .before .before .before .before .before .is-to-repeat .ensures (c .before .before .before .before .if1 .taken))
+loop-less c = omega (arith, c .before .before .before .before .before .is-to-repeat .ensures (c .before .before .before .before .if1 .taken) .0)
 
 loop-again : tie.Need-loop-again Inv-loop μ-loop
 loop-again c =

@@ -1,28 +1,33 @@
 -- `streams::write_all` meets its contract, and ends: the bytes that are left become fewer. Assumes nothing.
-use Rattle.semantics.proofs.Prelude.{_-_, _≤_, arith, needs, sfits-of, length, w64, toZ, ofZ}
-use Rattle.streams.proofs.Answers.{Onward, onward, stopped, all-moved}
+use Rattle.semantics.proofs.Prelude.{refl, _-_, _≤_, arith, needs, sfits-of, length, w64, toZ, ofZ}
+use Rattle.streams.proofs.Answers.{Onward, Counted, moves-on, counted-more, all-moved, ended-short}
 use Rattle.streams.proofs.write_all.Statement.{statement}
 use Rattle.streams.proofs.write_all.Tie as tie
 
 abbrev Inv-loop : tie.InvT-loop
-Inv-loop buf count₀ last₀ count last = count ≤ length buf
+Inv-loop buf count₀ last₀ count last = (count ≤ length buf) × Counted count (toZ w64 last)
 
 abbrev μ-loop : tie.MeasureT-loop
 μ-loop buf count₀ last₀ count last = length buf - count
 
-turn : (c : tie.Else1 Inv-loop μ-loop)
-    → Onward (c .before .before .before .before .before .before .args .buf .now) (c .before .before .before .before .loop .count) (toZ w64 (ofZ w64 (c .before .write-some .result)))
-turn c =
+loop-holds : tie.Need-loop-holds Inv-loop μ-loop
+loop-holds c = (omega arith, refl)
+
+abbrev turn : tie.After-write-some Inv-loop μ-loop → tie.At-loop Inv-loop μ-loop
+turn c = c .before .before .before
+
+onward : (c : tie.Else1 Inv-loop μ-loop) → Onward (turn (c .before) .before .before .args .buf .now) (turn (c .before) .loop .count) (toZ w64 (ofZ w64 (c .before .write-some .result)))
+onward c =
     let r = c .before .write-some in
-    onward _ _ _ (sfits-of {z = r .result} (r .ok)) (c .before .before .before .before .loop .inv) (c .if1 .left) (r .ensures)
+    moves-on _ _ _ (sfits-of {z = r .result} (r .ok)) (turn (c .before) .loop .inv .0) (c .if1 .left) (r .ensures)
 
 returns : tie.Need-returns Inv-loop μ-loop
 returns c =
     let l = c .before .loop in
-    record { within = l .inv; ends = all-moved _ _ (toZ w64 (l .last)) (omega (arith, l .inv)) }
+    record { within = l .inv .0; ends = all-moved (toZ w64 (l .last)) (omega (arith, l .inv .0)) (l .inv .1) }
 
 returns-2 : tie.Need-returns-2 Inv-loop μ-loop
-returns-2 c = record { within = c .before .before .before .before .loop .inv; ends = stopped _ _ (toZ w64 (ofZ w64 (c .before .write-some .result))) (c .if1 .taken) }
+returns-2 c = record { within = turn (c .before) .loop .inv .0; ends = ended-short (toZ w64 (ofZ w64 (c .before .write-some .result))) (omega arith) (c .if1 .taken) }
 
 pub write-all-spec : {M : Type 1} → statement M
 write-all-spec =
@@ -30,14 +35,14 @@ write-all-spec =
     (tie.spec
     Inv-loop
     μ-loop
-    (λ c. search needs)
+    loop-holds
     (λ c. search needs)
     (λ c. search needs)
     (λ c. search needs)
     (λ c κs. search needs)
-    (λ c. (turn c .sign, turn c .fits))
-    (λ c. record { fits = omega (arith, turn c .within) })
-    (λ c. omega (arith, turn c .some, turn c .within))
-    (λ c. turn c .within)
+    (λ c. (onward c .sign, onward c .fits))
+    (λ c. record { fits = omega (arith, onward c .within) })
+    (λ c. omega (arith, onward c .some, onward c .within))
+    (λ c. (onward c .within, counted-more _ (onward c)))
     returns
     returns-2)

@@ -15,10 +15,10 @@ loop-holds : tie.Need-loop-holds Inv-loop μ-loop
 loop-holds c = answered (sfits-of {z = c .write .result} (c .write .ok)) refl (c .write .ensures)
 
 sub-left : tie.Need-sub-left Inv-loop μ-loop
-sub-left c = omega (arith, c .before .before .is-to-repeat .ensures (c .before .if1 .taken))
+sub-left c = omega (arith, c .before .before .is-to-repeat .ensures (c .before .if1 .taken) .0)
 
 loop-less : tie.Need-loop-less Inv-loop μ-loop
-loop-less c = omega (arith, c .before .before .is-to-repeat .ensures (c .before .if1 .taken))
+loop-less c = omega (arith, c .before .before .is-to-repeat .ensures (c .before .if1 .taken) .0)
 
 loop-again : tie.Need-loop-again Inv-loop μ-loop
 loop-again c = answered (sfits-of {z = c .write2 .result} (c .write2 .ok)) refl (c .write2 .ensures)
