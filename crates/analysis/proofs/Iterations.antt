@@ -73,13 +73,13 @@ module _ (D : Domain (List ℤ) ℕ) (gs : List ℕ) where
   unfolding run
   run-none n x e = ap (λ (q : ℕ). run D gs q x) e
 
-pub none-safe : (wa : List ℕ) → length wa ≡ 0 → Safe ≡ verdict-of wa
-none-safe [] e = refl
-none-safe (x ∷ wa) e = absurd (omega arith)
+pub verdict-safe : (wa : List ℕ) → length wa ≡ 0 → Safe ≡ verdict-of wa
+verdict-safe [] e = refl
+verdict-safe (x ∷ wa) e = absurd (omega arith)
 
-pub some-open : (wa : List ℕ) → 0 < length wa → Open ≡ verdict-of wa
-some-open [] e = absurd (omega arith)
-some-open (x ∷ wa) e = refl
+pub verdict-open : (wa : List ℕ) → 0 < length wa → Open ≡ verdict-of wa
+verdict-open [] e = absurd (omega arith)
+verdict-open (x ∷ wa) e = refl
 
 -- an open analysis has a slot waiting
 pub open-waits : (y : Layout) (last : ℕ) (a : Analysis) (t l : List ℤ) → Resumable y last a t l → has-verdict (a .verdict) ≡ false → 0 < a .waiting

@@ -1,11 +1,12 @@
 -- Laws of the waitlist's words that move: the front taken or put, the last taken, a slot taken out. Assumes nothing.
 use Rattle.semantics.proofs.Prelude.{_≡_, refl, sym, ap, _∙_, Bool, true, false, List, [], _∷_, _++_, map, append-assoc, append-nil, some, ℕ, zero, suc, _+_, _-_, _≤_, _<_, add-one, arith, eqb, ℤ, pos, length, take, drop, getD, set, replicate, length-map, length-append, length-replicate, length-set, drop-of-length-le, take-append-drop, replicate-append-replicate, take-at, drop-at, drop-cons, set-at, append-snoc, take-suc, take-suc-set, drop-set-lt, getD-drop, getD-at, take-all, length-take-le}
+use mathlib.Core.List.{map-append}
 use Rattle.semantics.specs.Chart.{eqZ}
 use Rattle.semantics.specs.declared.Order.the-variants.{Old, New}
 use Rattle.semantics.specs.Algorithm.{without, take-last, later}
 use Rattle.words.proofs.Words.{eqZ-sym}
 use Rattle.waitlist.specs.Waits.{Stored, pushed, shifted, others, next-place, kept-at, TakenFrom}
-use Rattle.waitlist.proofs.WaitWords.{waits-are, kept, map-append, front, back}
+use Rattle.waitlist.proofs.WaitWords.{waits-are, kept, front, back}
 use Rattle.semantics.specs.Lists.{pick}
 
 -- ---- the loops' turns
