@@ -162,8 +162,8 @@ put-others {l} {n} {wa} k l′ r p len h t d = record { count = sym count; fits 
 
 -- the loop: A the words kept, then d zeros, then the words from i on
 module _ (k : ℤ) (A R : List ℤ) (d j i : ℕ) (x : ℤ) (la : length A ≡ j) (li : j + d ≡ i) where
-  word-at : getD (A ++ (replicate d (pos 0) ++ (x ∷ R))) i (pos 0) ≡ x
-  word-at = rw (← append-assoc) (getD-at (A ++ replicate d (pos 0)) x R (pos 0) i (simp (length-append, length-replicate) (omega arith)))
+  word-next : getD (A ++ (replicate d (pos 0) ++ (x ∷ R))) i (pos 0) ≡ x
+  word-next = rw (← append-assoc) (getD-at (A ++ replicate d (pos 0)) x R (pos 0) i (simp (length-append, length-replicate) (omega arith)))
 
   cleared : set (A ++ (replicate d (pos 0) ++ (x ∷ R))) i (pos 0) ≡ A ++ (replicate (suc d) (pos 0) ++ R)
   cleared =
@@ -210,7 +210,7 @@ module _ (k : ℤ) (l₀ : List ℤ) (n : ℕ) (l : List ℤ) (j i : ℕ) (s : R
   whole = s .form ∙ ap (λ (z : List ℤ). take j l ++ (replicate (i - j) (pos 0) ++ z)) next
 
   pub word-here : getD l i (pos 0) ≡ getD l₀ i (pos 0)
-  word-here = ap (λ (z : List ℤ). getD z i (pos 0)) whole ∙ word-at k A R (i - j) j i x la ld
+  word-here = ap (λ (z : List ℤ). getD z i (pos 0)) whole ∙ word-next k A R (i - j) j i x la ld
 
   clear : set l i (pos 0) ≡ A ++ (replicate (suc (i - j)) (pos 0) ++ R)
   clear = ap (λ (z : List ℤ). set z i (pos 0)) whole ∙ cleared k A R (i - j) j i x la ld

@@ -57,8 +57,8 @@ module _ (m : tie.After-mark-waiting Inv-loop μ-loop) where
   far : stride ≡ width (decode chart)
   far = is-layout chart _ (layout .layout-of .ensures .0) .stride
 
-  within : start .args .used * stride ≤ length table
-  within = slots-in (is-layout chart _ (layout .layout-of .ensures .0)) (start .args .used) (length table) (start .pre .1)
+  fits : start .args .used * stride ≤ length table
+  fits = slots-in (is-layout chart _ (layout .layout-of .ensures .0)) (start .args .used) (length table) (start .pre .1)
 
 -- a turn
 module _ (c : tie.In-loop Inv-loop μ-loop) where
@@ -73,10 +73,10 @@ module _ (c : tie.In-loop Inv-loop μ-loop) where
 
   -- the row at `from` is in the table
   next : from + stride outer ≤ length (table outer)
-  next = slot-in (c .before .loop .inv .0) (c .loop-test .taken) (table outer) (within outer)
+  next = slot-in (c .before .loop .inv .0) (c .loop-test .taken) (table outer) (fits outer)
 
   room : from + w outer ≤ length (table outer)
-  room = part-in (c .before .loop .inv .0) (c .loop-test .taken) (table outer) (within outer) (w outer) (omega (arith, wide outer, far outer))
+  room = part-in (c .before .loop .inv .0) (c .loop-test .taken) (table outer) (fits outer) (w outer) (omega (arith, wide outer, far outer))
 
   row-is : take (from + w outer - from) (drop from (table outer)) ≡ take (width (decode (chart outer))) (drop from (table outer))
   row-is = rw span (λ j. take (wide outer j) (drop from (table outer)))

@@ -1,5 +1,5 @@
 -- `reached::covered` meets its contract. Assumes nothing.
-use Rattle.semantics.proofs.Prelude.{_≡_, refl, sym, ap, _∙_, Bool, true, false, ℕ, suc, _+_, _-_, _≤_, arith, length, take, drop}
+use Rattle.semantics.proofs.Prelude.{_≡_, sym, ap, _∙_, Bool, true, false, ℕ, suc, _+_, _-_, _≤_, arith, length, take, drop}
 use Rattle.semantics.specs.Lists.{some-of}
 use Rattle.words.proofs.Rows.{span, part-length}
 use Rattle.state.specs.Rows.{width-of, row-leq, rows-of}
