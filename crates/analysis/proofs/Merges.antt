@@ -1,6 +1,6 @@
 -- The merge of all slots as the rules say it; and after merge join, the test against the join of the slots is the
 -- test against one slot. Assumes nothing.
-use Rattle.semantics.proofs.Prelude.{_≡_, refl, sym, ap, subst, _∙_, Bool, true, false, _&&_, _||_, List, [], _∷_, map, ℕ, suc, _<_, arith, T, ℤ, length}
+use Rattle.semantics.proofs.Prelude.{_≡_, refl, sym, ap, subst, _∙_, Bool, true, false, _&&_, or-true, List, [], _∷_, map, ℕ, suc, _<_, arith, T, ℤ, length}
 use Rattle.semantics.specs.declared.Mode.{Mode}
 use Rattle.semantics.specs.declared.Mode.the-variants.{Sep, Join}
 use Rattle.semantics.specs.Layout.{top-word}
@@ -29,10 +29,6 @@ rewaits-all e i (x ∷ xs) wa = go (same-words (row-merge e x) x) (rewaits-all e
     go false ih = ih (wait i wa)
 
 -- ---- a successor lies under the slots that it was joined into, and under their join
-
-or-true : (a : Bool) → a || true ≡ true
-or-true true = refl
-or-true false = refl
 
 word-new : (x y : ℤ) → word-leq x (word-join x y) ≡ true
 word-new x y = go (eqZ x y) refl

@@ -105,7 +105,7 @@ fn visit_all(
     let first = outline.first;
     let edges = outline.edges;
     let width = copy.len();
-    let mut next = [0i32; semantics::MOST_WIDTH];
+    let mut next = [0i32; state::MOST_WIDTH];
     let mut at = a;
     let location = state::location_of(copy);
     let mut id = outgoing::first(heads, location);
@@ -170,7 +170,7 @@ fn iteration(
 {
     let layout = outline.layout;
     let width = layout.width();
-    let mut copy = [0i32; semantics::MOST_WIDTH];
+    let mut copy = [0i32; state::MOST_WIDTH];
     iteration_with(
         chart,
         outline,

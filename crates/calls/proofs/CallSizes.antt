@@ -1,4 +1,5 @@
--- What a well-formed chart's counts say of a slot's words and of products with them. Assumes nothing.
+-- What a well-formed chart's counts say of a slot's words and of products with them, and which numbers are a capacity
+-- and a budget that 11 and 13 let pass. Assumes nothing.
 use Rattle.semantics.proofs.Prelude.{List, ℕ, _*_, _≤_, _<_, mul-le-mul, arith, T, leb, leb→le, ℤ, pos, negsuc, natAbs, nonNeg}
 use Rattle.semantics.specs.Layout.{most-slots, most-iterations}
 use Rattle.semantics.specs.Encoding.{decode, well-formed}
@@ -20,7 +21,7 @@ module _ (ws : List ℤ) (ok : T (well-formed ws)) (y : Layout) (o : LayoutOf (d
   words-fit r h =
       let few : r ≤ 4294967296 = omega arith in
       let d : y .stride ≤ most-width = omega (arith, o .stride, narrow ws ok) in
-      let m : r * y .stride ≤ 4294967296 * 9 = mul-le-mul few d in
+      let m : r * y .stride ≤ 4294967296 * most-width = mul-le-mul few d in
       omega arith
 
 -- a capacity that 11 lets pass is a number from 1 to 256

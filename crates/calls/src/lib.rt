@@ -47,8 +47,14 @@ fn go_through(a: Analysis) -> Called
 }
 
 // 11, 12, 20, 14: the first that refuses a start, or 0.
-fn start_refusal(chart: &[i32], settings: Settings, capacity: i32, table: usize, list: usize) -> u32
-    ensures { λ r. ⌜ r ≡ refusal (start-cases settings capacity (size-of (now (chart .entry)) (natAbs capacity) table list)) ⌝ }
+fn start_refusal(
+    chart: &[i32],
+    settings: Settings,
+    capacity: i32,
+    table_length: usize,
+    list_length: usize,
+) -> u32
+    ensures { λ r. ⌜ r ≡ refusal (start-cases settings capacity (size-of (now (chart .entry)) (natAbs capacity) «table_length» «list_length»)) ⌝ }
 {
     if !checks::capacity_ok(capacity) {
         return 11;
@@ -58,7 +64,7 @@ fn start_refusal(chart: &[i32], settings: Settings, capacity: i32, table: usize,
     if !checks::is_allowed(merge, stop) {
         return 12;
     }
-    checks::size_refusal(chart, capacity as u32, table, list)
+    checks::size_refusal(chart, capacity as u32, table_length, list_length)
 }
 
 // 13, 20, 14, 21, 22, 23: the first that refuses a run, or 0.
@@ -112,7 +118,7 @@ fn begin(
     ensures { λ r. ⌜ ((last : ℕ) → Loaded layout last r (now (table .exit)) (now (list .exit)) (start (domain-of (now (chart .entry))) settings capacity (initial-row (now (chart .entry))))) ⌝ }
 {
     let width = layout.width();
-    let mut row = [0i32; semantics::MOST_WIDTH];
+    let mut row = [0i32; state::MOST_WIDTH];
     begin_with(
         chart,
         layout,

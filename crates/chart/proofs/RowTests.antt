@@ -10,13 +10,13 @@ use Rattle.semantics.specs.Memory.{below, zeros}
 use Rattle.semantics.proofs.ConstantValues.{and-left, and-right, and-true, and-assoc}
 use Rattle.semantics.proofs.MemoryInForm.{word-back}
 use Rattle.semantics.proofs.MemoryOf.{both-true}
-use Rattle.words.proofs.Words.{eqZ-refl, eqZ-sym}
+use Rattle.words.proofs.Words.{eqZ-self, eqZ-sym}
 use Rattle.chart.specs.Encoded.{name-word, location-fine, operand-fine, ranged, two-fine, one-fine, input-fine, operands-fine, operation-fine, edge-fine, at-most}
 use Rattle.chart.proofs.Rows.{iff, interchange}
 
 -- a word is the number that it says where it is not below 0
 pub said : (z : ℤ) → eqZ (pos (natAbs z)) z ≡ nonNeg z
-said (pos n) = eqZ-refl (pos n)
+said (pos n) = eqZ-self (pos n)
 said (negsuc n) = refl
 
 -- ---- a variable
@@ -25,7 +25,7 @@ pub var-row : (r : List ℤ) → variable-size ≤ length r → begins-with (var
 var-row [] h = absurd (omega arith)
 var-row (a ∷ []) h = absurd (omega arith)
 var-row (a ∷ b ∷ []) h = absurd (omega arith)
-var-row (a ∷ b ∷ c ∷ r) h = rw (word-back c, eqZ-refl a, eqZ-refl b, eqZ-refl c)
+var-row (a ∷ b ∷ c ∷ r) h = rw (word-back c, eqZ-self a, eqZ-self b, eqZ-self c)
 
 -- ---- a location
 
@@ -39,7 +39,7 @@ kind-row k = go (eqZ k (pos 0)) (eqZ k (pos 1)) refl refl where
 
 byte-row : (z : ℤ) → name-word z ≡ eqZ (pos (natAbs z)) z && name-byte (natAbs z)
 unfolding name-word name-byte
-byte-row (pos n) = rw (eqZ-refl (pos n))
+byte-row (pos n) = rw (eqZ-self (pos n))
 byte-row (negsuc n) = refl
 
 begins-zeros : (m : ℕ) (ws : List ℤ) → m ≤ length ws → begins-with (replicate m (pos 0)) ws ≡ zeros (take m ws)
@@ -126,7 +126,7 @@ module _ (vars : List Var) (vw : List ℤ) (in-words : (k : ℕ) (z : ℤ) → k
   unfolding operand-fine
   operand-row a x = go (eqZ a (pos 0)) refl where
     go : (u : Bool) → eqZ a (pos 0) ≡ u → eqZ (tag (pick u (num x) (var (natAbs x)))) a && eqZ (operand-word (pick u (num x) (var (natAbs x)))) x && operand-ok vars (pick u (num x) (var (natAbs x))) ≡ pick u (small x) (eqZ a (pos 1) && below (length vars) x)
-    go true e = rw (eqZ-sym (pos 0) a, e, eqZ-refl x)
+    go true e = rw (eqZ-sym (pos 0) a, e, eqZ-self x)
     go false e = rw (eqZ-sym (pos 1) a, said x) (sym (and-assoc (eqZ a (pos 1)) (nonNeg x) (ltb (natAbs x) (length vars))))
 
   module _ (t a x b y : ℤ) (ws : List ℤ) where
@@ -151,7 +151,7 @@ module _ (vars : List Var) (vw : List ℤ) (in-words : (k : ℕ) (z : ℤ) → k
     input-row : (eqZ (pos (natAbs t)) t && (eqZ (pos 0) a && (eqZ x x && (eqZ (pos 0) b && (eqZ y y && true))))) && op-ok vars (input (natAbs t) x y)
         ≡ below (length vars) t && (eqZ a (pos 0) && eqZ b (pos 0) && small x && ranged vw (natAbs t) x && small y && ranged vw (natAbs t) y && leZ x y)
     input-row =
-        rw (eqZ-refl x, eqZ-refl y, eqZ-sym (pos 0) a, eqZ-sym (pos 0) b, said t)
+        rw (eqZ-self x, eqZ-self y, eqZ-sym (pos 0) a, eqZ-sym (pos 0) b, said t)
         (shuffle-input (nonNeg t) (eqZ a (pos 0)) (eqZ b (pos 0)) (ltb (natAbs t) (length vars)) (small x) (in-range vars (natAbs t) x) (small y) (in-range vars (natAbs t) y) (leZ x y)
         ∙ guarded (nonNeg t) (ltb (natAbs t) (length vars)) _ _ (λ h. rw (in-words (natAbs t) x (ltb→lt (natAbs t) (length vars) h), in-words (natAbs t) y (ltb→lt (natAbs t) (length vars) h))))
 

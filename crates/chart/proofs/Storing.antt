@@ -1,7 +1,7 @@
 -- What is left where a row was stored, and a name's bytes stored one by one. Assumes nothing.
-use Rattle.semantics.proofs.Prelude.{_≡_, refl, sym, _∙_, List, _++_, append-assoc, map, ℕ, zero, suc, _+_, _-_, _≤_, _<_, sub-zero, zero-sub, suc-sub-suc, add-one, length, getD, take, drop, set, replicate, length-append, length-map, ℤ, pos, drop-cons, drop-drop, take-suc-set, append-snoc}
+use Rattle.semantics.proofs.Prelude.{_≡_, refl, sym, _∙_, List, _++_, append-assoc, map, ℕ, suc, _+_, _≤_, _<_, add-one, length, getD, take, drop, set, replicate, length-append, length-map, ℤ, pos, drop-cons, drop-drop, take-suc-set, append-snoc}
 use Rattle.semantics.specs.Encoding.{padded}
-use Rattle.words.proofs.Rows.{take-put, drop-put}
+use Rattle.words.proofs.Rows.{drop-zeros, take-put, drop-put}
 use Rattle.chart.specs.Rows.{stored}
 
 stored-is : (at : ℕ) (row ws : List ℤ) → stored at row ws ≡ take at ws ++ (row ++ drop (length row) (drop at ws))
@@ -29,11 +29,6 @@ pub bytes-turn : (i : ℕ) (row : List ℤ) (name : List ℕ) → i < length row
 bytes-turn i row name r n =
     rw (add-one i, drop-cons name i 0 n, take-suc-set row i (pos (getD name i 0)) r) (append-snoc (take i row) (pos (getD name i 0)) (map pos (drop (suc i) name)))
 
-pub zeros-left : (k n : ℕ) → drop k (replicate n (pos 0)) ≡ replicate (n - k) (pos 0)
-zeros-left zero n = rw (sub-zero n)
-zeros-left (suc k) zero = rw (zero-sub (suc k))
-zeros-left (suc k) (suc n) = rw (suc-sub-suc n k) (zeros-left k n)
-
 -- a name's words over zeros
 pub name-over : (n : ℕ) (name : List ℕ) → map pos name ++ drop (length name) (replicate n (pos 0)) ≡ padded n (map pos name)
-name-over n name = rw (zeros-left (length name) n, length-map name pos)
+name-over n name = rw (drop-zeros (length name) n, length-map name pos)

@@ -10,14 +10,9 @@ use Rattle.semantics.specs.Memory.{Memory, value-ok, below, width, row-ok, rows
 use Rattle.semantics.specs.Outcomes.{too-few}
 use Rattle.semantics.proofs.Decoded.{vars-count, locs-count, edges-count}
 use Rattle.semantics.proofs.FirstCase as first
+use Rattle.chart.proofs.Rows.{interchange}
 use Rattle.state.specs.Rows.{location-word, values-of}
 use Rattle.checks.specs.Form.{lent, InForm}
-
-crossed : (p a q e : Bool) → (p && a) && (q && e) ≡ (p && q) && (a && e)
-crossed true true q e = refl
-crossed true false true e = refl
-crossed true false false e = refl
-crossed false a q e = refl
 
 -- ---- turns of the loops: the test at i, which says b, and what is left after it
 
@@ -30,7 +25,7 @@ module _ (l : List ℤ) (i : ℕ) (h : i < length l) (b : Bool) where
       (all (below n) (drop i l) && each-once (drop i l)) ≡ b && (all (below n) (drop (i + 1) l) && each-once (drop (i + 1) l))
   waits-turn n e =
       rw (add-one i, drop-cons l i (pos 0) h)
-      (crossed (below n word) (all (below n) (drop (suc i) l)) (not (some-of (eqZ word) (drop (suc i) l))) (each-once (drop (suc i) l)) ∙ ap (λ (x : Bool). x && (all (below n) (drop (suc i) l) && each-once (drop (suc i) l))) (rw add-one at e))
+      (interchange (below n word) (all (below n) (drop (suc i) l)) (not (some-of (eqZ word) (drop (suc i) l))) (each-once (drop (suc i) l)) ∙ ap (λ (x : Bool). x && (all (below n) (drop (suc i) l) && each-once (drop (suc i) l))) (rw add-one at e))
 
   -- a value, and its variable's words at `at`
   pub values-turn : (ws : List ℤ) (at n : ℕ) → (eqZ word top-word || within (word-at ws at) (word-at ws (at + high-place)) word) ≡ b →

@@ -201,12 +201,12 @@ pub fn budget_ok(budget: i32) -> bool
 }
 
 // Fewer words are lent than the capacity takes (14).
-fn too_few(layout: Layout, capacity: u32, table: usize, list: usize) -> bool
+fn too_few(layout: Layout, capacity: u32, table_length: usize, list_length: usize) -> bool
     requires { ⌜ layout .stride ≤ index-limit ⌝ }
-    ensures { λ r. ⌜ r ≡ (ltb table (capacity * layout .stride) || ltb list capacity) ⌝ }
+    ensures { λ r. ⌜ r ≡ (ltb «table_length» (capacity * layout .stride) || ltb «list_length» capacity) ⌝ }
 {
     let slots = capacity as usize;
-    (table < slots * layout.stride) | (list < slots)
+    (table_length < slots * layout.stride) | (list_length < slots)
 }
 
 // Form rule 21. That the words lent are enough (14) is judged before.
@@ -220,13 +220,13 @@ fn analysis_ok(chart: &[i32], layout: Layout, table: &[i32], list: &[i32], a: An
 // ---- the refusals that calls share
 
 // 20, 14: the first that refuses a call with a capacity and so many table and list words, or 0.
-pub fn size_refusal(chart: &[i32], capacity: u32, table: usize, list: usize) -> u32
-    ensures { λ r. ⌜ r ≡ refusal (size-of (now (chart .entry)) capacity table list) ⌝ }
+pub fn size_refusal(chart: &[i32], capacity: u32, table_length: usize, list_length: usize) -> u32
+    ensures { λ r. ⌜ r ≡ refusal (size-of (now (chart .entry)) capacity «table_length» «list_length») ⌝ }
 {
     if !chart::well_formed(chart) {
         return 20;
     }
-    if too_few(state::layout_of(chart), capacity, table, list) {
+    if too_few(state::layout_of(chart), capacity, table_length, list_length) {
         return 14;
     }
     0

@@ -1,5 +1,5 @@
 -- The listing's text piece by piece: lines as their fields, and what one turn of each loop adds. Assumes nothing.
-use Rattle.semantics.proofs.Prelude.{_≡_, refl, sym, ap, subst, _∙_, Bool, true, false, _||_, or-true, or-false, List, [], _∷_, _++_, map, append-assoc, ℕ, zero, suc, _+_, _-_, _≤_, _<_, add-one, arith, eqb-true, eqb-false, T, eqb, leb→le, ℤ, pos, natAbs, length, getD, set, take, drop, replicate, getD-replicate, length-set, length-replicate, drop-cons, drop-drop, getD-set-same, getD-set-other}
+use Rattle.semantics.proofs.Prelude.{_≡_, refl, sym, ap, subst, _∙_, Bool, true, false, _||_, or-true, or-false, List, [], _∷_, _++_, map, append-assoc, ℕ, suc, _+_, _≤_, _<_, add-one, arith, eqb-true, eqb-false, T, eqb, leb→le, ℤ, pos, natAbs, length, getD, set, take, drop, replicate, getD-replicate, length-set, length-replicate, drop-cons, drop-drop, getD-set-same, getD-set-other}
 use Rattle.semantics.specs.Lists.{some-of, each}
 use Rattle.semantics.specs.Text.{bytes, decimal, line-of}
 use Rattle.semantics.specs.Chart.{Chart}
@@ -53,11 +53,6 @@ pub slots-turn : (c : Chart) (wa : List ℕ) (w from s n : ℕ) (t : List ℤ)
 slots-turn c wa w from s n t = rw (add-one, ← drop-drop w from t)
 
 -- ---- the marks
-
-pub set-past : (ms : List Bool) (k : ℕ) (b : Bool) → length ms ≤ k → ms ≡ set ms k b
-set-past [] k b h = refl
-set-past (m ∷ ms) zero b h = absurd (omega arith)
-set-past (m ∷ ms) (suc k) b h = ap (λ (l : List Bool). m ∷ l) (set-past ms k b (omega arith))
 
 pub marks-turn : (ms : List Bool) (l : List ℤ) (i : ℕ) → i < length l → marked ms (map natAbs (drop i l)) ≡ marked (set ms (count l i) true) (map natAbs (drop (i + 1) l))
 unfolding marked

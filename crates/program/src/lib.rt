@@ -25,7 +25,7 @@ mod go_line;
 // The words lent suffice for every chart and every capacity: 3,163, 2,304 and 256.
 const CHART_SIZE: usize = chart::CHART_SIZE;
 
-const TABLE_SIZE: usize = semantics::MOST_SLOTS * semantics::MOST_WIDTH;
+const TABLE_SIZE: usize = semantics::MOST_SLOTS * state::MOST_WIDTH;
 
 const LIST_SIZE: usize = semantics::MOST_SLOTS;
 

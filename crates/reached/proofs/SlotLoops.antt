@@ -1,22 +1,16 @@
 -- The turns of the loops over the slots. Assumes nothing.
-use Rattle.semantics.proofs.Prelude.{_≡_, Bool, true, false, List, ℕ, suc, _+_, _≤_, _<_, ℤ, arith, length, take, drop, drop-drop}
+use Rattle.semantics.proofs.Prelude.{_≡_, Bool, true, false, List, ℕ, suc, _+_, _<_, ℤ, take, drop, drop-drop}
 use Rattle.semantics.specs.Lists.{some-of}
 use Rattle.semantics.specs.Tidy.{Queue}
 use Rattle.semantics.proofs.Tidy.{wait-queue}
 use Rattle.state.specs.declared.Layout.{Layout}
-use Rattle.state.specs.Rows.{width-of, row-leq, rows-of, Laid}
-use Rattle.state.proofs.Slots.{OnSlot, slot-in}
+use Rattle.state.specs.Rows.{width-of, row-leq, rows-of}
 use Rattle.waitlist.specs.Waits.{wait-unless}
 
 -- the state of the slot at a is tested, and the slots after it are left
 pub some-turn : (e t : List ℤ) (y : Layout) (a k : ℕ) (b : Bool) → row-leq e (take (width-of y) (drop a t)) ≡ b
     → some-of (row-leq e) (rows-of y (suc k) (drop a t)) ≡ elim b [ true ↦ true | false ↦ some-of (row-leq e) (rows-of y k (drop (a + y .stride) t)) ]
 some-turn e t y a k b h = let d = drop-drop (y .stride) a t in λ i. elim (h i) [ true ↦ true | false ↦ some-of (row-leq e) (rows-of y k (d i)) ]
-
--- the part of the slot at a that is its state
-module _ {y : Layout} {n : ℕ} {e t : List ℤ} (g : Laid y n e t) {a s : ℕ} (o : OnSlot (y .stride) n a s) (h : s < n) where
-  pub state-in : (t′ : List ℤ) → length t′ ≡ length t → a + length e ≤ length t′
-  state-in t′ l = omega (arith, slot-in o h t (g .table), g .row, g .apart, l)
 
 pub unless-queue : (b : Bool) (n k : ℕ) (wa : List ℕ) → k < n → Queue n wa → Queue n (wait-unless b k wa)
 unless-queue true n k wa l q = q

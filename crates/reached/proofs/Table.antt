@@ -2,7 +2,7 @@
 use Rattle.semantics.proofs.Prelude.{_≡_, refl, sym, ap, _∙_, List, [], _∷_, _++_, map, append-assoc, some, ℕ, zero, suc, _+_, _-_, _*_, _≤_, _<_, suc-mul, add-comm, add-one, arith, ℤ, pos, length, take, drop, replicate, length-drop, take-at, drop-at, drop-drop, take-add, take-take, take-append-le, length-take-le}
 use Rattle.semantics.specs.Lists.{get}
 use Rattle.semantics.specs.Tidy.{Every, Queue}
-use Rattle.words.proofs.Rows.{put-here, drop-put}
+use Rattle.words.proofs.Rows.{drop-zeros, put-here, drop-put}
 use Rattle.state.specs.declared.Layout.{Layout}
 use Rattle.state.specs.Rows.{width-of, row-merge, slot-merge, rows-merge, rows-of, same-words}
 use Rattle.state.proofs.RowLoops.{length-row-merge}
@@ -81,11 +81,6 @@ module _ (y : Layout) where
           let f = fits-next n t h in
           let rest = rows-merge e y n (drop d t) in
           drop-next n (slot-merge e y t ++ rest) ∙ rw (drop-at (slot-merge e y t) rest d (slot-size t (f .0))) (drop-merged n (drop d t) (f .1) ∙ sym (drop-next n t))
-
-drop-zeros : (k m : ℕ) → drop k (replicate m (pos 0)) ≡ replicate (m - k) (pos 0)
-drop-zeros zero m = let z : m - 0 ≡ m = omega arith in rw z
-drop-zeros (suc k) zero = let z : 0 - suc k ≡ 0 = omega arith in rw z
-drop-zeros (suc k) (suc m) = let z : suc m - suc k ≡ m - k = omega arith in rw z (drop-zeros k m)
 
 -- a state stored at the next slot
 module _ (y : Layout) (n : ℕ) (t e : List ℤ) (fits : n * y .stride + y .stride ≤ length t) (apart : width-of y ≤ y .stride) (len : length e ≡ width-of y) where

@@ -1,25 +1,20 @@
 -- The turns of the loops over the words of a row. Assumes nothing.
-use Rattle.semantics.proofs.Prelude.{_≡_, refl, ap, Bool, true, false, _&&_, List, [], _∷_, _++_, append-nil, ℕ, suc, _+_, _≤_, _<_, add-one, arith, ℤ, pos, length, take, drop, set, drop-of-length-le, drop-cons, take-all, take-suc-set, drop-set-lt, append-snoc}
+use Rattle.semantics.proofs.Prelude.{_≡_, refl, sym, ap, Bool, true, false, _&&_, and-assoc, and-true, List, [], _∷_, _++_, append-nil, ℕ, suc, _+_, _≤_, _<_, add-one, arith, ℤ, pos, length, take, drop, set, drop-of-length-le, drop-cons, take-all, take-suc-set, drop-set-lt, append-snoc}
 use Rattle.semantics.specs.Lists.{pick}
 use Rattle.semantics.specs.Chart.{eqZ}
 use Rattle.semantics.specs.Encoding.{word-at}
-use Rattle.semantics.proofs.ConstantValues.{and-true}
-use Rattle.words.proofs.Words.{eqZ-refl}
+use Rattle.words.proofs.Words.{eqZ-self}
 use Rattle.state.specs.Rows.{values-of, word-leq, word-join, words-leq, words-join, same-words, same-place, row-join, row-merge}
-
-and-assoc : (a b c : Bool) → a && (b && c) ≡ (a && b) && c
-and-assoc true b c = refl
-and-assoc false b c = refl
 
 pub same-refl : (s : List ℤ) → same-words s s ≡ true
 same-refl [] = refl
-same-refl (y ∷ s) = rw (eqZ-refl y, same-refl s)
+same-refl (y ∷ s) = rw (eqZ-self y, same-refl s)
 
 -- what is left from place i on; s may be changed at i meanwhile
 module _ (e s : List ℤ) (i : ℕ) (he : i < length e) (hs : i < length s) where
   pub leq-turn : (t : Bool) → t && words-leq (drop i e) (drop i s)
       ≡ (t && word-leq (word-at e i) (word-at s i)) && words-leq (drop (i + 1) e) (drop (i + 1) s)
-  leq-turn t = rw (add-one, drop-cons e i (pos 0), drop-cons s i (pos 0)) (and-assoc t _ _)
+  leq-turn t = rw (add-one, drop-cons e i (pos 0), drop-cons s i (pos 0)) (sym (and-assoc t _ _))
 
   module _ (v : ℤ) (q : v ≡ word-join (word-at e i) (word-at s i)) where
     kept : drop (suc i) (set s i v) ≡ drop (suc i) s
@@ -30,7 +25,7 @@ module _ (e s : List ℤ) (i : ℕ) (he : i < length e) (hs : i < length s) wher
 
     pub same-turn : (t : Bool) → t && same-words (words-join (drop i e) (drop i s)) (drop i s)
         ≡ (t && eqZ v (word-at s i)) && same-words (words-join (drop (i + 1) e) (drop (i + 1) (set s i v))) (drop (i + 1) (set s i v))
-    same-turn t = rw (add-one, kept, drop-cons e i (pos 0), drop-cons s i (pos 0), q) (and-assoc t _ _)
+    same-turn t = rw (add-one, kept, drop-cons e i (pos 0), drop-cons s i (pos 0), q) (sym (and-assoc t _ _))
 
 module _ (e s : List ℤ) (i : ℕ) (he : length e ≤ i) (hs : length s ≤ i) where
   pub leq-end : (t : Bool) → t && words-leq (drop i e) (drop i s) ≡ t
@@ -45,7 +40,7 @@ module _ (e s : List ℤ) (i : ℕ) (he : length e ≤ i) (hs : length s ≤ i) 
 -- nothing done yet
 pub same-start : (e s : List ℤ) → 0 < length s → same-words (row-join e s) s ≡ same-words (words-join (values-of e) (values-of s)) (values-of s)
 same-start e [] n = absurd (omega arith)
-same-start e (y ∷ s) n = rw (eqZ-refl y)
+same-start e (y ∷ s) n = rw (eqZ-self y)
 
 -- ---- lengths
 

@@ -9,7 +9,7 @@ use lib.IntN.{ℤ, pos, natAbs}
 use lib.ListN.{length, take, drop, set}
 use Rattle.semantics.specs.Lists.{pick, all-pairs}
 use Rattle.semantics.specs.Chart.{eqZ}
-use Rattle.semantics.specs.Layout.{top-word}
+use Rattle.semantics.specs.Layout.{most-variables, top-word}
 use Rattle.semantics.specs.Encoding.{word-at, count}
 use Rattle.semantics.specs.Algorithm.{Domain, Step}
 use Rattle.state.specs.declared.Layout.{Layout}
@@ -28,9 +28,9 @@ value-size = 1
 abbrev pub width-of : Layout → ℕ
 width-of l = l .head + l .value * l .variables
 
--- the most words of a state, at 8 variables
+-- the most words of a state
 abbrev pub most-width : ℕ
-most-width = 9
+most-width = head-size + value-size * most-variables
 
 -- the tables of an encoded chart: slot follows slot
 abbrev pub layout-of : List ℤ → Layout

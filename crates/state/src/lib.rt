@@ -17,6 +17,9 @@ const HEAD: usize = 1;
 // The words of a variable.
 const VALUE: usize = 1;
 
+// The most words of a state.
+pub const MOST_WIDTH: usize = HEAD + VALUE * semantics::MOST_VARIABLES;
+
 // How the states of a table stand in its words. A slot begins `stride` words after the one before it; its state is the
 // first words of it, `width` of them.
 pub struct Layout {

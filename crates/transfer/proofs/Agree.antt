@@ -15,7 +15,7 @@ use Rattle.semantics.proofs.StatesOk.{StateOk, join-ok, bounds, keeps, initial-
 use Rattle.semantics.proofs.Encoded.{well-formed-split}
 use Rattle.semantics.proofs.Simulate.{AllPairs, StepR, Agree}
 use Rattle.words.proofs.Words.{eqZ-sym}
-use Rattle.state.specs.Rows.{id-word, word-leq, word-join, words-join, same-words, same-place, row-leq, row-join, join-of, leq-join-of, row-domain}
+use Rattle.state.specs.Rows.{word-limit, id-word, word-leq, word-join, words-join, same-words, same-place, row-leq, row-join, join-of, leq-join-of, row-domain}
 use Rattle.state.proofs.Layouts.{id-fits}
 use Rattle.transfer.specs.Transfer.{edge-at, edges-from, post-at, post-words, error-row, initial-row}
 use Rattle.transfer.proofs.Places.{edge-word, error-is, initial-is}
@@ -153,7 +153,7 @@ module _ (c : Chart) (ok : T (chart-ok c)) (rest : List ℤ) where
       let z : i ≡ i + from-place = omega arith in
       let read = edge-word c ok rest n g a in
       let from : count ws i ≡ g .from = ap (count ws) z ∙ ap natAbs (read from-place (omega arith)) in
-      let few : g .to < 2147483648 = omega (arith, bounds c ok .few-locs, ltb→lt (g .to) (length (c .locs)) (search (and-left, and-right))) in
+      let few : g .to < word-limit = omega (arith, bounds c ok .few-locs, ltb→lt (g .to) (length (c .locs)) (search (and-left, and-right))) in
       let there : id-word (count ws (i + to-place)) ≡ pos (g .to) = ap id-word (ap natAbs (read to-place (omega arith))) ∙ id-fits (g .to) few in
       let u : T (op-ok (c .vars) (g .op)) = search (and-left, and-right) in
       rw (from, there, effect-is c ok rest (pos (g .to)) (f .vals) (plain-of c ok f h) i (pos (g .from)) (pos (g .to)) (g .op) u read) (go (eqb (g .from) (f .loc)))

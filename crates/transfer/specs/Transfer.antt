@@ -6,6 +6,8 @@ use Prim.Native.Nat.{ℕ, zero, suc, _+_, _*_}
 use lib.Dec.{eqb}
 use lib.IntN.{ℤ, pos, natAbs, _+ℤ_, _-ℤ_}
 use lib.Signed.{leZ, ltZ}
+use Rattle.semantics.specs.declared.Arithmetic.{Arithmetic}
+use Rattle.semantics.specs.declared.Arithmetic.the-variants.{Add, Sub}
 use Rattle.semantics.specs.Lists.{pick}
 use Rattle.semantics.specs.Chart.{eqZ, within}
 use Rattle.semantics.specs.Algorithm.{Step, halt, fault, to}
@@ -34,6 +36,11 @@ edges-from g zero = []
 edges-from g (suc n) = g ∷ edges-from (suc g) n
 
 -- ---- values
+
+-- what an operation makes of two numbers
+abbrev pub result-by : Arithmetic → ℤ → ℤ → ℤ
+result-by Add a b = a +ℤ b
+result-by Sub a b = a -ℤ b
 
 -- an operand by its tag and its own word: a number, or the word of a variable
 abbrev pub operand-by : ℤ → ℤ → List ℤ → ℤ

@@ -1,15 +1,15 @@
 // The transfer of an edge of the encoded chart on a row of words, the test of an error location, and the initial row.
 use chart::Edge;
+use semantics::Arithmetic;
 use semantics::LocationId;
 ghost use mathlib.Core.Path.{_≡_};
 ghost use Prim.Native.Nat.{_+_, _<_};
-ghost use lib.IntN.{_+ℤ_, _-ℤ_};
 ghost use lib.ListN.{length};
 ghost use Rattle.semantics.specs.Chart.{within};
 ghost use Rattle.semantics.specs.Layout.{operation-place, index-limit};
 ghost use Rattle.semantics.specs.Encoding.{count};
 ghost use Rattle.state.specs.Rows.{layout-of, width-of};
-ghost use Rattle.transfer.specs.Transfer.{step-of, operand-by, first-at, second-at, set-ranged, set-value, assign-at, set-result, both-at, input-at, holds-by, refine-by, assume-at, op-by, post-at, error-row, initial-row};
+ghost use Rattle.transfer.specs.Transfer.{step-of, result-by, operand-by, first-at, second-at, set-ranged, set-value, assign-at, set-result, both-at, input-at, holds-by, refine-by, assume-at, op-by, post-at, error-row, initial-row};
 
 // What a transfer answers, as the rules' `Step`: no successor, document 01's halt among them; a fault, which comes with
 // request 2.1; or a successor, which stands in the row lent.
@@ -21,16 +21,14 @@ pub enum Move {
 
 // ---- values
 
-fn sum(a: i32, b: i32) -> i64
-    ensures { λ r. ⌜ r ≡ a +ℤ b ⌝ }
+// What the operation makes of two numbers.
+fn result(s: Arithmetic, a: i32, b: i32) -> i64
+    ensures { λ r. ⌜ r ≡ result-by s a b ⌝ }
 {
-    (a as i64) + (b as i64)
-}
-
-fn difference(a: i32, b: i32) -> i64
-    ensures { λ r. ⌜ r ≡ a -ℤ b ⌝ }
-{
-    (a as i64) - (b as i64)
+    match s {
+        Arithmetic::Add => (a as i64) + (b as i64),
+        Arithmetic::Sub => (a as i64) - (b as i64),
+    }
 }
 
 fn lies_within(lo: i32, hi: i32, z: i64) -> bool
@@ -118,22 +116,13 @@ fn put_result(chart: &[i32], edge: Edge, a: i32, b: i32, z: i64, row: &mut [i32]
     put_value(chart, k, (a == words::TOP) | (b == words::TOP), z, row)
 }
 
-fn add(chart: &[i32], edge: Edge, row: &mut [i32]) -> Move
+fn compute(chart: &[i32], edge: Edge, s: Arithmetic, row: &mut [i32]) -> Move
     requires { ⌜ edge .at < index-limit ⌝ }
-    ensures { λ r. ⌜ step-of r (now (row .exit)) ≡ both-at _+ℤ_ (now (chart .entry)) (edge .at) (now (row .entry)) ⌝ }
+    ensures { λ r. ⌜ step-of r (now (row .exit)) ≡ both-at (result-by s) (now (chart .entry)) (edge .at) (now (row .entry)) ⌝ }
 {
     let a = first_operand(chart, edge, row);
     let b = second_operand(chart, edge, row);
-    put_result(chart, edge, a, b, sum(a, b), row)
-}
-
-fn sub(chart: &[i32], edge: Edge, row: &mut [i32]) -> Move
-    requires { ⌜ edge .at < index-limit ⌝ }
-    ensures { λ r. ⌜ step-of r (now (row .exit)) ≡ both-at _-ℤ_ (now (chart .entry)) (edge .at) (now (row .entry)) ⌝ }
-{
-    let a = first_operand(chart, edge, row);
-    let b = second_operand(chart, edge, row);
-    put_result(chart, edge, a, b, difference(a, b), row)
+    put_result(chart, edge, a, b, result(s, a, b), row)
 }
 
 // A value from p up to q: known only where they are the same.
@@ -204,8 +193,8 @@ fn apply(chart: &[i32], edge: Edge, row: &mut [i32]) -> Move
     match n {
         chart::SKIP_CODE => Move::Successor,
         chart::SET_CODE => assign(chart, edge, row),
-        chart::ADD_CODE => add(chart, edge, row),
-        chart::SUB_CODE => sub(chart, edge, row),
+        chart::ADD_CODE => compute(chart, edge, Arithmetic::Add, row),
+        chart::SUB_CODE => compute(chart, edge, Arithmetic::Sub, row),
         chart::IN_CODE => input(chart, edge, row),
         _ => assume(chart, n, edge, row),
     }

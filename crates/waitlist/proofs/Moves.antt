@@ -1,11 +1,12 @@
 -- Laws of the waitlist's words that move: the front taken or put, the last taken, a slot taken out. Assumes nothing.
 use Rattle.semantics.proofs.Prelude.{_≡_, refl, sym, ap, _∙_, Bool, true, false, List, [], _∷_, _++_, map, append-assoc, append-nil, some, ℕ, zero, suc, _+_, _-_, _≤_, _<_, add-one, arith, eqb, ℤ, pos, length, take, drop, getD, set, replicate, length-map, length-append, length-replicate, length-set, drop-of-length-le, take-append-drop, replicate-append-replicate, take-at, drop-at, drop-cons, set-at, append-snoc, take-suc, take-suc-set, drop-set-lt, getD-drop, getD-at, take-all, length-take-le}
+use mathlib.Core.List.{map-append}
 use Rattle.semantics.specs.Chart.{eqZ}
 use Rattle.semantics.specs.declared.Order.the-variants.{Old, New}
 use Rattle.semantics.specs.Algorithm.{without, take-last, later}
 use Rattle.words.proofs.Words.{eqZ-sym}
 use Rattle.waitlist.specs.Waits.{Stored, pushed, shifted, others, next-place, kept-at, TakenFrom}
-use Rattle.waitlist.proofs.WaitWords.{waits-are, kept, map-append, front, back}
+use Rattle.waitlist.proofs.WaitWords.{waits-are, kept, front, back}
 use Rattle.semantics.specs.Lists.{pick}
 
 -- ---- the loops' turns
@@ -161,8 +162,8 @@ put-others {l} {n} {wa} k l′ r p len h t d = record { count = sym count; fits 
 
 -- the loop: A the words kept, then d zeros, then the words from i on
 module _ (k : ℤ) (A R : List ℤ) (d j i : ℕ) (x : ℤ) (la : length A ≡ j) (li : j + d ≡ i) where
-  word-at : getD (A ++ (replicate d (pos 0) ++ (x ∷ R))) i (pos 0) ≡ x
-  word-at = rw (← append-assoc) (getD-at (A ++ replicate d (pos 0)) x R (pos 0) i (simp (length-append, length-replicate) (omega arith)))
+  word-next : getD (A ++ (replicate d (pos 0) ++ (x ∷ R))) i (pos 0) ≡ x
+  word-next = rw (← append-assoc) (getD-at (A ++ replicate d (pos 0)) x R (pos 0) i (simp (length-append, length-replicate) (omega arith)))
 
   cleared : set (A ++ (replicate d (pos 0) ++ (x ∷ R))) i (pos 0) ≡ A ++ (replicate (suc d) (pos 0) ++ R)
   cleared =
@@ -209,7 +210,7 @@ module _ (k : ℤ) (l₀ : List ℤ) (n : ℕ) (l : List ℤ) (j i : ℕ) (s : R
   whole = s .form ∙ ap (λ (z : List ℤ). take j l ++ (replicate (i - j) (pos 0) ++ z)) next
 
   pub word-here : getD l i (pos 0) ≡ getD l₀ i (pos 0)
-  word-here = ap (λ (z : List ℤ). getD z i (pos 0)) whole ∙ word-at k A R (i - j) j i x la ld
+  word-here = ap (λ (z : List ℤ). getD z i (pos 0)) whole ∙ word-next k A R (i - j) j i x la ld
 
   clear : set l i (pos 0) ≡ A ++ (replicate (suc (i - j)) (pos 0) ++ R)
   clear = ap (λ (z : List ℤ). set z i (pos 0)) whole ∙ cleared k A R (i - j) j i x la ld

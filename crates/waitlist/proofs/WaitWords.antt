@@ -1,16 +1,14 @@
 -- Laws of the waitlist's words: what they hold, a word more, and room for a slot that does not wait. Assumes nothing.
 use Rattle.semantics.proofs.Prelude.{_≡_, refl, sym, ap, subst, _∙_, inl, inr, Bool, true, false, List, [], _∷_, _++_, map, ℕ, suc, _+_, _-_, _<_, arith, eqb, ℤ, pos, natAbs, length, take, drop, set, replicate, length-map, length-append, length-set, take-at, drop-at, set-at, append-snoc}
+use mathlib.Core.List.{map-append}
+use Rattle.semantics.specs.declared.Order.the-variants.{Old}
 use Rattle.semantics.specs.Chart.{eqZ}
 use Rattle.semantics.specs.Lists.{In, some-of}
 use Rattle.semantics.specs.Algorithm.{without}
 use Rattle.semantics.specs.Tidy.{Queue}
-use Rattle.semantics.proofs.Tidy.{without-in, without-not, without-distinct, some-not, queue-few}
+use Rattle.semantics.proofs.Tidy.{some-not, queue-few, back-queue}
 use Rattle.semantics.proofs.MemoryOf.{map-back}
 use Rattle.waitlist.specs.Waits.{waits, Stored}
-
-pub map-append : (a b : List ℕ) → map pos (a ++ b) ≡ map pos a ++ map pos b
-map-append [] b = refl
-map-append (x ∷ a) b = rw (map-append a b)
 
 module _ {l : List ℤ} {n : ℕ} {wa : List ℕ} (p : Stored l n wa) where
   count-words : length (map pos wa) ≡ n
@@ -62,8 +60,4 @@ queue-room n k w q h e = queue-few n (k ∷ w) (record { once = (some-not k w e,
 
 -- and so does one that was taken out
 pub back-room : (n k : ℕ) (w : List ℕ) → Queue n w → k < n → length (without k w) < n
-back-room n k w q h = queue-few n (k ∷ without k w) (record { once = (without-not k w, without-distinct k w (q .once)); used = used })
-  where
-    used : (j : ℕ) → In j (k ∷ without k w) → j < n
-    used j (inl p) = subst (λ (m : ℕ). m < n) (sym p) h
-    used j (inr i) = q .used j (without-in k j w i)
+back-room n k w q h = queue-few n (k ∷ without k w) (back-queue n Old k w h q)

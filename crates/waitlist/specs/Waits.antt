@@ -1,6 +1,6 @@
 -- The waitlist as lent words: the slot numbers, longest waiting first, then zeros. Assumes nothing.
 use mathlib.Core.Path.{_≡_}
-use mathlib.Core.Bool.{Bool, true, false}
+use mathlib.Core.Bool.{Bool}
 use mathlib.Core.List.{List, [], _∷_, _++_, map}
 use mathlib.Core.Option.{some}
 use Prim.Native.Nat.{ℕ, _+_, _-_, _≤_, _<_}
@@ -47,18 +47,15 @@ others k (x ∷ l) = pick (eqZ x k) (others k l) (x ∷ (others k l))
 
 -- the slot waits, unless its abstract state is the same as before
 abbrev pub wait-unless : Bool → ℕ → List ℕ → List ℕ
-wait-unless true k wa = wa
-wait-unless false k wa = wait k wa
+wait-unless b k wa = pick b wa (wait k wa)
 
 -- where the next word is kept: at j too if the Bool says that the word for j is dropped
 abbrev pub next-place : Bool → ℕ → ℕ
-next-place true j = j
-next-place false j = j + 1
+next-place b j = pick b j (j + 1)
 
 -- x kept at place j, unless the Bool says that it is dropped
 abbrev pub kept-at : Bool → List ℤ → ℕ → ℤ → List ℤ
-kept-at true l j x = l
-kept-at false l j x = set l j x
+kept-at b l j x = pick b l (set l j x)
 
 -- the slot k was taken by the order o from the slots wa, and the words l, n of them in use, hold the rest
 pub record TakenFrom (o : Order) (wa : List ℕ) (k : ℕ) (l : List ℤ) (n : ℕ) : Type 0 where

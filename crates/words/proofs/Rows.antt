@@ -8,6 +8,11 @@ drop-take (suc b) zero l = rw (zero-sub, drop-nil)
 drop-take (suc b) (suc a) [] = sym (take-nil (suc a - suc b))
 drop-take (suc b) (suc a) (x ∷ l) = rw suc-sub-suc (drop-take b a l)
 
+pub drop-zeros : (k n : ℕ) → drop k (replicate n (pos 0)) ≡ replicate (n - k) (pos 0)
+drop-zeros zero n = rw sub-zero
+drop-zeros (suc k) zero = rw zero-sub
+drop-zeros (suc k) (suc n) = rw suc-sub-suc (drop-zeros k n)
+
 -- the part of slot s: `&t[a..a + w]` has w words, where a is s * w
 pub span : (a w : ℕ) → a + w - a ≡ w
 span a w = omega arith

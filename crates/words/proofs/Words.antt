@@ -1,7 +1,10 @@
 -- Signed words: the machine's tests and casts, which go by bits, told of the whole numbers themselves. Assumes nothing.
 use Rattle.semantics.specs.Layout.{index-limit}
-use Rattle.semantics.proofs.Prelude.{_≡_, refl, sym, ap, subst, _∙_, Bool, true, false, cond, ℕ, zero, suc, _+_, _<_, _≤_, arith, lt-of-le-of-lt, zero-add, eqb, ltb, T, ℤ, pos, negsuc, natAbs, negℤ, _+ℤ_, _-ℤ_, nonNeg, mag, leZ, ltZ, Width, w32, w64, SFits, ofZ, toZ, toZ-ofZ, sfits-widen, sfits-lit, eqb-true, eq-eqb, ne-eqb, le-leb, leb-true, ltb-true}
+use Rattle.semantics.proofs.Prelude.{_≡_, refl, sym, ap, subst, _∙_, Bool, true, false, cond, ℕ, zero, suc, _+_, _<_, _≤_, arith, lt-of-le-of-lt, zero-add, eqb, ltb, T, ℤ, pos, negsuc, natAbs, negℤ, _+ℤ_, _-ℤ_, nonNeg, mag, leZ, ltZ, Width, w32, w64, SFits, ofZ, toZ, toZ-ofZ, sfits-widen, sfits-lit, eq-eqb, ne-eqb, le-leb, leb-true, ltb-true}
 use Rattle.semantics.specs.Chart.{eqZ}
+use Rattle.semantics.proofs.AtAndIn.{from-true}
+use Rattle.semantics.proofs.ConstantValues.{eqZ-same}
+use Rattle.semantics.proofs.MemoryOf.{to-true, eqZ-refl}
 
 -- the test for a sign
 pub from-zero : (z : ℤ) → leZ (pos 0) z ≡ nonNeg z
@@ -9,14 +12,10 @@ from-zero (pos n) = le-leb 0 n (omega arith)
 from-zero (negsuc n) = refl
 
 pub eqZ-true : (a b : ℤ) → eqZ a b ≡ true → a ≡ b
-eqZ-true (pos a) (pos b) e = ap pos (eqb-true a b e)
-eqZ-true (pos a) (negsuc b) e = absurd (subst T (sym e) tt)
-eqZ-true (negsuc a) (pos b) e = absurd (subst T (sym e) tt)
-eqZ-true (negsuc a) (negsuc b) e = ap negsuc (eqb-true a b e)
+eqZ-true a b e = eqZ-same a b (from-true e)
 
-pub eqZ-refl : (a : ℤ) → eqZ a a ≡ true
-eqZ-refl (pos a) = eq-eqb a a refl
-eqZ-refl (negsuc a) = eq-eqb a a refl
+pub eqZ-self : (a : ℤ) → eqZ a a ≡ true
+eqZ-self a = to-true (eqZ a a) (eqZ-refl a)
 
 pub eqZ-sym : (a b : ℤ) → eqZ a b ≡ eqZ b a
 eqZ-sym a b = by-case (eqZ a b) refl where
@@ -28,7 +27,7 @@ eqZ-sym a b = by-case (eqZ a b) refl where
     other false f = e ∙ sym f
 
 pub eq-eqZ : {a b : ℤ} → a ≡ b → eqZ a b ≡ true
-eq-eqZ {a} {b} e = subst (λ (z : ℤ). eqZ a z ≡ true) e (eqZ-refl a)
+eq-eqZ {a} {b} e = subst (λ (z : ℤ). eqZ a z ≡ true) e (eqZ-self a)
 
 pub ne-eqZ : {a b : ℤ} → (a ≡ b → ⊥) → eqZ a b ≡ false
 ne-eqZ {a} {b} h = by-case (eqZ a b) refl where
@@ -119,5 +118,5 @@ module _ {z x : ℤ} (fits : SFits w32 z) (same : z ≡ x) where
   pub told : toZ w32 (ofZ w32 z) ≡ x
   told = toZ-ofZ w32 z fits ∙ same
 
-  pub tested : {n : ℤ} → SFits w32 n → eqb (ofZ w32 z) (ofZ w32 n) ≡ eqZ x n
-  tested {n} f = bits-eqb w32 {a = z} {b = n} fits f ∙ ap (λ (y : ℤ). eqZ y n) same
+  pub told-eqb : {n : ℤ} → SFits w32 n → eqb (ofZ w32 z) (ofZ w32 n) ≡ eqZ x n
+  told-eqb {n} f = bits-eqb w32 {a = z} {b = n} fits f ∙ ap (λ (y : ℤ). eqZ y n) same

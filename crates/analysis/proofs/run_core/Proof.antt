@@ -1,11 +1,12 @@
 -- `analysis::run_core` meets its contract. Assumes nothing.
 use Rattle.semantics.proofs.Prelude.{arith, needs}
+use Rattle.semantics.specs.Layout.{most-locations, most-edges}
 use Rattle.analysis.proofs.Chaining.{unchained}
 use Rattle.analysis.proofs.run_core.Statement.{statement}
 use Rattle.analysis.proofs.run_core.Tie as tie
 
 chain-requires : tie.Need-chain-requires
-chain-requires c κs = let s = c .before .before .before in (unchained (s .args .chart .now) (s .args .edges) 64 256, s .pre .3)
+chain-requires c κs = let s = c .before .before .before in (unchained (s .args .chart .now) (s .args .edges) most-locations most-edges, s .pre .3)
 
 play-requires : tie.Need-play-requires
 play-requires c κs =

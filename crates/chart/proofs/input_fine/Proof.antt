@@ -2,7 +2,7 @@
 use Rattle.semantics.proofs.Prelude.{needs, sfits-of, pos, sfits-lit}
 use Rattle.semantics.specs.Encoding.{word-at}
 use Rattle.chart.specs.Encoded.{input-fine}
-use Rattle.words.proofs.Words.{told, tested}
+use Rattle.words.proofs.Words.{told, told-eqb}
 use Rattle.chart.proofs.input_fine.Statement.{statement}
 use Rattle.chart.proofs.input_fine.Tie as tie
 
@@ -20,8 +20,8 @@ returns c =
       c .before .is-small2 .ensures,
       c .before .before .in-var-range .ensures,
       s .is-small .ensures,
-      tested (sfits-of {z = a .result} (a .ok)) (a .ensures) {n = pos 0} (sfits-lit tt),
-      tested (sfits-of {z = b .result} (b .ok)) (b .ensures) {n = pos 0} (sfits-lit tt),
+      told-eqb (sfits-of {z = a .result} (a .ok)) (a .ensures) {n = pos 0} (sfits-lit tt),
+      told-eqb (sfits-of {z = b .result} (b .ok)) (b .ensures) {n = pos 0} (sfits-lit tt),
       told (sfits-of {z = p .result} (p .ok)) (p .ensures),
       told (sfits-of {z = q .result} (q .ok)) (q .ensures),
       w .before .before .number-at .ensures .0,

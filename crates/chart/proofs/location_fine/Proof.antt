@@ -3,7 +3,7 @@ use Rattle.semantics.proofs.Prelude.{_≡_, _+_, _-_, arith, needs, sfits-of, p
 use Rattle.semantics.specs.Encoding.{word-at}
 use Rattle.semantics.specs.Layout.{name-size, location-size}
 use Rattle.chart.specs.Encoded.{location-fine}
-use Rattle.words.proofs.Words.{tested}
+use Rattle.words.proofs.Words.{told-eqb}
 use Rattle.chart.proofs.location_fine.Statement.{statement}
 use Rattle.chart.proofs.location_fine.Tie as tie
 
@@ -22,8 +22,8 @@ returns c =
       e,
       d,
       n .ensures .0,
-      tested fk (k .ensures) {n = pos 0} (sfits-lit tt),
-      tested fk (k .ensures) {n = pos 1} (sfits-lit tt),
+      told-eqb fk (k .ensures) {n = pos 0} (sfits-lit tt),
+      told-eqb fk (k .ensures) {n = pos 1} (sfits-lit tt),
     )
 
 pub location-fine-spec : {M : Type 1} → statement M

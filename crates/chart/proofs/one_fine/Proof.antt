@@ -2,7 +2,7 @@
 use Rattle.semantics.proofs.Prelude.{needs, sfits-of, pos, sfits-lit}
 use Rattle.semantics.specs.Encoding.{word-at}
 use Rattle.chart.specs.Encoded.{one-fine}
-use Rattle.words.proofs.Words.{told, tested}
+use Rattle.words.proofs.Words.{told, told-eqb}
 use Rattle.chart.proofs.one_fine.Statement.{statement}
 use Rattle.chart.proofs.one_fine.Tie as tie
 
@@ -18,8 +18,8 @@ returns c =
       o .operand-fine .ensures,
       told (sfits-of {z = a .result} (a .ok)) (a .ensures),
       told (sfits-of {z = x .result} (x .ok)) (x .ensures),
-      tested (sfits-of {z = b .result} (b .ok)) (b .ensures) {n = pos 0} (sfits-lit tt),
-      tested (sfits-of {z = y .result} (y .ok)) (y .ensures) {n = pos 0} (sfits-lit tt),
+      told-eqb (sfits-of {z = b .result} (b .ok)) (b .ensures) {n = pos 0} (sfits-lit tt),
+      told-eqb (sfits-of {z = y .result} (y .ok)) (y .ensures) {n = pos 0} (sfits-lit tt),
     )
 
 pub one-fine-spec : {M : Type 1} → statement M

@@ -29,6 +29,10 @@ module _ (c : tie.Else2) where
   in-list : start .args .a .waiting ≤ length (start .args .list .now)
   in-list = omega (arith, c .if2 .left, c .before .if1 .left, start .pre .list)
 
+-- once the rows and the list are tested
+abbrev counted : tie.After-waits-ok → tie.Else2
+counted w = w .before .before .before .before .before
+
 returns : tie.Need-returns
 returns c = rw (lt-leb _ _ (c .if1 .taken))
 
@@ -61,10 +65,10 @@ lent-ok-spec =
     (λ c κs. let f = c .before .before in (start f .pre .layout, omega (arith, below-room f, room f)))
     (λ c. let f = c .before .before .before .before in sym (length-take-le _ _ (in-list f)))
     (λ c κs. search needs)
-    (λ c. let f = c .before .before .before .before .before in omega (arith, below-room f, room f, start f .good))
-    (λ c. let f = c .before .before .before .before .before in omega (arith, below-room f))
-    (λ c. let f = c .before .before .before .before .before in omega (arith, below-room f))
-    (λ c. let f = c .before .before .before .before .before in omega (arith, room f))
+    (λ c. let f = counted c in omega (arith, below-room f, room f, start f .good))
+    (λ c. let f = counted c in omega (arith, below-room f))
+    (λ c. let f = counted c in omega (arith, below-room f))
+    (λ c. let f = counted c in omega (arith, room f))
     (λ c κs. search needs)
     (λ c. search needs)
     (λ c. search needs)

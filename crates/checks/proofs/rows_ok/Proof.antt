@@ -1,23 +1,24 @@
 -- `checks::rows_ok` meets its contract. The invariant: `from` is the first word of slot s, and the slots in use pass
 -- exactly when those from s on do. Assumes nothing.
-use Rattle.semantics.proofs.Prelude.{_≡_, sym, ap, _∙_, Bool, true, false, _&&_, List, ℕ, suc, _+_, _-_, _*_, _≤_, sub-zero, suc-mul, zero-mul, add-one, arith, needs, not-true, not-false, ℤ, length, drop}
+use Rattle.semantics.proofs.Prelude.{_≡_, sym, ap, _∙_, Bool, true, false, _&&_, List, ℕ, suc, _+_, _-_, _≤_, sub-zero, arith, needs, not-true, not-false, ℤ, length, drop}
 use Rattle.semantics.specs.Encoding.{decode}
 use Rattle.semantics.specs.Memory.{width, rows-ok}
-use Rattle.words.proofs.Rows.{span, part-length, row-in}
+use Rattle.words.proofs.Rows.{span, part-length}
 use Rattle.state.proofs.Layouts.{is-layout}
+use Rattle.state.proofs.Slots.{OnSlot, first-slot, next-slot, slot-in, part-in}
 use Rattle.checks.proofs.FormTests.{rows-turn}
 use Rattle.checks.proofs.rows_ok.Statement.{statement}
 use Rattle.checks.proofs.rows_ok.Tie as tie
 
 abbrev Inv-loop : tie.InvT-loop
 Inv-loop chart table used w stride from₀ s₀ from s =
-    (s ≤ used) × (from ≡ s * stride) × (rows-ok (decode chart) used table ≡ rows-ok (decode chart) (used - s) (drop from table))
+    OnSlot stride used from s × (rows-ok (decode chart) used table ≡ rows-ok (decode chart) (used - s) (drop from table))
 
 abbrev μ-loop : tie.MeasureT-loop
 μ-loop chart table used w stride from₀ s₀ from s = used - s
 
 loop-holds : tie.Need-loop-holds Inv-loop μ-loop
-loop-holds c = (omega arith, sym (zero-mul (c .before .args .layout .stride)), rw (sub-zero (c .before .args .used)))
+loop-holds c = (first-slot _ _, rw (sub-zero (c .before .args .used)))
 
 -- the row at `from` is in the table
 module _ (c : tie.In-loop Inv-loop μ-loop) where
@@ -43,10 +44,10 @@ module _ (c : tie.In-loop Inv-loop μ-loop) where
   wide = c .before .before .width .ensures ∙ is-layout chart _ (start .pre .0 .0) .wide
 
   next : c .before .loop .from + stride ≤ length table
-  next = omega (arith, start .pre .1, c .before .loop .inv .1, row-in (c .before .loop .s) used stride (c .loop-test .taken))
+  next = slot-in (c .before .loop .inv .0) (c .loop-test .taken) table (start .pre .1)
 
   room : c .before .loop .from + w ≤ length table
-  room = omega (arith, next, wide, is-layout chart _ (start .pre .0 .0) .stride)
+  room = part-in (c .before .loop .inv .0) (c .loop-test .taken) table (start .pre .1) w (omega (arith, wide, is-layout chart _ (start .pre .0 .0) .stride))
 
 row-ok-requires : tie.Need-row-ok-requires Inv-loop μ-loop
 row-ok-requires c κs =
@@ -62,7 +63,7 @@ turn c b h =
     let p = c .before .before in
     let l = p .before .loop in
     let n : used p - l .s ≡ suc (used p - (l .s + 1)) = omega (arith, p .loop-test .taken) in
-    l .inv .2 ∙ ap (λ (n : ℕ). rows-ok (decode (chart p)) n (drop (l .from) (table p))) n
+    l .inv .1 ∙ ap (λ (n : ℕ). rows-ok (decode (chart p)) n (drop (l .from) (table p))) n
     ∙ rows-turn (chart p) (table p) (l .from) (w p) (stride p) (used p - (l .s + 1)) (wide p) (is-layout (chart p) _ (start p .pre .0 .0) .stride) b (sym (rw span at (c .row-ok .ensures)) ∙ h)
 
 returns : tie.Need-returns Inv-loop μ-loop
@@ -71,13 +72,13 @@ returns c = sym (turn (c .before) false (not-true (c .before .row-ok .result) (c
 loop-again : tie.Need-loop-again Inv-loop μ-loop
 loop-again c =
     let p = c .before .before .before in
-    (omega (arith, p .loop-test .taken), rw (add-one, suc-mul, p .before .loop .inv .1), turn (c .before) true (not-false (c .before .row-ok .result) (c .if1 .left)))
+    (next-slot (p .before .loop .inv .0) (p .loop-test .taken), turn (c .before) true (not-false (c .before .row-ok .result) (c .if1 .left)))
 
 returns-2 : tie.Need-returns-2 Inv-loop μ-loop
 returns-2 c =
     let b = c .before in
     let n : b .before .before .args .used - b .loop .s ≡ 0 = omega arith in
-    sym (b .loop .inv .2 ∙ rw n)
+    sym (b .loop .inv .1 ∙ rw n)
 
 pub rows-ok-spec : {M : Type 1} → statement M
 rows-ok-spec =

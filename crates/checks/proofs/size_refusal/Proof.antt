@@ -7,8 +7,8 @@ use Rattle.checks.proofs.size_refusal.Statement.{statement}
 use Rattle.checks.proofs.size_refusal.Tie as tie
 
 -- by what the tests say
-by-tests : (s : tie.Start) {f b : Bool} → well-formed (s .args .chart .now) ≡ f → too-few (decode (s .args .chart .now)) (s .args .capacity) (s .args .table) (s .args .list) ≡ b
-    → refusal (case 20 (not f) ∷ case 14 b ∷ []) ≡ refusal (size-of (s .args .chart .now) (s .args .capacity) (s .args .table) (s .args .list))
+by-tests : (s : tie.Start) {f b : Bool} → well-formed (s .args .chart .now) ≡ f → too-few (decode (s .args .chart .now)) (s .args .capacity) (s .args .table-length) (s .args .list-length) ≡ b
+    → refusal (case 20 (not f) ∷ case 14 b ∷ []) ≡ refusal (size-of (s .args .chart .now) (s .args .capacity) (s .args .table-length) (s .args .list-length))
 by-tests s p q = sym (λ j. refusal (case 20 (not (p j)) ∷ case 14 (q j) ∷ []))
 
 formed : (c : tie.Else1) → well-formed (c .before .before .args .chart .now) ≡ true
@@ -18,11 +18,11 @@ returns : tie.Need-returns
 returns c = by-tests (c .before .before) (sym (c .before .well-formed .ensures) ∙ not-true _ (c .if1 .taken)) refl
 
 -- 14, by the layout
-few : (c : tie.After-too-few) → let s = c .before .before .before .before .args in c .too-few .result ≡ too-few (decode (s .chart .now)) (s .capacity) (s .table) (s .list)
+few : (c : tie.After-too-few) → let s = c .before .before .before .before .args in c .too-few .result ≡ too-few (decode (s .chart .now)) (s .capacity) (s .table-length) (s .list-length)
 few c =
     let y = c .before .layout-of in
     let s = c .before .before .before .before .args in
-    c .too-few .ensures ∙ λ j. ltb (s .table) (s .capacity * is-layout (s .chart .now) _ (y .ensures .0) .stride j) || ltb (s .list) (s .capacity)
+    c .too-few .ensures ∙ λ j. ltb (s .table-length) (s .capacity * is-layout (s .chart .now) _ (y .ensures .0) .stride j) || ltb (s .list-length) (s .capacity)
 
 returns-2 : tie.Need-returns-2
 returns-2 c = let f = c .before .before .before in by-tests (f .before .before) (formed f) (sym (few (c .before)) ∙ c .if2 .taken)

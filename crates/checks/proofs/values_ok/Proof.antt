@@ -19,14 +19,17 @@ abbrev μ-loop : tie.MeasureT-loop
 μ-loop chart values i₀ i = length values - i
 
 module _ (c : tie.After-value-ok Inv-loop μ-loop) where
+  abbrev in-loop : tie.In-loop Inv-loop μ-loop
+  in-loop = c .before .before .before .before
+
   abbrev chart : List ℤ
-  chart = c .before .before .before .before .before .before .args .chart .now
+  chart = in-loop .before .before .args .chart .now
 
   abbrev values : List ℤ
-  values = c .before .before .before .before .before .before .args .values .now
+  values = in-loop .before .before .args .values .now
 
   abbrev i : ℕ
-  i = c .before .before .before .before .before .loop .i
+  i = in-loop .before .loop .i
 
   abbrev at : ℕ
   at = variable-at i
@@ -34,8 +37,8 @@ module _ (c : tie.After-value-ok Inv-loop μ-loop) where
   abbrev x : ℤ
   x = word-at values i
 
-  tested : c .value-ok .result ≡ (eqZ x top-word || within (word-at chart at) (word-at chart (at + high-place)) x)
-  tested =
+  said : c .value-ok .result ≡ (eqZ x top-word || within (word-at chart at) (word-at chart (at + high-place)) x)
+  said =
       let p = c .before .before .before .variable-low in
       let q = c .before .before .variable-high in
       let lo = toZ-ofZ w32 (p .result) (sfits-of {z = p .result} (p .ok)) ∙ p .ensures in
@@ -47,12 +50,12 @@ module _ (c : tie.After-value-ok Inv-loop μ-loop) where
       all-pairs value-ok (several var-in variable-size (length values) (drop counts-size chart)) values
       ≡ b && all-pairs value-ok (several var-in variable-size (length values - (i + 1)) (drop (variable-at (i + 1)) chart)) (drop (i + 1) values)
   turn b e =
-      let h = c .before .before .before .before .loop-test .taken in
+      let h = in-loop .loop-test .taken in
       let n : length values - i ≡ suc (length values - (i + 1)) = omega (arith, h) in
       let next : at + variable-size ≡ variable-at (i + 1) = omega arith in
-      c .before .before .before .before .before .loop .inv .1
+      in-loop .before .loop .inv .1
       ∙ ap (λ (n : ℕ). all-pairs value-ok (several var-in variable-size n (drop at chart)) (drop i values)) n
-      ∙ values-turn values i h b chart at (length values - (i + 1)) (sym tested ∙ e)
+      ∙ values-turn values i h b chart at (length values - (i + 1)) (sym said ∙ e)
       ∙ ap (λ (n : ℕ). b && all-pairs value-ok (several var-in variable-size (length values - (i + 1)) (drop n chart)) (drop (i + 1) values)) next
 
 returns : tie.Need-returns Inv-loop μ-loop

@@ -1,13 +1,14 @@
 -- `listing::put_slots` meets its contract. The invariant: `from` is the first word of slot s, and the lines of the
 -- slots before it are written. Assumes nothing.
-use Rattle.semantics.proofs.Prelude.{_≡_, refl, sym, ap, _∙_, Bool, false, List, _++_, map, ℕ, _+_, _-_, _*_, _≤_, suc, suc-mul, zero-mul, sub-zero, add-one, arith, needs, eqb, ℤ, natAbs, length, take, drop, getD}
+use Rattle.semantics.proofs.Prelude.{_≡_, refl, sym, ap, _∙_, Bool, false, List, _++_, map, ℕ, _+_, _-_, _*_, _≤_, suc, sub-zero, arith, needs, eqb, ℤ, natAbs, length, take, drop, getD}
 use Rattle.semantics.specs.Layout.{most-slots}
 use Rattle.semantics.specs.Lists.{some-of}
 use Rattle.semantics.specs.Encoding.{decode}
 use Rattle.semantics.specs.Memory.{width, state-in, states-in}
 use Rattle.semantics.specs.Listing.{slot-text, slots-text}
-use Rattle.words.proofs.Rows.{span, part-length, row-in}
-use Rattle.state.proofs.Layouts.{is-layout}
+use Rattle.words.proofs.Rows.{span, part-length}
+use Rattle.state.proofs.Layouts.{is-layout, slots-in}
+use Rattle.state.proofs.Slots.{OnSlot, first-slot, next-slot, slot-in, part-in}
 use Rattle.writer.proofs.Written.{Completes, one-more, all-put}
 use Rattle.listing.proofs.TextPieces.{slots-turn, marked-from-none}
 use Rattle.listing.proofs.put_slots.Statement.{statement}
@@ -19,13 +20,13 @@ lines chart list s n t = slots-text (decode chart) (map natAbs list) s (states-i
 
 abbrev Inv-loop : tie.InvT-loop
 Inv-loop out₀ at chart table list used w stride marks place₀ from₀ s₀ out place from s =
-    (s ≤ used) × (from ≡ s * stride) × (length out ≡ length out₀) × Completes at (lines chart list 0 used table) out₀ place (lines chart list s (used - s) (drop from table)) out
+    OnSlot stride used from s × (length out ≡ length out₀) × Completes at (lines chart list 0 used table) out₀ place (lines chart list s (used - s) (drop from table)) out
 
 abbrev μ-loop : tie.MeasureT-loop
 μ-loop out₀ at chart table list used w stride marks place₀ from₀ s₀ out place from s = used - s
 
 loop-holds : tie.Need-loop-holds Inv-loop μ-loop
-loop-holds c = let y = c .before .before .before .before in (omega arith, sym (zero-mul (y .layout-of .result .stride)), refl, rw (sub-zero (y .before .before .args .used)) λ _ _ p. p)
+loop-holds c = let y = c .before .before .before .before in (first-slot _ _, refl, rw (sub-zero (y .before .before .args .used)) λ _ _ p. p)
 
 -- what the loop is lent
 module _ (m : tie.After-mark-waiting Inv-loop μ-loop) where
@@ -56,6 +57,9 @@ module _ (m : tie.After-mark-waiting Inv-loop μ-loop) where
   far : stride ≡ width (decode chart)
   far = is-layout chart _ (layout .layout-of .ensures .0) .stride
 
+  fits : start .args .used * stride ≤ length table
+  fits = slots-in (is-layout chart _ (layout .layout-of .ensures .0)) (start .args .used) (length table) (start .pre .1)
+
 -- a turn
 module _ (c : tie.In-loop Inv-loop μ-loop) where
   abbrev outer : tie.After-mark-waiting Inv-loop μ-loop
@@ -69,10 +73,10 @@ module _ (c : tie.In-loop Inv-loop μ-loop) where
 
   -- the row at `from` is in the table
   next : from + stride outer ≤ length (table outer)
-  next = let all = start outer .pre .1 in omega (arith, rw (sym (far outer)) at all, c .before .loop .inv .1, row-in s (start outer .args .used) (stride outer) (c .loop-test .taken))
+  next = slot-in (c .before .loop .inv .0) (c .loop-test .taken) (table outer) (fits outer)
 
   room : from + w outer ≤ length (table outer)
-  room = omega (arith, next, wide outer, far outer)
+  room = part-in (c .before .loop .inv .0) (c .loop-test .taken) (table outer) (fits outer) (w outer) (omega (arith, wide outer, far outer))
 
   row-is : take (from + w outer - from) (drop from (table outer)) ≡ take (width (decode (chart outer))) (drop from (table outer))
   row-is = rw span (λ j. take (wide outer j) (drop from (table outer)))
@@ -99,13 +103,13 @@ loop-again c =
     let n : used - l .s ≡ suc (used - (l .s + 1)) = omega (arith, p .loop-test .taken) in
     let turn = (λ j. slots-text d (waits o) (l .s) (states-in (width d) (n j) (drop (l .from) (table o)))) ∙ slots-turn d (waits o) (width d) (l .from) (l .s) (used - (l .s + 1)) (table o)
     ∙ (λ j. slot-text d (l .s) (state-in (sym (row-is p) j)) (sym (mark-of p) j) ++ slots-text d (waits o) (l .s + 1) (states-in (width d) (used - (l .s + 1)) (drop (l .from + sym (far o) j) (table o)))) in
-    (omega (arith, p .loop-test .taken), rw (add-one, suc-mul, l .inv .1), k .put-slot .kept .0 ∙ l .inv .2, one-more (l .inv .3) turn (k .put-slot .ensures))
+    (next-slot (l .inv .0) (p .loop-test .taken), k .put-slot .kept .0 ∙ l .inv .1, one-more (l .inv .2) turn (k .put-slot .ensures))
 
 returns : tie.Need-returns Inv-loop μ-loop
 returns c =
     let b = c .before in
     let n : start (b .before .before) .args .used - b .loop .s ≡ 0 = omega (arith, c .loop-test .left) in
-    all-put (b .loop .inv .3) (rw n) (omega arith)
+    all-put (b .loop .inv .2) (rw n) (omega arith)
 
 pub put-slots-spec : {M : Type 1} → statement M
 put-slots-spec =

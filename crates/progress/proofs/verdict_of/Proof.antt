@@ -5,19 +5,19 @@ use Rattle.semantics.specs.Algorithm.{verdict-of}
 use Rattle.progress.proofs.verdict_of.Statement.{statement}
 use Rattle.progress.proofs.verdict_of.Tie as tie
 
-none-safe : (wa : List ℕ) → length wa ≡ 0 → Safe ≡ verdict-of wa
-none-safe [] e = refl
-none-safe (x ∷ wa) e = absurd (omega arith)
+verdict-safe : (wa : List ℕ) → length wa ≡ 0 → Safe ≡ verdict-of wa
+verdict-safe [] e = refl
+verdict-safe (x ∷ wa) e = absurd (omega arith)
 
-some-open : (wa : List ℕ) → 0 < length wa → Open ≡ verdict-of wa
-some-open [] e = absurd (omega arith)
-some-open (x ∷ wa) e = refl
+verdict-open : (wa : List ℕ) → 0 < length wa → Open ≡ verdict-of wa
+verdict-open [] e = absurd (omega arith)
+verdict-open (x ∷ wa) e = refl
 
 returns : tie.Need-returns
-returns c = record { verdict = λ wa e. none-safe wa (omega (arith, e, c .if1 .taken)) }
+returns c = record { verdict = λ wa e. verdict-safe wa (omega (arith, e, c .if1 .taken)) }
 
 returns-2 : tie.Need-returns-2
-returns-2 c = record { verdict = λ wa e. some-open wa (omega (arith, e, c .if1 .left)) }
+returns-2 c = record { verdict = λ wa e. verdict-open wa (omega (arith, e, c .if1 .left)) }
 
 pub verdict-of-spec : {M : Type 1} → statement M
 verdict-of-spec = tie.close (tie.spec returns returns-2)

@@ -1,10 +1,10 @@
 -- `reached::covered` meets its contract. Assumes nothing.
-use Rattle.semantics.proofs.Prelude.{_≡_, refl, sym, ap, _∙_, Bool, true, false, ℕ, suc, _+_, _-_, _≤_, arith, length, take, drop}
+use Rattle.semantics.proofs.Prelude.{_≡_, sym, ap, _∙_, Bool, true, false, ℕ, suc, _+_, _-_, _≤_, arith, length, take, drop}
 use Rattle.semantics.specs.Lists.{some-of}
 use Rattle.words.proofs.Rows.{span, part-length}
 use Rattle.state.specs.Rows.{width-of, row-leq, rows-of}
-use Rattle.state.proofs.Slots.{OnSlot, first-slot, next-slot, slot-in}
-use Rattle.reached.proofs.SlotLoops.{some-turn, state-in}
+use Rattle.state.proofs.Slots.{OnSlot, first-slot, next-slot, slot-in, part-in}
+use Rattle.reached.proofs.SlotLoops.{some-turn}
 use Rattle.reached.proofs.covered.Statement.{statement}
 use Rattle.reached.proofs.covered.Tie as tie
 
@@ -18,7 +18,7 @@ abbrev μ-loop : tie.MeasureT-loop
 
 -- the state of the slot is in the table
 inside : (c : tie.In-loop Inv-loop μ-loop) → c .before .loop .from + length (c .before .before .args .e .now) ≤ length (c .before .before .args .table .now)
-inside c = state-in (c .before .before .pre) (c .before .loop .inv .0) (c .loop-test .taken) (c .before .before .args .table .now) refl
+inside c = let g = c .before .before .pre in part-in (c .before .loop .inv .0) (c .loop-test .taken) (c .before .before .args .table .now) (g .table) _ (omega (arith, g .row, g .apart))
 
 -- the next slot's place does not wrap
 after : (c : tie.In-loop Inv-loop μ-loop) → c .before .loop .from + c .before .before .args .layout .stride ≤ length (c .before .before .args .table .now)

@@ -4,11 +4,11 @@ use Rattle.semantics.specs.Tidy.{Queue}
 use Rattle.semantics.proofs.Tidy.{more}
 use Rattle.words.proofs.Rows.{span, part-length, length-put, drop-put}
 use Rattle.state.specs.Rows.{width-of, row-merge, same-words, rows-merge, rows-of}
-use Rattle.state.proofs.Slots.{OnSlot, first-slot, next-slot, slot-in, put-slot, slot-length, slot, merge-turn}
+use Rattle.state.proofs.Slots.{OnSlot, first-slot, next-slot, slot-in, part-in, put-slot, slot-length, slot, merge-turn}
 use Rattle.waitlist.specs.Waits.{waits, Stored}
 use Rattle.waitlist.proofs.WaitWords.{waits-are, kept}
 use Rattle.reached.specs.Reached.{rewaits}
-use Rattle.reached.proofs.SlotLoops.{unless-queue, state-in}
+use Rattle.reached.proofs.SlotLoops.{unless-queue}
 use Rattle.reached.proofs.merge_slots.Statement.{statement}
 use Rattle.reached.proofs.merge_slots.Tie as tie
 
@@ -27,10 +27,16 @@ abbrev μ-loop : tie.MeasureT-loop
 
 -- the state of the slot is in the table, and so is the slot
 inside : (c : tie.In-loop Inv-loop μ-loop) → c .before .loop .from + length (c .before .before .args .e .now) ≤ length (c .before .loop .table)
-inside c = state-in (c .before .before .pre .0) (c .before .loop .inv .0) (c .loop-test .taken) (c .before .loop .table) (c .before .loop .inv .1)
+inside c =
+    let g = c .before .before .pre .0 in
+    part-in (c .before .loop .inv .0) (c .loop-test .taken) (c .before .loop .table) (omega (arith, g .table, c .before .loop .inv .1)) _ (omega (arith, g .row, g .apart))
 
 after : (c : tie.In-loop Inv-loop μ-loop) → c .before .loop .from + c .before .before .args .layout .stride ≤ length (c .before .loop .table)
 after c = omega (arith, slot-in (c .before .loop .inv .0) (c .loop-test .taken) (c .before .before .args .table .now) (c .before .before .pre .0 .table), c .before .loop .inv .1)
+
+-- the turn, from its last call
+abbrev turn-of : tie.After-wait-unless Inv-loop μ-loop → tie.In-loop Inv-loop μ-loop
+turn-of w = w .before .before .before .before .before
 
 loop-holds : tie.Need-loop-holds Inv-loop μ-loop
 loop-holds c =
@@ -53,8 +59,9 @@ wait-unless-requires c κs =
 loop-again : tie.Need-loop-again Inv-loop μ-loop
 loop-again c =
     let j = c .before .before .wait-unless in
-    let m = c .before .before .before .before .before .merge-row in
-    let i = c .before .before .before .before .before .before .before in
+    let p = c .before .before .before .before .before in
+    let m = p .merge-row in
+    let i = p .before .before in
     let b = i .before in
     let a = b .before .args in
     let g = b .before .pre .0 in
@@ -100,9 +107,9 @@ merge-slots-spec =
     (λ c. inside c)
     merge-row-requires
     wait-unless-requires
-    (λ c. omega (arith, after (c .before .before .before .before .before .before .before)))
-    (λ c. omega (arith, c .before .before .before .before .before .before .before .loop-test .taken))
-    (λ c. omega (arith, c .before .before .before .before .before .before .before .loop-test .taken))
+    (λ c. omega (arith, after (turn-of (c .before .before))))
+    (λ c. omega (arith, turn-of (c .before .before) .loop-test .taken))
+    (λ c. omega (arith, turn-of (c .before .before) .loop-test .taken))
     loop-again
     (λ c. c .before .loop .inv .1)
     (λ c. c .before .loop .inv .3)

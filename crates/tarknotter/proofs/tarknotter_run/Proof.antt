@@ -1,4 +1,4 @@
--- `tarknotter::tarknotter_run` meets its contract: `calls::run` on the record as it is read. Assumes nothing.
+-- `tarknotter::tarknotter_run` meets its contract: `calls::run_by_value` on the record as it is read. Assumes nothing.
 use Rattle.semantics.proofs.Prelude.{needs, w32, toZ-ofZ}
 use Rattle.tarknotter.proofs.ByCodes.{by-codes}
 use Rattle.tarknotter.proofs.tarknotter_run.Statement.{statement}

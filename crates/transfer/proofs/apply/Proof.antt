@@ -27,11 +27,11 @@ returns-2 c = let m = c .before .before .before in rw (code (m .before) set-code
 
 returns-3 : tie.Need-returns-3
 unfolding op-by
-returns-3 c = let m = c .before .before .before in rw (code (m .before) add-code (m .match .keys3)) (c .before .add .ensures)
+returns-3 c = let m = c .before .before .before in rw (code (m .before) add-code (m .match .keys3)) (c .before .compute .ensures)
 
 returns-4 : tie.Need-returns-4
 unfolding op-by
-returns-4 c = let m = c .before .before .before in rw (code (m .before) sub-code (m .match .keys4)) (c .before .sub .ensures)
+returns-4 c = let m = c .before .before .before in rw (code (m .before) sub-code (m .match .keys4)) (c .before .compute2 .ensures)
 
 returns-5 : tie.Need-returns-5
 unfolding op-by

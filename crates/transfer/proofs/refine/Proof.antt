@@ -8,8 +8,8 @@ use Rattle.transfer.proofs.refine.Statement.{statement}
 use Rattle.transfer.proofs.refine.Tie as tie
 
 -- the test, of the word and of its bits
-tested : (s : tie.Start) → (not (eqZ (s .args .x) top-word) && eqb (s .args .n) eq-code) ≡ (not (eqb (ofZ w32 (s .args .x)) (ofZ w32 top-word)) && eqb (s .args .n) eq-code)
-tested s = ap (λ (b : Bool). not b && eqb (s .args .n) eq-code) (sym (bits-eqb w32 {b = top-word} (s .fits .x) (sfits-lit tt)))
+test-is : (s : tie.Start) → (not (eqZ (s .args .x) top-word) && eqb (s .args .n) eq-code) ≡ (not (eqb (ofZ w32 (s .args .x)) (ofZ w32 top-word)) && eqb (s .args .n) eq-code)
+test-is s = ap (λ (b : Bool). not b && eqb (s .args .n) eq-code) (sym (bits-eqb w32 {b = top-word} (s .fits .x) (sfits-lit tt)))
 
 returns : tie.Need-returns
 unfolding refine-by
@@ -17,12 +17,12 @@ returns c =
     let w = c .before .before .before in
     let s = w .before .before in
     let x = w .wide .result in
-    rw (tested s ∙ w .before .if1 .taken)
+    rw (test-is s ∙ w .before .if1 .taken)
     (c .before .put-ranged .ensures ∙ rw (toZ-ofZ w64 x (sfits-of {z = x} (w .wide .ok)), w .wide .ensures, toZ-ofZ w32 (s .args .x) (s .fits .x)))
 
 returns-2 : tie.Need-returns-2
 unfolding refine-by
-returns-2 c = rw (tested (c .before) ∙ c .if1 .left)
+returns-2 c = rw (test-is (c .before) ∙ c .if1 .left)
 
 pub refine-spec : {M : Type 1} → statement M
 refine-spec = tie.close (tie.spec (λ c κs. search needs) (λ c κs. search needs) (λ c. search needs) returns returns-2)

@@ -25,7 +25,6 @@ loop-again c =
     let b = c .before .before .before .before .before in
     let s = b .before in
     let a = s .args in
-    let q = toZ-ofZ w32 (a .k) (s .fits .k) in
     let kw = c .before .keep-word in
     let w = word-here (toZ w32 (ofZ w32 (a .k))) (a .list .now) (a .count) (b .loop .list) (b .loop .j) (b .loop .i) (b .loop .inv) (c .before .before .before .before .loop-test .taken) (s .pre) in
     let z = toZ-ofZ w32 (getD (b .loop .list) (b .loop .i) (pos 0)) (sfits-of (c .before .before .before .x .given)) in
