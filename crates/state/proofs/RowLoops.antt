@@ -1,9 +1,8 @@
 -- The turns of the loops over the words of a row. Assumes nothing.
-use Rattle.semantics.proofs.Prelude.{_≡_, refl, ap, Bool, true, false, _&&_, List, [], _∷_, _++_, append-nil, ℕ, suc, _+_, _≤_, _<_, add-one, arith, ℤ, pos, length, take, drop, set, drop-of-length-le, drop-cons, take-all, take-suc-set, drop-set-lt, append-snoc}
+use Rattle.semantics.proofs.Prelude.{_≡_, refl, ap, Bool, true, false, _&&_, and-true, List, [], _∷_, _++_, append-nil, ℕ, suc, _+_, _≤_, _<_, add-one, arith, ℤ, pos, length, take, drop, set, drop-of-length-le, drop-cons, take-all, take-suc-set, drop-set-lt, append-snoc}
 use Rattle.semantics.specs.Lists.{pick}
 use Rattle.semantics.specs.Chart.{eqZ}
 use Rattle.semantics.specs.Encoding.{word-at}
-use Rattle.semantics.proofs.ConstantValues.{and-true}
 use Rattle.words.proofs.Words.{eqZ-refl}
 use Rattle.state.specs.Rows.{values-of, word-leq, word-join, words-leq, words-join, same-words, same-place, row-join, row-merge}
 
