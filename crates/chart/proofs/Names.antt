@@ -5,7 +5,7 @@ use Rattle.semantics.specs.Lists.{all, pick}
 use Rattle.semantics.specs.Text.{same-bytes}
 use Rattle.semantics.specs.Chart.{Loc, eqZ}
 use Rattle.semantics.specs.Encoding.{word-at, name-in, loc-in, several, distinct-names, count}
-use Rattle.semantics.proofs.ConstantValues.{and-assoc}
+use Rattle.semantics.proofs.ConstantValues.{and-regroup}
 
 -- the first word left, and the words after it; past the end there is no byte more
 pub name-step : (n : ℕ) (ws : List ℤ) (i : ℕ) → name-in (suc n) (drop i ws) ≡ pick (eqZ (word-at ws i) (pos 0)) [] (natAbs (word-at ws i) ∷ (name-in n (drop (suc i) ws)))
@@ -67,7 +67,7 @@ module _ (us vs : List ℤ) (i : ℕ) (more : i < name-size) (x y : ℕ) (ex : x
 -- the words of a name, each tested
 module _ (p : ℤ → Bool) (ws : List ℤ) (ok : Bool) (i : ℕ) where
   pub bytes-turn : (b : Bool) → i < length ws → b ≡ p (word-at ws i) → ok && all p (drop i ws) ≡ ok && b && all p (drop (i + 1) ws)
-  bytes-turn b h e = rw (add-one i, drop-cons ws i (pos 0) h, e) (and-assoc ok (p (word-at ws i)) (all p (drop (suc i) ws)))
+  bytes-turn b h e = rw (add-one i, drop-cons ws i (pos 0) h, e) (and-regroup ok (p (word-at ws i)) (all p (drop (suc i) ws)))
 
 -- the name is not that of the location given
 abbrev pub other-name : List ℤ → Loc → Bool
@@ -79,4 +79,4 @@ module _ (ws : List ℤ) (ok : Bool) (left at : ℕ) where
   differ-turn b h e =
       let m : left ≡ suc (left - 1) = omega arith in
       ap (λ (n : ℕ). ok && distinct-names (several loc-in location-size n (drop at ws))) m
-      ∙ rw (drop-drop location-size at ws, e) (and-assoc ok (all (other-name (drop at ws)) (several loc-in location-size (left - 1) (drop (at + location-size) ws))) (distinct-names (several loc-in location-size (left - 1) (drop (at + location-size) ws))))
+      ∙ rw (drop-drop location-size at ws, e) (and-regroup ok (all (other-name (drop at ws)) (several loc-in location-size (left - 1) (drop (at + location-size) ws))) (distinct-names (several loc-in location-size (left - 1) (drop (at + location-size) ws))))

@@ -1,8 +1,8 @@
 -- The start, the turn and the end of a loop over rows. Assumes nothing.
-use Rattle.semantics.proofs.Prelude.{_≡_, sym, ap, _∙_, Bool, true, _&&_, List, ℕ, suc, _+_, _-_, _*_, _≤_, _<_, sub-zero, mul-zero, mul-suc, add-one, arith, ℤ, length, take, drop, drop-drop}
+use Rattle.semantics.proofs.Prelude.{_≡_, sym, ap, _∙_, Bool, true, _&&_, and-true, List, ℕ, suc, _+_, _-_, _*_, _≤_, _<_, sub-zero, mul-zero, mul-suc, add-one, arith, ℤ, length, take, drop, drop-drop}
 use Rattle.semantics.specs.Lists.{all}
 use Rattle.semantics.specs.Encoding.{several}
-use Rattle.semantics.proofs.ConstantValues.{and-true, and-assoc}
+use Rattle.semantics.proofs.ConstantValues.{and-regroup}
 use Rattle.words.proofs.Rows.{tail}
 
 -- a test of n rows of k words: ok is what the i rows passed say, and the rows left begin at `at`
@@ -19,7 +19,7 @@ module _ {A : Type 0} (p : A → Bool) (g : List ℤ → A) (k n : ℕ) (ws : Li
       let m : n - i ≡ suc (n - (i + 1)) = omega arith in
       let r = e ∙ ap (λ (l : List ℤ). p (g l)) (tail ws at) in
       let place : at + k ≡ k * (i + 1) = rw (add-one i, mul-suc k i, s .1) (omega arith) in
-      (omega arith, place, s .2 ∙ rw (m, drop-drop k at ws, r) (and-assoc ok (p (g (drop at ws))) (all p (several g k (n - (i + 1)) (drop (at + k) ws)))))
+      (omega arith, place, s .2 ∙ rw (m, drop-drop k at ws, r) (and-regroup ok (p (g (drop at ws))) (all p (several g k (n - (i + 1)) (drop (at + k) ws)))))
 
   pub rows-end : (ok : Bool) (i at : ℕ) → Passed p g k n ws ok i at → n ≤ i → all p (several g k n ws) ≡ ok
   rows-end ok i at s h = let m : n - i ≡ 0 = omega arith in s .2 ∙ rw m (and-true ok)

@@ -1,13 +1,13 @@
 -- One row: the test of its words is that it is what its decoding encodes to, and that this is what reading can produce.
 -- Assumes nothing.
-use Rattle.semantics.proofs.Prelude.{_≡_, refl, sym, ap, _∙_, Bool, true, false, _&&_, _||_, List, [], _∷_, _++_, map, ℕ, zero, suc, _-_, _≤_, _<_, sub-zero, suc-sub-suc, add-one, arith, le-leb, ne-eqb, lt-leb, T, leb, ltb, ltb→lt, ℤ, pos, negsuc, natAbs, length, take, drop, replicate, length-map, nonNeg, leZ}
+use Rattle.semantics.proofs.Prelude.{_≡_, refl, sym, ap, _∙_, Bool, true, false, _&&_, and-true, _||_, List, [], _∷_, _++_, map, ℕ, zero, suc, _-_, _≤_, _<_, sub-zero, suc-sub-suc, add-one, arith, le-leb, ne-eqb, lt-leb, T, leb, ltb, ltb→lt, ℤ, pos, negsuc, natAbs, length, take, drop, replicate, length-map, nonNeg, leZ}
 use Rattle.semantics.specs.Layout.{variable-size, name-size, location-size, edge-size}
 use Rattle.semantics.specs.Lists.{pick, all}
 use Rattle.semantics.specs.Text.{name-byte, name-ok}
 use Rattle.semantics.specs.Chart.{Var, Chart, eqZ, small, in-range, Operand, Op, assign, add, sub, input, assume, skip, num, var}
 use Rattle.semantics.specs.Encoding.{kind-word, var-words, loc-words, tag, operand-word, op-words, edge-words, var-in, name-in, loc-in, operand, op-of, edge-in, operand-ok, op-ok, edge-ok, begins-with}
 use Rattle.semantics.specs.Memory.{below, zeros}
-use Rattle.semantics.proofs.ConstantValues.{and-left, and-right, and-true, and-assoc}
+use Rattle.semantics.proofs.ConstantValues.{and-left, and-right, and-regroup}
 use Rattle.semantics.proofs.MemoryInForm.{word-back}
 use Rattle.semantics.proofs.MemoryOf.{both-true}
 use Rattle.words.proofs.Words.{eqZ-self, eqZ-sym}
@@ -74,7 +74,7 @@ name-row (suc n) (x ∷ xs) h = go (name-row n xs (omega arith)) (eqZ x (pos 0))
       rw (suc-sub-suc n m, byte-row x)
       (interchange (eqZ (pos (natAbs x)) x) (begins-with (map pos bs ++ replicate (n - m) (pos 0)) xs) (name-byte (natAbs x)) (all name-byte bs)
       ∙ ap (λ (b : Bool). (eqZ (pos (natAbs x)) x && name-byte (natAbs x)) && b) ih
-      ∙ and-assoc (eqZ (pos (natAbs x)) x && name-byte (natAbs x)) (all name-word (take m xs)) (zeros (take (n - m) (drop m xs))))
+      ∙ and-regroup (eqZ (pos (natAbs x)) x && name-byte (natAbs x)) (all name-word (take m xs)) (zeros (take (n - m) (drop m xs))))
 
 pub location-row : (r : List ℤ) → location-size ≤ length r → begins-with (loc-words (loc-in r)) r && name-ok (loc-in r .name) ≡ location-fine r
 unfolding location-fine
@@ -87,7 +87,7 @@ location-row (k ∷ xs) h =
     rw (kind-row k, few, and-true (leb 1 n), length-map bs pos, add-one n)
     (interchange (eqZ k (pos 0) || eqZ k (pos 1)) (begins-with (map pos bs ++ replicate (name-size - n) (pos 0)) xs) (leb 1 n) (all name-byte bs)
     ∙ ap (λ (b : Bool). ((eqZ k (pos 0) || eqZ k (pos 1)) && leb 1 n) && b) (name-row name-size xs l)
-    ∙ and-assoc ((eqZ k (pos 0) || eqZ k (pos 1)) && leb 1 n) (all name-word (take n xs)) (zeros (take (name-size - n) (drop n xs))))
+    ∙ and-regroup ((eqZ k (pos 0) || eqZ k (pos 1)) && leb 1 n) (all name-word (take n xs)) (zeros (take (name-size - n) (drop n xs))))
 
 -- ---- an edge: vars are the variables, and vw their words
 
@@ -127,7 +127,7 @@ module _ (vars : List Var) (vw : List ℤ) (in-words : (k : ℕ) (z : ℤ) → k
   operand-row a x = go (eqZ a (pos 0)) refl where
     go : (u : Bool) → eqZ a (pos 0) ≡ u → eqZ (tag (pick u (num x) (var (natAbs x)))) a && eqZ (operand-word (pick u (num x) (var (natAbs x)))) x && operand-ok vars (pick u (num x) (var (natAbs x))) ≡ pick u (small x) (eqZ a (pos 1) && below (length vars) x)
     go true e = rw (eqZ-sym (pos 0) a, e, eqZ-self x)
-    go false e = rw (eqZ-sym (pos 1) a, said x) (sym (and-assoc (eqZ a (pos 1)) (nonNeg x) (ltb (natAbs x) (length vars))))
+    go false e = rw (eqZ-sym (pos 1) a, said x) (sym (and-regroup (eqZ a (pos 1)) (nonNeg x) (ltb (natAbs x) (length vars))))
 
   module _ (t a x b y : ℤ) (ws : List ℤ) where
     abbrev A : Operand
@@ -195,4 +195,4 @@ module _ (c : Chart) (vw : List ℤ) (in-words : (k : ℕ) (z : ℤ) → k < len
       rw (said f, said g)
       (shuffle-edge (nonNeg f) (nonNeg g) (begins-with (op-words q) w) (ltb (natAbs f) l) (ltb (natAbs g) l) (op-ok (c .vars) q)
       ∙ ap (λ (u : Bool). (below l f && below l g) && u) (operation-row (c .vars) vw in-words t a x b y ws f g o)
-      ∙ and-assoc (below l f && below l g) (at-most 10 o) (operation-fine vw (length (c .vars)) (f ∷ g ∷ w)))
+      ∙ and-regroup (below l f && below l g) (at-most 10 o) (operation-fine vw (length (c .vars)) (f ∷ g ∷ w)))

@@ -4,7 +4,7 @@ use Rattle.semantics.proofs.Prelude.{_≡_, refl, sym, ap, _∙_, Bool, true, f
 use Rattle.semantics.specs.Lists.{all, each}
 use Rattle.semantics.specs.Chart.{eqZ}
 use Rattle.semantics.specs.Encoding.{several, past, begins-with}
-use Rattle.semantics.proofs.ConstantValues.{and-left, and-right, and-assoc}
+use Rattle.semantics.proofs.ConstantValues.{and-left, and-right, and-regroup}
 use Rattle.semantics.proofs.MemoryOf.{both-true}
 use Rattle.chart.specs.Encoded.{rows}
 
@@ -20,7 +20,7 @@ interchange a b c d = iff _ _ (λ h. search (and-left, and-right, both-true)) (�
 pub begins-append : (xs ys ws : List ℤ) → begins-with (xs ++ ys) ws ≡ begins-with xs ws && begins-with ys (drop (length xs) ws)
 begins-append [] ys ws = refl
 begins-append (x ∷ xs) ys [] = refl
-begins-append (x ∷ xs) ys (w ∷ ws) = ap (λ (b : Bool). eqZ x w && b) (begins-append xs ys ws) ∙ and-assoc (eqZ x w) (begins-with xs ws) (begins-with ys (drop (length xs) ws))
+begins-append (x ∷ xs) ys (w ∷ ws) = ap (λ (b : Bool). eqZ x w && b) (begins-append xs ys ws) ∙ and-regroup (eqZ x w) (begins-with xs ws) (begins-with ys (drop (length xs) ws))
 
 pub all-and : {A : Type 0} (p q : A → Bool) (xs : List A) → all p xs && all q xs ≡ all (λ x. p x && q x) xs
 all-and p q [] = refl
@@ -54,7 +54,7 @@ module _ {A : Type 0} (g : List ℤ → A) (k : ℕ) where
         ∙ begins-append (f (g ws)) (each f (several g k n (drop k ws)) ++ more) ws
         ∙ ap (λ (m : ℕ). begins-with (f (g ws)) ws && begins-with (each f (several g k n (drop k ws)) ++ more) (drop m ws)) (wide ws)
         ∙ ap (λ (b : Bool). begins-with (f (g ws)) ws && b) (begins-rows n more (drop k ws))
-        ∙ and-assoc (begins-with (f (g ws)) ws) (all (λ r. begins-with (f (g r)) r) (rows k n (drop k ws))) (begins-with more (past k n (drop k ws)))
+        ∙ and-regroup (begins-with (f (g ws)) ws) (all (λ r. begins-with (f (g r)) r) (rows k n (drop k ws))) (begins-with more (past k n (drop k ws)))
 
     -- so many words are there
     pub each-length : (n : ℕ) (ws : List ℤ) → length (each f (several g k n ws)) ≡ k * n

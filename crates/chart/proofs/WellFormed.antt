@@ -1,11 +1,11 @@
 -- The tests of the words are the form check: counts first, then room for all rows, then the rows. Assumes nothing.
-use Rattle.semantics.proofs.Prelude.{_≡_, refl, sym, ap, _∙_, Bool, true, false, _&&_, List, [], _∷_, _++_, map, append-nil, ℕ, zero, suc, _+_, _*_, _≤_, _<_, arith, leb-true, leb-false, T, leb, ℤ, pos, length, drop, length-append, length-map, length-drop, drop-drop, getD-drop, nonNeg}
+use Rattle.semantics.proofs.Prelude.{_≡_, refl, sym, ap, _∙_, Bool, true, false, _&&_, and-true, List, [], _∷_, _++_, map, append-nil, ℕ, zero, suc, _+_, _*_, _≤_, _<_, arith, leb-true, leb-false, T, leb, ℤ, pos, length, drop, length-append, length-map, length-drop, drop-drop, getD-drop, nonNeg}
 use Rattle.semantics.specs.Layout.{counts-size, variable-size, name-size, location-size, edge-size, high-place}
 use Rattle.semantics.specs.Lists.{all, each}
 use Rattle.semantics.specs.Text.{name-ok}
 use Rattle.semantics.specs.Chart.{eqZ, in-range}
 use Rattle.semantics.specs.Encoding.{word-at, var-words, loc-words, edge-words, encode, var-in, loc-in, edge-in, name-in, several, past, count, decode, var-ok, distinct-names, edge-ok, chart-ok, begins-with, well-formed}
-use Rattle.semantics.proofs.ConstantValues.{and-left, and-right, and-true}
+use Rattle.semantics.proofs.ConstantValues.{and-left, and-right}
 use Rattle.semantics.proofs.MemoryOf.{to-false, both-true, padded-length}
 use Rattle.semantics.proofs.Encoded.{op-wide}
 use Rattle.chart.specs.Encoded.{rows, counts-fine, locations-at, edges-at, location-fine, ranged, edge-fine, rows-fine}

@@ -1,9 +1,11 @@
 -- Facts of values, of any number of variables. Assumes nothing.
-use Rattle.semantics.proofs.Prelude.{_≡_, refl, sym, ap, _∙_, subst, Bool, true, false, _&&_, List, [], _∷_, Option, some, none, ℕ, zero, suc, arith, le-antisymm, T, eqb→eq, leb→le, length, getD, set, ℤ, pos, negsuc, _+ℤ_, _-ℤ_, leZ}
+use Rattle.semantics.proofs.Prelude.{_≡_, refl, sym, ap, _∙_, subst, Bool, true, false, _&&_, and-assoc, List, [], _∷_, Option, some, none, ℕ, zero, suc, arith, le-antisymm, T, eqb, eqb→eq, leb→le, length, getD, set, ℤ, pos, negsuc, _+ℤ_, _-ℤ_, leZ}
 use Rattle.semantics.specs.Lists.{all-pairs, pick}
-use Rattle.semantics.specs.Chart.{Value, known, top, Var, Operand, num, var, Rel, eq, ne, lt, le, gt, ge, Op, assign, add, sub, input, assume, skip, eqZ, within, holds, Ranged, Matches₁, Matches, value, Becomes, in-range}
-use Rattle.semantics.specs.Constants.{equal-value, leq-value, join-values, operand-value, both, assign-value, refine, one-known, tested, one-of, effect}
+use Rattle.semantics.specs.Chart.{Value, known, top, Var, Operand, num, var, Rel, eq, ne, lt, le, gt, ge, Op, assign, add, sub, input, assume, skip, Edge, Chart, eqZ, within, holds, Ranged, Matches₁, Matches, value, Becomes, in-range}
+use Rattle.semantics.specs.Algorithm.{to, halt}
+use Rattle.semantics.specs.Constants.{AbstractState, equal-value, leq-value, join-values, operand-value, both, assign-value, refine, one-known, tested, one-of, effect, arrive-at, post}
 use Rattle.semantics.proofs.AtAndIn.{from-true}
+use Rattle.semantics.proofs.Covering.{halt-to}
 
 pub and-left : (a b : Bool) → T (a && b) → T a
 and-left true b t = tt
@@ -22,13 +24,9 @@ pub right-true : (a b : Bool) → a && b ≡ true → b ≡ true
 right-true true b e = e
 right-true false b e = absurd (subst T (sym e) tt)
 
-pub and-true : (a : Bool) → a && true ≡ a
-and-true true = refl
-and-true false = refl
-
-pub and-assoc : (a b c : Bool) → a && (b && c) ≡ a && b && c
-and-assoc true b c = refl
-and-assoc false b c = refl
+-- the last two tests apart: mathlib's `and-assoc` the other way round
+pub and-regroup : (a b c : Bool) → a && (b && c) ≡ a && b && c
+and-regroup a b c = sym (and-assoc a b c)
 
 pub eqZ-same : (a b : ℤ) → T (eqZ a b) → a ≡ b
 eqZ-same (pos a) (pos b) t = ap pos (eqb→eq a b t)
@@ -200,3 +198,68 @@ effect-gives vars (input v p u) vs xs ys r q m h =
 effect-gives vars (assume v t a) vs xs ys r q m h =
     rw (h .1) (tested-gives vars t (var v) a (operand-value (var v) vs) (operand-value a vs) vs xs r m (known-matches (var v) vs xs m) (known-matches a vs xs m) (h .0))
 effect-gives vars skip vs xs ys r q m h = (vs, refl, rw h m)
+
+-- ---- what the moves keep
+
+-- P of the values, where there are any
+Kept : (List Value → Type 0) → Option (List Value) → Type 0
+Kept P none = Unit
+Kept P (some us) = P us
+
+-- P is kept by a new value at variable k that is Ok there, as each number of k's range and top are
+module _ (c : Chart) (P : List Value → Type 0) (Ok : ℕ → Value → Type 0) (known-ok : (k : ℕ) (z : ℤ) → T (in-range (c .vars) k z) → Ok k (known z)) (top-ok : (k : ℕ) → Ok k top)
+    (set-keeps : (k : ℕ) (v : Value) (vs : List Value) → Ok k v → P vs → P (set vs k v)) where
+  some-keeps : (b : Bool) (us : List Value) → (T b → P us) → Kept P (pick b (some us) none)
+  unfolding Kept
+  some-keeps true us h = h tt
+  some-keeps false us h = tt
+
+  assign-keeps : (k : ℕ) (v : Value) (vs : List Value) → P vs → Kept P (assign-value (c .vars) k v vs)
+  unfolding Kept
+  assign-keeps k (known z) vs h = some-keeps (in-range (c .vars) k z) (set vs k (known z)) (λ t. set-keeps k (known z) vs (known-ok k z t) h)
+  assign-keeps k top vs h = set-keeps k top vs (top-ok k) h
+
+  one-known-keeps : (r : Rel) (a : Operand) (z : ℤ) (vs : List Value) → P vs → Kept P (one-known (c .vars) r a z vs)
+  unfolding Kept
+  one-known-keeps eq (num a) z vs h = h
+  one-known-keeps eq (var k) z vs h = assign-keeps k (known z) vs h
+  one-known-keeps ne a z vs h = h
+  one-known-keeps lt a z vs h = h
+  one-known-keeps le a z vs h = h
+  one-known-keeps gt a z vs h = h
+  one-known-keeps ge a z vs h = h
+
+  tested-keeps : (r : Rel) (a b : Operand) (v w : Value) (vs : List Value) → P vs → Kept P (tested (c .vars) r a b v w vs)
+  unfolding Kept
+  tested-keeps r a b (known x) (known y) vs h = some-keeps (holds r x y) vs (λ t. h)
+  tested-keeps r a b (known x) top vs h = one-known-keeps r b x vs h
+  tested-keeps r a b top (known y) vs h = one-known-keeps r a y vs h
+  tested-keeps r a b top top vs h = h
+
+  -- what `in` gives is Ok
+  abbrev pub InputOk : Op → Type 0
+  InputOk o = (v : ℕ) (p q : ℤ) → o ≡ input v p q → Ok v (one-of p q)
+
+  effect-keeps : (o : Op) (vs : List Value) → InputOk o → P vs → Kept P (effect (c .vars) o vs)
+  unfolding Kept
+  effect-keeps (assign v a) vs i h = assign-keeps v (operand-value a vs) vs h
+  effect-keeps (add v a b) vs i h = assign-keeps v (both _+ℤ_ (operand-value a vs) (operand-value b vs)) vs h
+  effect-keeps (sub v a b) vs i h = assign-keeps v (both _-ℤ_ (operand-value a vs) (operand-value b vs)) vs h
+  effect-keeps (input v p q) vs i h = set-keeps v (one-of p q) vs (i v p q refl) h
+  effect-keeps (assume v r a) vs i h = tested-keeps r (var v) a (operand-value (var v) vs) (operand-value a vs) vs h
+  effect-keeps skip vs i h = h
+
+  -- a move ends at the edge's target, with P
+  pub post-keeps : (g : Edge) (e f : AbstractState) → InputOk (g .op) → P (e .vals) → post c g e ≡ to f → (g .to ≡ f .loc) × P (f .vals)
+  unfolding post Kept
+  post-keeps g e f i h p = go (eqb (g .from) (e .loc)) p
+    where
+      ends : (o : Option (List Value)) → Kept P o → arrive-at (g .to) o ≡ to f → (g .to ≡ f .loc) × P (f .vals)
+      ends none k q = absurd (halt-to refl q)
+      ends (some us) k q =
+          let same : _≡_ {A = AbstractState} (record { loc = g .to; vals = us }) f = cc in
+          (ap (λ (x : AbstractState). x .loc) same, subst (λ (x : AbstractState). P (x .vals)) same k)
+
+      go : (b : Bool) → pick b (arrive-at (g .to) (effect (c .vars) (g .op) (e .vals))) halt ≡ to f → (g .to ≡ f .loc) × P (f .vals)
+      go true q = ends (effect (c .vars) (g .op) (e .vals)) (effect-keeps (g .op) (e .vals) i h) q
+      go false q = absurd (halt-to refl q)

@@ -1,7 +1,7 @@
 -- The lines made for a chart in bounds are judged back to that chart. Assumes nothing.
-use Rattle.semantics.proofs.Prelude.{_≡_, refl, sym, ap, subst, Bool, true, false, _&&_, _||_, not, List, [], _∷_, _++_, map, append-assoc, append-nil, ℕ, zero, suc, _+_, _≤_, _<_, arith, T, leb, ltb, eqb, lt→ltb, length, getD, length-append, ℤ, pos, negsuc, leZ, ne-eqb}
+use Rattle.semantics.proofs.Prelude.{_≡_, refl, sym, ap, subst, Bool, true, false, _&&_, _||_, not, List, [], _∷_, _++_, map, append-assoc, append-nil, ℕ, zero, suc, _+_, _≤_, _<_, arith, T, leb, ltb, eqb, lt-ltb, length, getD, length-append, ℤ, pos, negsuc, leZ, ne-eqb}
 use Rattle.semantics.specs.Lists.{all, is-empty}
-use Rattle.semantics.specs.Layout.{most-edges, most-locations}
+use Rattle.semantics.specs.Layout.{most-edges, most-locations, most-variables}
 use Rattle.semantics.specs.Text.{decimal, decimalZ, between, name-byte, name-ok, same-bytes}
 use Rattle.semantics.specs.Chart.{Value, known, top, Var, Loc, Operand, num, var, Rel, eq, ne, lt, le, gt, ge, Op, assign, add, sub, input, assume, skip, Edge, Chart, within, in-range, small}
 use Rattle.semantics.specs.Reading.{ok, check, if-ok, location-field, target-field, operand-field, init-field, kind-field, rel-text, rel-field, OpWord, do-set, do-add, do-sub, do-in, do-if, do-skip, op-word-field, field-count, So-far, nth, none-empty, var-line, loc-line, op-fields-read, edge-line, judge, at-end, judged, number-field, kind-text}
@@ -59,19 +59,20 @@ unfolding init-field check if-ok
 init-back lo hi (known z) t = rw (not-star (decimalZ z) (headZ z), number-at z (and-left (small z) (within lo hi z) t), to-true (within lo hi z) (and-right (small z) (within lo hi z) t))
 init-back lo hi top t = refl
 
-kind-back : (b : Bool) → kind-field (kind-text b) ≡ ok b
+-- the word of a kind, and of a relation, is read back and not empty
+kind-said : (b : Bool) → (kind-field (kind-text b) ≡ ok b) × (is-empty (kind-text b) ≡ false)
 unfolding kind-field
-kind-back true = refl
-kind-back false = refl
+kind-said true = (refl, refl)
+kind-said false = (refl, refl)
 
-rel-back : (r : Rel) → rel-field (rel-text r) ≡ ok r
+rel-said : (r : Rel) → (rel-field (rel-text r) ≡ ok r) × (is-empty (rel-text r) ≡ false)
 unfolding rel-field
-rel-back eq = refl
-rel-back ne = refl
-rel-back lt = refl
-rel-back le = refl
-rel-back gt = refl
-rel-back ge = refl
+rel-said eq = (refl, refl)
+rel-said ne = (refl, refl)
+rel-said lt = (refl, refl)
+rel-said le = (refl, refl)
+rel-said gt = (refl, refl)
+rel-said ge = (refl, refl)
 
 -- ---- an operation
 
@@ -87,62 +88,33 @@ operand-filled : (a : Operand) → is-empty (operand-text a) ≡ false
 operand-filled (num z) = filled (decimalZ z) (headZ z)
 operand-filled (var k) = refl
 
-rel-filled : (r : Rel) → is-empty (rel-text r) ≡ false
-rel-filled eq = refl
-rel-filled ne = refl
-rel-filled lt = refl
-rel-filled le = refl
-rel-filled gt = refl
-rel-filled ge = refl
-
-op-filled : (o : Op) → none-empty (op-fields o) ≡ true
-op-filled (assign v a) = rw (operand-filled a)
-op-filled (add v a b) = rw (operand-filled a, operand-filled b)
-op-filled (sub v a b) = rw (operand-filled a, operand-filled b)
-op-filled (input v p q) = rw (filled (decimalZ p) (headZ p), filled (decimalZ q) (headZ q))
-op-filled (assume v r a) = rw (rel-filled r, operand-filled a)
-op-filled skip = refl
+-- add and sub: a target and two operands
+two-back : (c : Chart) (make : ℕ → Operand → Operand → Op) (v : ℕ) (a b : Operand) → T (ltb v (length (c .vars)) && operand-ok (c .vars) a && operand-ok (c .vars) b)
+    → if-ok (target-field (length (c .vars)) (36 ∷ decimal v)) (λ v. if-ok (operand-field (length (c .vars)) (operand-text a)) (λ a. if-ok (operand-field (length (c .vars)) (operand-text b)) (λ b. ok (make v a b)))) ≡ ok (make v a b)
+unfolding if-ok
+two-back c make v a b t =
+    let l : T (ltb v (length (c .vars))) = search (and-left, and-right) in
+    let p : T (operand-ok (c .vars) a) = search (and-left, and-right) in
+    let q : T (operand-ok (c .vars) b) = search (and-left, and-right) in
+    rw (target-at (length (c .vars)) v l, operand-back c a p, operand-back c b q)
 
 module _ (x y z : List ℕ) where
-  op-word : (o : Op) → op-word-field (nth (x ∷ y ∷ z ∷ op-fields o) 3) ≡ ok (word-of o)
+  -- an E line: it has four fields, from the operation on none is empty, the operation's word is read, and the fields are
+  -- as many as it asks
+  op-said : (o : Op) → let fs = x ∷ y ∷ z ∷ op-fields o in (leb 4 (length fs) ≡ true) × (none-empty (op-fields o) ≡ true) × (op-word-field (nth fs 3) ≡ ok (word-of o)) × (eqb (length fs) (field-count (word-of o)) ≡ true)
   unfolding op-word-field word-of
-  op-word (assign v a) = refl
-  op-word (add v a b) = refl
-  op-word (sub v a b) = refl
-  op-word (input v p q) = refl
-  op-word (assume v r a) = refl
-  op-word skip = refl
-
-  op-enough : (o : Op) → leb 4 (length (x ∷ y ∷ z ∷ op-fields o)) ≡ true
-  op-enough (assign v a) = refl
-  op-enough (add v a b) = refl
-  op-enough (sub v a b) = refl
-  op-enough (input v p q) = refl
-  op-enough (assume v r a) = refl
-  op-enough skip = refl
-
-  op-count : (o : Op) → eqb (length (x ∷ y ∷ z ∷ op-fields o)) (field-count (word-of o)) ≡ true
-  unfolding word-of
-  op-count (assign v a) = refl
-  op-count (add v a b) = refl
-  op-count (sub v a b) = refl
-  op-count (input v p q) = refl
-  op-count (assume v r a) = refl
-  op-count skip = refl
+  op-said (assign v a) = (refl, rw (operand-filled a), refl, refl)
+  op-said (add v a b) = (refl, rw (operand-filled a, operand-filled b), refl, refl)
+  op-said (sub v a b) = (refl, rw (operand-filled a, operand-filled b), refl, refl)
+  op-said (input v p q) = (refl, rw (filled (decimalZ p) (headZ p), filled (decimalZ q) (headZ q)), refl, refl)
+  op-said (assume v r a) = (refl, rw (rel-said r .1, operand-filled a), refl, refl)
+  op-said skip = (refl, refl, refl, refl)
 
   op-back : (c : Chart) (o : Op) → T (op-ok (c .vars) o) → op-fields-read c (word-of o) (x ∷ y ∷ z ∷ op-fields o) ≡ ok o
   unfolding op-fields-read word-of check if-ok
   op-back c (assign v a) t = let l : T (ltb v (length (c .vars))) = search (and-left, and-right) in rw (target-at (length (c .vars)) v l, operand-back c a (search (and-left, and-right)))
-  op-back c (add v a b) t =
-      let l : T (ltb v (length (c .vars))) = search (and-left, and-right) in
-      let p : T (operand-ok (c .vars) a) = search (and-left, and-right) in
-      let q : T (operand-ok (c .vars) b) = search (and-left, and-right) in
-      rw (target-at (length (c .vars)) v l, operand-back c a p, operand-back c b q)
-  op-back c (sub v a b) t =
-      let l : T (ltb v (length (c .vars))) = search (and-left, and-right) in
-      let p : T (operand-ok (c .vars) a) = search (and-left, and-right) in
-      let q : T (operand-ok (c .vars) b) = search (and-left, and-right) in
-      rw (target-at (length (c .vars)) v l, operand-back c a p, operand-back c b q)
+  op-back c (add v a b) t = two-back c add v a b t
+  op-back c (sub v a b) t = two-back c sub v a b t
   op-back c (input v p q) t =
       let l : T (ltb v (length (c .vars))) = search (and-left, and-right) depth 8 in
       let sp : T (small p) = search (and-left, and-right) depth 8 in
@@ -151,7 +123,7 @@ module _ (x y z : List ℕ) where
       let rq : in-range (c .vars) v q ≡ true = to-true (in-range (c .vars) v q) (search (and-left, and-right) depth 8) in
       let pq : leZ p q ≡ true = to-true (leZ p q) (search (and-left, and-right) depth 8) in
       rw (target-at (length (c .vars)) v l, number-at p sp, rp, number-at q sq, rq, pq)
-  op-back c (assume v r a) t = let l : T (ltb v (length (c .vars))) = search (and-left, and-right) in rw (target-at (length (c .vars)) v l, rel-back r, operand-back c a (search (and-left, and-right)))
+  op-back c (assume v r a) t = let l : T (ltb v (length (c .vars))) = search (and-left, and-right) in rw (target-at (length (c .vars)) v l, rel-said r .0, operand-back c a (search (and-left, and-right)))
   op-back c skip t = refl
 
 -- ---- lines, one after another
@@ -179,7 +151,7 @@ unfolding made
 made-new i zero l = tt
 made-new i (suc j) l = both-true (not (same-bytes ((97 + j) ∷ []) ((97 + i) ∷ []))) (all (λ m. not (same-bytes m ((97 + i) ∷ []))) (made j)) (rw (ne-eqb (97 + j) (97 + i) (λ e. omega arith)) tt) (made-new i j (omega arith))
 
-made-name : (i : ℕ) → i < 8 → name-byte (97 + i) ≡ true
+made-name : (i : ℕ) → i < most-variables → name-byte (97 + i) ≡ true
 unfolding name-byte
 made-name i l = rw (in-between 97 122 (97 + i) (omega arith) (omega arith)) (go (between 65 90 (97 + i)) (between 48 57 (97 + i)) (eqb (97 + i) 45))
   where
@@ -190,7 +162,7 @@ made-name i l = rw (in-between 97 122 (97 + i) (omega arith) (omega arith)) (go 
 abbrev pub vars-so-far : ℕ → List Var → So-far
 vars-so-far i vs = record { names = made i; chart = record { vars = vs; locs = []; edges = [] } }
 
-var-back : (i : ℕ) (pre : List Var) (v : Var) → i < 8 → length pre < 8 → T (var-ok v) → T (all (λ m. not (same-bytes m ((97 + i) ∷ []))) (made i)) → judge (vars-so-far i pre) (var-fields i v) ≡ ok (vars-so-far (suc i) (pre ++ (v ∷ [])))
+var-back : (i : ℕ) (pre : List Var) (v : Var) → i < most-variables → length pre < most-variables → T (var-ok v) → T (all (λ m. not (same-bytes m ((97 + i) ∷ []))) (made i)) → judge (vars-so-far i pre) (var-fields i v) ≡ ok (vars-so-far (suc i) (pre ++ (v ∷ [])))
 unfolding judge var-line made check if-ok
 var-back i pre v il l t New =
     let sl : T (small (v .lo)) = search (and-left, and-right) in
@@ -198,7 +170,7 @@ var-back i pre v il l t New =
     let lh : leZ (v .lo) (v .hi) ≡ true = to-true (leZ (v .lo) (v .hi)) (search (and-left, and-right)) in
     let io : T (init-ok (v .lo) (v .hi) (v .init)) = search (and-left, and-right) in
     rw (
-      to-true (ltb (length pre) 8) (lt→ltb (length pre) 8 l),
+      lt-ltb (length pre) most-variables l,
       filled (decimalZ (v .lo)) (headZ (v .lo)),
       filled (decimalZ (v .hi)) (headZ (v .hi)),
       init-filled (v .init),
@@ -214,7 +186,7 @@ var-back i pre v il l t New =
     init-filled (known z) = filled (decimalZ z) (headZ z)
     init-filled top = refl
 
-pub vars-back : (i : ℕ) (pre vs : List Var) → i ≡ length pre → length pre + length vs ≤ 8 → T (all var-ok vs)
+pub vars-back : (i : ℕ) (pre vs : List Var) → i ≡ length pre → length pre + length vs ≤ most-variables → T (all var-ok vs)
     → (ns : List (List ℕ)) × Steps (vars-so-far i pre) (vars-fields i vs) (record { names = ns; chart = record { vars = pre ++ vs; locs = []; edges = [] } })
 vars-back i pre [] e l t = (made i, ap (λ (x : List Var). vars-so-far i x) (sym (append-nil pre)))
 vars-back i pre (v ∷ vs) e l t =
@@ -244,10 +216,6 @@ name-filled : (n : List ℕ) → T (name-ok n) → is-empty n ≡ false
 name-filled [] t = absurd t
 name-filled (b ∷ bs) t = refl
 
-kind-filled : (b : Bool) → is-empty (kind-text b) ≡ false
-kind-filled true = refl
-kind-filled false = refl
-
 abbrev pub locs-so-far : List (List ℕ) → List Var → List Loc → So-far
 locs-so-far ns vs ls = record { names = ns; chart = record { vars = vs; locs = ls; edges = [] } }
 
@@ -256,11 +224,11 @@ module _ (ns : List (List ℕ)) (vs : List Var) where
   unfolding judge loc-line check if-ok
   loc-back pre l h t New =
       rw (
-        to-true (ltb (length pre) most-locations) (lt→ltb (length pre) most-locations h),
+        lt-ltb (length pre) most-locations h,
         name-filled (l .name) t,
-        kind-filled (l .error),
+        kind-said (l .error) .1,
         to-true (name-ok (l .name)) t,
-        kind-back (l .error),
+        kind-said (l .error) .0,
         to-true (all (λ m. not (same-bytes (m .name) (l .name))) pre) New,
       )
 
@@ -285,14 +253,15 @@ module _ (ns : List (List ℕ)) (c : Chart) where
   edge-back pre g h t =
       let f : T (ltb (g .from) (length (c .locs))) = search (and-left, and-right) in
       let u : T (ltb (g .to) (length (c .locs))) = search (and-left, and-right) in
+      let o = op-said (69 ∷ []) (decimal (g .from)) (decimal (g .to)) (g .op) in
       rw (
-        to-true (ltb (length pre) most-edges) (lt→ltb (length pre) most-edges h),
-        op-enough (69 ∷ []) (decimal (g .from)) (decimal (g .to)) (g .op),
+        lt-ltb (length pre) most-edges h,
+        o .0,
         filled (decimal (g .from)) (headN (g .from)),
         filled (decimal (g .to)) (headN (g .to)),
-        op-filled (g .op),
-        op-word (69 ∷ []) (decimal (g .from)) (decimal (g .to)) (g .op),
-        op-count (69 ∷ []) (decimal (g .from)) (decimal (g .to)) (g .op),
+        o .1,
+        o .2,
+        o .3,
         location-at (length (c .locs)) (g .from) f,
         location-at (length (c .locs)) (g .to) u,
         op-back (69 ∷ []) (decimal (g .from)) (decimal (g .to)) (record { vars = c .vars; locs = c .locs; edges = pre }) (g .op) (and-right (ltb (g .from) (length (c .locs)) && ltb (g .to) (length (c .locs))) (op-ok (c .vars) (g .op)) t),

@@ -1,9 +1,8 @@
 -- `chart::name_words_ok` meets its contract. Assumes nothing.
-use Rattle.semantics.proofs.Prelude.{_≡_, refl, sym, ap, _∙_, _&&_, _-_, _≤_, arith, needs, sfits-of, length, drop, drop-of-length-le, w32, toZ-ofZ}
+use Rattle.semantics.proofs.Prelude.{_≡_, refl, sym, ap, _∙_, _&&_, and-true, _-_, _≤_, arith, needs, sfits-of, length, drop, drop-of-length-le, w32, toZ-ofZ}
 use Rattle.semantics.specs.Encoding.{word-at}
 use Rattle.semantics.specs.Lists.{all}
 use Rattle.chart.specs.Encoded.{name-word}
-use Rattle.semantics.proofs.ConstantValues.{and-true}
 use Rattle.chart.proofs.Names.{bytes-turn}
 use Rattle.chart.proofs.name_words_ok.Statement.{statement}
 use Rattle.chart.proofs.name_words_ok.Tie as tie

@@ -1,9 +1,8 @@
 -- `chart::names_differ` meets its contract: each location left is compared with those after it. Assumes nothing.
-use Rattle.semantics.proofs.Prelude.{_≡_, refl, sym, ap, _∙_, _&&_, List, _+_, _-_, _*_, _≤_, arith, ℤ, length, take, drop, length-take, length-drop}
+use Rattle.semantics.proofs.Prelude.{_≡_, refl, sym, ap, _∙_, _&&_, and-true, List, _+_, _-_, _*_, _≤_, arith, ℤ, length, take, drop, length-take, length-drop}
 use Rattle.semantics.specs.Layout.{location-size}
 use Rattle.semantics.specs.Lists.{all}
 use Rattle.semantics.specs.Encoding.{loc-in, several, distinct-names}
-use Rattle.semantics.proofs.ConstantValues.{and-true}
 use Rattle.words.proofs.Rows.{tail}
 use Rattle.chart.proofs.Names.{other-name, differ-turn}
 use Rattle.chart.proofs.names_differ.Statement.{statement}
