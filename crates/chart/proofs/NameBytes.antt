@@ -6,9 +6,10 @@ use Rattle.semantics.specs.Lists.{all, pick}
 use Rattle.semantics.specs.Text.{between, name-byte, name-ok}
 use Rattle.semantics.specs.Chart.{Loc, eqZ}
 use Rattle.semantics.specs.Listing.{loc-text}
-use Rattle.semantics.specs.Encoding.{name-in, loc-in, several, count, decode, begins-with, encode, chart-ok, well-formed}
+use Rattle.semantics.specs.Encoding.{name-in, loc-in, several, count, decode, well-formed}
 use Rattle.semantics.proofs.ConstantValues.{and-left, and-right}
 use Rattle.semantics.proofs.StatesOk.{bounds}
+use Rattle.semantics.proofs.Encoded.{well-formed-split}
 use Rattle.chart.specs.Encoded.{locations-at, byte-of}
 use Rattle.chart.proofs.Rows.{past-drop}
 
@@ -84,7 +85,6 @@ small-names (l ∷ ls) (suc k) i t = small-names ls k i (and-right (name-ok (l .
 
 -- so `name_byte` answers the byte of the name itself
 pub names-are-bytes : (ws : List ℤ) → T (well-formed ws) → (k i : ℕ) → byte-of (getD (loc-text (decode ws .locs) k) i 0) ≡ getD (loc-text (decode ws .locs) k) i 0
-unfolding well-formed
 names-are-bytes ws t k i =
-    let b = bounds (decode ws) (and-right (begins-with (encode (decode ws)) ws) (chart-ok (decode ws)) t) in
+    let b = bounds (decode ws) (well-formed-split ws t .1) in
     rw (lt-ltb (getD (loc-text (decode ws .locs) k) i 0) 256 (small-names (decode ws .locs) k i (b .names)))

@@ -66,8 +66,8 @@ module _ (us vs : List ℤ) (i : ℕ) (more : i < name-size) (x y : ℕ) (ex : x
 
 -- the words of a name, each tested
 module _ (p : ℤ → Bool) (ws : List ℤ) (ok : Bool) (i : ℕ) where
-  pub bytes-turn : (b : Bool) → i < length ws → b ≡ p (word-at ws i) → ok && all p (drop i ws) ≡ ok && b && all p (drop (i + 1) ws)
-  bytes-turn b h e = rw (add-one i, drop-cons ws i (pos 0) h, e) (and-regroup ok (p (word-at ws i)) (all p (drop (suc i) ws)))
+  pub words-turn : (b : Bool) → i < length ws → b ≡ p (word-at ws i) → ok && all p (drop i ws) ≡ ok && b && all p (drop (i + 1) ws)
+  words-turn b h e = rw (add-one i, drop-cons ws i (pos 0) h, e) (and-regroup ok (p (word-at ws i)) (all p (drop (suc i) ws)))
 
 -- the name is not that of the location given
 abbrev pub other-name : List ℤ → Loc → Bool

@@ -89,7 +89,7 @@ location-row (k ∷ xs) h =
     ∙ ap (λ (b : Bool). ((eqZ k (pos 0) || eqZ k (pos 1)) && leb 1 n) && b) (name-row name-size xs l)
     ∙ and-regroup ((eqZ k (pos 0) || eqZ k (pos 1)) && leb 1 n) (all name-word (take n xs)) (zeros (take (name-size - n) (drop n xs))))
 
--- ---- an edge: vars are the variables, and vw their words
+-- ---- an edge: what is tested of each word and of what it says, in the order of the code's tests
 
 sure : T true
 sure = tt

@@ -1,13 +1,13 @@
 -- The tests of the words are the form check: counts first, then room for all rows, then the rows. Assumes nothing.
 use Rattle.semantics.proofs.Prelude.{_≡_, refl, sym, ap, _∙_, Bool, true, false, _&&_, and-true, List, [], _∷_, _++_, map, append-nil, ℕ, zero, suc, _+_, _*_, _≤_, _<_, arith, leb-true, leb-false, T, leb, ℤ, pos, length, drop, length-append, length-map, length-drop, drop-drop, getD-drop, nonNeg}
-use Rattle.semantics.specs.Layout.{counts-size, variable-size, name-size, location-size, edge-size, high-place}
+use Rattle.semantics.specs.Layout.{most-variables, most-locations, most-edges, counts-size, variable-size, name-size, location-size, edge-size, high-place}
 use Rattle.semantics.specs.Lists.{all, each}
 use Rattle.semantics.specs.Text.{name-ok}
 use Rattle.semantics.specs.Chart.{eqZ, in-range}
 use Rattle.semantics.specs.Encoding.{word-at, var-words, loc-words, edge-words, encode, var-in, loc-in, edge-in, name-in, several, past, count, decode, var-ok, distinct-names, edge-ok, chart-ok, begins-with, well-formed}
 use Rattle.semantics.proofs.ConstantValues.{and-left, and-right}
 use Rattle.semantics.proofs.MemoryOf.{to-false, both-true, padded-length}
-use Rattle.semantics.proofs.Encoded.{op-wide}
+use Rattle.semantics.proofs.Encoded.{edge-wide}
 use Rattle.chart.specs.Encoded.{rows, counts-fine, locations-at, edges-at, location-fine, ranged, edge-fine, rows-fine}
 use Rattle.semantics.proofs.Decoded.{vars-count, locs-count, edges-count}
 use Rattle.chart.proofs.Rows.{iff, all-and, past-drop, rows-same, all-rows, begins-rows, each-length}
@@ -15,9 +15,6 @@ use Rattle.chart.proofs.RowTests.{said, var-row, name-few, location-row
 
 loc-wide : (ws : List ℤ) → length (loc-words (loc-in ws)) ≡ location-size
 loc-wide ws = ap suc (padded-length name-size (map pos (name-in name-size (drop 1 ws))) (omega (arith, length-map (name-in name-size (drop 1 ws)) pos, name-few name-size (drop 1 ws))))
-
-edge-wide : (ws : List ℤ) → length (edge-words (edge-in ws)) ≡ edge-size
-edge-wide ws = ap (λ (n : ℕ). suc (suc n)) (op-wide (edge-in ws .op))
 
 -- ---- room for all rows
 
@@ -36,7 +33,7 @@ encode-length ws =
       arith,
       each-length var-in variable-size var-words (λ r. refl) (count ws 0) v,
       each-length loc-in location-size loc-words loc-wide (count ws 1) l,
-      each-length edge-in edge-size edge-words edge-wide (count ws 2) e,
+      each-length edge-in edge-size edge-words (λ r. edge-wide (edge-in r) tt) (count ws 2) e,
     ))
 
 pub no-room : (ws : List ℤ) → length ws < edges-at ws + edge-size * count ws 2 → well-formed ws ≡ false
@@ -116,7 +113,7 @@ module _ (ws : List ℤ) where
       (begins-rows loc-in location-size loc-words loc-wide (count ws 1) es l-rows
       ∙ ap (λ (b : Bool). exact-locs && b)
       (ap (λ (x : List ℤ). begins-with x e-rows) (sym (append-nil es))
-      ∙ begins-rows edge-in edge-size edge-words edge-wide (count ws 2) [] e-rows
+      ∙ begins-rows edge-in edge-size edge-words (λ r. edge-wide (edge-in r) tt) (count ws 2) [] e-rows
       ∙ and-true exact-edges)))
 
   -- the counts, the rows' form, and what the rows say
@@ -136,7 +133,7 @@ module _ (ws : List ℤ) where
         said (word-at ws 1),
         said (word-at ws 2),
       )
-      (shuffle-chart (nonNeg (word-at ws 0)) (nonNeg (word-at ws 1)) (nonNeg (word-at ws 2)) exact-rows (leb v 8) (leb 1 l) (leb l 64) (leb e 256)
+      (shuffle-chart (nonNeg (word-at ws 0)) (nonNeg (word-at ws 1)) (nonNeg (word-at ws 2)) exact-rows (leb v most-variables) (leb 1 l) (leb l most-locations) (leb e most-edges)
       (all var-ok (c .vars)) (all (λ l. name-ok (l .name)) (c .locs)) (distinct-names (c .locs)) (all (edge-ok c) (c .edges)))
 
 every-true : (rs : List (List ℤ)) → all (λ r. true) rs ≡ true

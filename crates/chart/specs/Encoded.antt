@@ -10,7 +10,7 @@ use lib.IntN.{ℤ, pos, natAbs}
 use lib.Signed.{nonNeg, leZ}
 use Rattle.semantics.specs.Lists.{pick, all}
 use Rattle.semantics.specs.Chart.{eqZ, within, small}
-use Rattle.semantics.specs.Layout.{counts-size, variable-size, name-size, location-size, edge-size, variable-at, high-place, kind-place, name-place, from-place, to-place, operation-place, target-place, first-tag-place, first-value-place, second-tag-place, second-value-place, skip-code, add-code, sub-code, in-code, ge-code, number-tag, variable-tag}
+use Rattle.semantics.specs.Layout.{most-variables, most-locations, most-edges, counts-size, variable-size, name-size, location-size, edge-size, variable-at, high-place, kind-place, name-place, from-place, to-place, operation-place, target-place, first-tag-place, first-value-place, second-tag-place, second-value-place, skip-code, add-code, sub-code, in-code, ge-code, number-tag, variable-tag}
 use Rattle.semantics.specs.Encoding.{word-at, count, kind-word, var-in, var-ok, loc-in, distinct-names, several}
 use Rattle.semantics.specs.Memory.{below, zeros}
 
@@ -31,10 +31,10 @@ name-word z =
 
 -- ---- the counts, and where the rows stand
 
--- 0 to 8 variables, 1 to 64 locations, 0 to 256 edges
+-- no more variables, locations and edges than a chart may have, and a location at least
 unfoldable pub counts-fine : List ℤ → Bool
 counts-fine ws =
-    at-most 8 (word-at ws 0) && at-most 64 (word-at ws 1) && leb 1 (count ws 1) && at-most 256 (word-at ws 2)
+    at-most most-variables (word-at ws 0) && at-most most-locations (word-at ws 1) && leb 1 (count ws 1) && at-most most-edges (word-at ws 2)
 
 -- where the locations' words begin
 abbrev pub locations-at : List ℤ → ℕ

@@ -17,7 +17,7 @@ ghost use lib.IntN.{pos, natAbs};
 ghost use lib.ListN.{length};
 ghost use Rattle.semantics.specs.Lists.{all};
 ghost use Rattle.semantics.specs.Text.{same-bytes};
-ghost use Rattle.semantics.specs.Chart.{eqZ, small};
+ghost use Rattle.semantics.specs.Chart.{eqZ};
 ghost use Rattle.semantics.specs.Layout.{counts-size, variable-size, name-size, location-size, edge-size, variable-at, high-place, init-place, to-place, operation-place, target-place, first-tag-place, first-value-place, second-tag-place, second-value-place, ge-code, index-limit, most-variables, most-locations, most-edges};
 ghost use Rattle.semantics.specs.Encoding.{word-at, count, val, kind-word, rel-code, tag, operand-word, var-words, loc-words, op-words, edge-words, init-ok, var-in, var-ok, loc-in, several, distinct-names, decode, well-formed};
 ghost use Rattle.semantics.specs.Operations.{the-operand, the-relation, the-operation};
@@ -116,13 +116,6 @@ pub const NUMBER_TAG: i32 = 0;
 pub const VARIABLE_TAG: i32 = 1;
 
 // ---- one word
-
-// A number of a chart: document 01 has them from −32,768 to 32,767.
-fn is_small(w: i32) -> bool
-    ensures { λ r. ⌜ r ≡ small w ⌝ }
-{
-    (-32768 <= w) & (w <= 32767)
-}
 
 // A number from 0 up to n.
 fn is_at_most(n: usize, w: i32) -> bool
@@ -269,7 +262,7 @@ fn init_word_ok(lo: i32, hi: i32, init: i32) -> bool
     if init == words::TOP {
         return true;
     }
-    is_small(init) & words::lies_within(lo, hi, init)
+    words::is_small(init) & words::lies_within(lo, hi, init)
 }
 
 // A variable's words: its range, and its initial value.
@@ -279,7 +272,7 @@ fn var_row_ok(row: &[i32]) -> bool
     let lo = words::word_at(row, LOW_PLACE);
     let hi = words::word_at(row, HIGH_PLACE);
     let init = words::word_at(row, INIT_PLACE);
-    is_small(lo) & is_small(hi) & (lo <= hi) & init_word_ok(lo, hi, init)
+    words::is_small(lo) & words::is_small(hi) & (lo <= hi) & init_word_ok(lo, hi, init)
 }
 
 // The words of n variables.
@@ -707,7 +700,7 @@ fn operand_fine(v: usize, tag: i32, w: i32) -> bool
     ensures { λ r. ⌜ r ≡ operand-fine v tag w ⌝ }
 {
     if tag == NUMBER_TAG {
-        return is_small(w);
+        return words::is_small(w);
     }
     (tag == VARIABLE_TAG) & words::is_below(v, w)
 }
@@ -750,9 +743,9 @@ fn input_fine(vars: &[i32], row: &[i32]) -> bool
     let q = words::word_at(row, SECOND_VALUE_PLACE);
     (words::word_at(row, FIRST_TAG_PLACE) == NUMBER_TAG)
         & (words::word_at(row, SECOND_TAG_PLACE) == NUMBER_TAG)
-        & is_small(p)
+        & words::is_small(p)
         & in_var_range(vars, k, p)
-        & is_small(q)
+        & words::is_small(q)
         & in_var_range(vars, k, q)
         & (p <= q)
 }

@@ -1,26 +1,21 @@
 -- The sizes of capacity and budget are judged alike of a number and of the number cut at 100,000. Assumes nothing.
-use Rattle.semantics.proofs.Prelude.{_≡_, refl, ap, _∙_, Bool, true, false, _&&_, Option, none, some, ℕ, _<_, min, arith, leb, ℤ, pos, negsuc, leb-true, leb-false, lt-leb}
+use Rattle.semantics.proofs.Prelude.{_≡_, refl, ap, _∙_, _&&_, Option, none, some, ℕ, suc, _<_, arith, leb, ℤ, pos, negsuc, lt-leb}
+use mathlib.Core.Bool.{and-false}
 use Rattle.semantics.specs.Layout.{most-slots, most-iterations}
 use Rattle.semantics.specs.Chart.{within}
-use Rattle.semantics.specs.Reading.{Res, ok, check, if-ok}
+use Rattle.semantics.specs.Reading.{Res, fail, ok, check, if-ok}
 use Rattle.semantics.specs.Algorithm.{allowed}
 use Rattle.semantics.specs.Memory.{capacity-ok}
 use Rattle.semantics.specs.Outcomes.{budget-ok}
 use Rattle.semantics.specs.Program.{Go, sized, counts}
 use Rattle.semantics.specs.declared.Settings.{Settings}
 use Rattle.text.specs.Fields.{clamp, number-read, number-said}
-use Rattle.text.proofs.Bytes.{and-no}
+use Rattle.text.proofs.Digits.{by-size}
 
 range-cut : {A : Type 0} (lo hi : ℕ) → hi < 100000 → (n : ℕ) (f : ℤ → Res A) (z : ℤ) → check (within (pos lo) (pos hi) (clamp z)) n (f (clamp z)) ≡ check (within (pos lo) (pos hi) z) n (f z)
 unfolding check
 range-cut lo hi h n f (negsuc k) = refl
-range-cut lo hi h n f (pos k) = by-size (leb k hi) refl
-  where
-    by-size : (t : Bool) → leb k hi ≡ t → check (leb lo (min k 100000) && leb (min k 100000) hi) n (f (pos (min k 100000))) ≡ check (leb lo k && leb k hi) n (f (pos k))
-    by-size true e = let q : min k 100000 ≡ k = omega (arith, leb-true k hi e) in rw q
-    by-size false e =
-        let q = lt-leb (min k 100000) hi (omega (arith, leb-false k hi e)) in
-        simp (e, q, and-no)
+range-cut lo hi h n f (pos k) = by-size 100000 (suc hi) (omega arith) (λ m. check (leb lo m && leb m hi) n (f (pos m))) (fail n) (λ m p. simp (lt-leb m hi (omega arith), and-false)) k
 
 sized-cut : (s : Settings) (r a : ℤ) → sized s (clamp r) (clamp a) ≡ sized s r a
 sized-cut s r a =

@@ -1,6 +1,6 @@
 -- What reading answers, into 3,163 words: its refusal, or the words of the chart that it accepted; a text put at the
 -- front of bytes that hold it; and the output by the go line. Assumes nothing.
-use Rattle.semantics.proofs.Prelude.{_≡_, refl, sym, ap, _∙_, List, _++_, ℕ, _-_, _≤_, zero-add, arith, T, leb, leb→le, ℤ, length, take, drop, length-drop, take-all}
+use Rattle.semantics.proofs.Prelude.{_≡_, refl, sym, ap, _∙_, List, _++_, ℕ, _-_, _≤_, zero-add, arith, T, leb, leb→le, ℤ, length, take, drop}
 use Rattle.semantics.specs.Listing.{refused-text}
 use Rattle.semantics.specs.Program.{go-line, past-line, print-read, output}
 use Rattle.semantics.specs.Reading.{fail, Reading, refused, accepted, read}
@@ -11,6 +11,7 @@ use Rattle.semantics.proofs.ConstantValues.{and-left}
 use Rattle.semantics.proofs.Exactness.{encoded-exactly}
 use Rattle.semantics.proofs.Refusals.{read-said}
 use Rattle.semantics.proofs.ProgramCalls.{read-goes}
+use Rattle.words.proofs.Rows.{tail}
 use Rattle.writer.specs.Writing.{Put}
 use Rattle.writer.proofs.Written.{put-fits}
 use Rattle.program.specs.declared.go_line.Go.{Go}
@@ -56,7 +57,7 @@ refused-output input e = rw e
 pub charted-output : (input : List ℕ) (g : Go) (at : ℕ) → Asks input g at → output input ≡ print-read (asking g) (read (take (length input - at) (drop at input)))
 unfolding output
 charted-output input g at a =
-    let all : take (length input - at) (drop at input) ≡ past-line input = take-all (length input - at) (drop at input) (omega (arith, length-drop at input)) ∙ a .rest in
+    let all : take (length input - at) (drop at input) ≡ past-line input = tail input at ∙ a .rest in
     rw (a .is, all)
 
 pub printed-is : {text text′ out out′ : List ℕ} {r : ℕ} → text′ ≡ text → Printed text out out′ r → (r ≡ length text′) × (out′ ≡ text′ ++ drop (length text′) out)

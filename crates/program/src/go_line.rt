@@ -10,6 +10,9 @@ ghost use Rattle.semantics.specs.Program.{mode-field, order-field, settings-fie
 ghost use Rattle.text.specs.Fields.{number-said};
 ghost use Rattle.program.specs.Asked.{mode-res, order-res, settings-res, asked-res, GoRead};
 
+// The most bytes of a go line, with its LF.
+pub const MOST_BYTES: usize = 64;
+
 // What the go line asks.
 pub struct Go {
     pub settings: Settings,
@@ -166,7 +169,7 @@ pub fn read(input: &[u8]) -> GoLine
     ensures { λ r. ⌜ GoRead (now (input .entry)) r ⌝ }
 {
     let end = text::line_end(input, 0);
-    if (64 < input.len()) & (64 <= end) {
+    if (MOST_BYTES < input.len()) & (MOST_BYTES <= end) {
         return GoLine::Refused(1);
     }
     if !bytes_ok(&input[..end]) {

@@ -29,9 +29,9 @@ const TABLE_SIZE: usize = semantics::MOST_SLOTS * state::MOST_WIDTH;
 
 const LIST_SIZE: usize = semantics::MOST_SLOTS;
 
-// The most that the program reads of its input: 64 bytes for the go line, 32,768 for the chart, and one more that tells
-// a chart too long. What stands past them changes nothing, which `respond_to` says.
-pub const INPUT: usize = 32833;
+// The most that the program reads of its input: a go line, a chart, and one byte more that tells a chart too long. What
+// stands past these 32,833 bytes changes nothing, which `respond_to` says.
+pub const INPUT: usize = go_line::MOST_BYTES + reader::MOST_BYTES + 1;
 
 // The line of a refusal.
 fn put_refusal(out: &mut [u8], number: u32, line: usize) -> usize

@@ -1,5 +1,5 @@
 -- A judgement passed or failed, and what follows it. Assumes nothing.
-use Rattle.semantics.proofs.Prelude.{_≡_, refl, sym, ap, _∙_, Bool, true, false, List, ℕ}
+use Rattle.semantics.proofs.Prelude.{_≡_, refl, Bool, true, false, ℕ}
 use Rattle.semantics.specs.Reading.{Res, fail, ok, check, if-ok}
 
 module _ {A : Type 0} {b : Bool} (n : ℕ) (r : Res A) where
@@ -10,10 +10,6 @@ module _ {A : Type 0} {b : Bool} (n : ℕ) (r : Res A) where
   pub check-yes : b ≡ true → check b n r ≡ r
   unfolding check
   check-yes e = rw e
-
--- what a call answered of a field, and so of the field as the line has it
-pub said : {B : Type 0} (f : List ℕ → B) {x y : List ℕ} {r b : B} → x ≡ y → r ≡ f x → r ≡ b → f y ≡ b
-said f e n t = ap f (sym e) ∙ sym n ∙ t
 
 -- ---- one judgement after another
 
@@ -32,4 +28,4 @@ unfolding if-ok
 ok-then a f = refl
 
 -- for `simp`: what follows is said where it is judged
-pub ruleset onward = (check-then, then-then, ok-then)
+pub ruleset step-by-step = (check-then, then-then, ok-then)

@@ -22,8 +22,8 @@ module _ {t : Tally} {rows : List ℤ} {c : Chart} (h : Rows t rows c) (room : u
   encode-length = omega (arith, ap length (h .rows), length-take-le (used-words t) rows room)
 
   module _ (ws : List ℤ) where
-    pub too-few : length ws < used-words t + counts-size → ltb (length ws) (length (encode c)) ≡ true
-    too-few l = lt-ltb (length ws) (length (encode c)) (omega (arith, encode-length, l))
+    pub too-short : length ws < used-words t + counts-size → ltb (length ws) (length (encode c)) ≡ true
+    too-short l = lt-ltb (length ws) (length (encode c)) (omega (arith, encode-length, l))
 
     pub enough : used-words t + counts-size ≤ length ws → ltb (length ws) (length (encode c)) ≡ false
     enough f = le-ltb (length ws) (length (encode c)) (omega (arith, encode-length, f))

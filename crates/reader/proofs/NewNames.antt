@@ -2,17 +2,17 @@
 use Rattle.semantics.proofs.Prelude.{_≡_, refl, sym, ap, _∙_, Bool, true, false, _&&_, not, List, [], _∷_, _++_, append-assoc, append-nil, ℕ, _+_, _-_, _*_, arith, T, length, take, drop, length-append, ℤ, pos, drop-drop, drop-at}
 use Rattle.semantics.specs.Lists.{all, each}
 use Rattle.semantics.specs.Text.{same-bytes, name-ok}
-use Rattle.semantics.specs.Layout.{location-size}
+use Rattle.semantics.specs.Layout.{variable-size, location-size}
 use Rattle.semantics.specs.Chart.{Loc, Chart}
 use Rattle.semantics.specs.Encoding.{var-words, loc-words, edge-words, loc-in, several}
-use Rattle.semantics.proofs.Encoded.{each-length, several-back, every-of, loc-wide, loc-back}
+use Rattle.semantics.proofs.Encoded.{each-length, several-back, every-of, every-any, loc-wide, loc-back}
 use Rattle.words.proofs.Words.{eqZ-sym}
 use Rattle.words.proofs.Rows.{tail}
 use Rattle.chart.specs.Rows.{stored, rows-size, the-location}
 use Rattle.chart.proofs.Names.{other-name}
 use Rattle.reader.specs.ReadSoFar.{used-words, Rows, as-locations, Names}
 use Rattle.reader.specs.declared.tally.Tally.{Tally}
-use Rattle.reader.proofs.OneRowMore.{each-none, vars-length}
+use Rattle.reader.proofs.OneRowMore.{each-none}
 
 same-sym : (m n : List ℕ) → same-bytes m n ≡ same-bytes n m
 same-sym [] [] = refl
@@ -51,7 +51,7 @@ module _ {t : Tally} {ws : List ℤ} {c : Chart} (h : Rows t ws c) (l : Loc) (no
       let rest = drop (length (loc-words l)) (drop at ws) in
       let e : ws′ ≡ vs ++ (each loc-words (c .locs) ++ (loc-words l ++ rest))
       = w ∙ rw (ap (λ (n : ℕ). take n ws) a ∙ h .rows, each-none edge-words (c .edges) (omega (arith, h .edges)), append-nil) (append-assoc vs (each loc-words (c .locs)) (loc-words l ++ rest)) in
-      rw (tail ws′ at, tail ws′ first, e) (new-among vs (c .locs) l rest (h .named) o first at (t .locs) (omega (arith, vars-length (c .vars), h .vars)) (h .locs) (omega arith))
+      rw (tail ws′ at, tail ws′ first, e) (new-among vs (c .locs) l rest (h .named) o first at (t .locs) (omega (arith, each-length var-words variable-size (λ v. Unit {0}) (λ v t. refl) (c .vars) (every-any (c .vars)), h .vars)) (h .locs) (omega arith))
 
 -- ---- among names of variables
 

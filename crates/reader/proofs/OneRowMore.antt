@@ -85,10 +85,6 @@ names-more {n} {ws} {ns = ns} name h w o fits =
 
 -- ---- what the code reads back
 
-pub vars-length : (vs : List Var) → length (each var-words vs) ≡ variable-size * length vs
-vars-length [] = refl
-vars-length (v ∷ vs) = omega (arith, vars-length vs)
-
 ranges : (vs : List Var) (rest : List ℤ) (k : ℕ) (z : ℤ) → k < length vs → ranged (each var-words vs ++ rest) k z ≡ in-range vs k z
 unfolding ranged
 ranges [] rest k z h = absurd (omega arith)

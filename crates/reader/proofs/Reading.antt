@@ -2,6 +2,7 @@
 -- Assumes nothing.
 use Rattle.semantics.proofs.Prelude.{_≡_, refl, sym, ap, _∙_, true, false, _&&_, List, ℕ, _<_, _≤_, arith, eqb, leb, ltb→lt, length, ℤ, leZ, lt-ltb, le-ltb}
 use Rattle.semantics.specs.Lists.{is-empty}
+use Rattle.semantics.specs.Layout.{most-variables, most-locations, most-edges}
 use Rattle.semantics.specs.Chart.{Var, input, Edge, Op, Chart, in-range}
 use Rattle.semantics.specs.Reading.{Res, fail, ok, check, if-ok, nth, none-empty, number-field, target-field, op-word-field, OpWord, field-count, op-fields-read, So-far, with-edge, var-line, loc-line, edge-line}
 use Rattle.semantics.specs.declared.Arithmetic.the-variants as arithmetic
@@ -18,7 +19,7 @@ use Rattle.reader.specs.declared.tally.Tally.{Tally}
 use Rattle.reader.proofs.OneRowMore.{range-held}
 use Rattle.reader.proofs.CopiedOut.{none-empty-list, some-list}
 use Rattle.text.proofs.FieldTests.{then-fail, then-ok}
-use Rattle.reader.proofs.CheckSteps.{check-no, check-yes, onward}
+use Rattle.reader.proofs.CheckSteps.{check-no, check-yes, step-by-step}
 
 -- ---- operations
 
@@ -65,11 +66,11 @@ edge-near m r fs {g} e =
 -- ---- lines
 
 module _ (s : So-far) (fs : List (List ℕ)) where
-  pub edge-full : 256 ≤ length (s .chart .edges) → edge-line s fs ≡ fail 8
+  pub edge-full : most-edges ≤ length (s .chart .edges) → edge-line s fs ≡ fail 8
   unfolding edge-line
   edge-full h = check-no _ _ (le-ltb _ _ h)
 
-  module _ (few : length (s .chart .edges) < 256) where
+  module _ (few : length (s .chart .edges) < most-edges) where
     pub edge-few-fields : (leb 4 (length fs) && none-empty fs) ≡ false → edge-line s fs ≡ fail 5
     unfolding edge-line
     edge-few-fields e = check-yes _ _ (lt-ltb _ _ few) ∙ check-no _ _ e
@@ -83,7 +84,7 @@ module _ (s : So-far) (fs : List (List ℕ)) where
       unfolding edge-line
       edge-word {w} e =
           check-yes _ _ (lt-ltb _ _ few) ∙ check-yes _ _ enough ∙ then-ok _ e
-          ∙ ap (check (eqb (length fs) (field-count w)) 5) (sym (simp onward))
+          ∙ ap (check (eqb (length fs) (field-count w)) 5) (sym (simp step-by-step))
 
 -- ---- by the counts and the words that hold the chart
 
@@ -97,15 +98,15 @@ module _ (s : So-far) (fs : List (List ℕ)) {t : Tally} {ws : List ℤ} (h : Ro
     no-edges : is-empty (s .chart .edges) ≡ true
     no-edges = none-empty-list (s .chart .edges) (omega (arith, h .edges, e))
 
-    pub loc-full : 64 ≤ t .locs → loc-line s fs ≡ fail 8
+    pub loc-full : most-locations ≤ t .locs → loc-line s fs ≡ fail 8
     unfolding loc-line
-    loc-full n = check-yes _ _ no-edges ∙ check-no _ _ (le-ltb (length (s .chart .locs)) 64 (omega (arith, h .locs, n)))
+    loc-full n = check-yes _ _ no-edges ∙ check-no _ _ (le-ltb (length (s .chart .locs)) most-locations (omega (arith, h .locs, n)))
 
-    pub loc-read : t .locs < 64 → loc-line s fs ≡ if-ok (loc-judged fs) (λ k. loc-named s (nth fs 1) k)
+    pub loc-read : t .locs < most-locations → loc-line s fs ≡ if-ok (loc-judged fs) (λ k. loc-named s (nth fs 1) k)
     unfolding loc-line
     loc-read n =
-        check-yes _ _ no-edges ∙ check-yes _ _ (lt-ltb (length (s .chart .locs)) 64 (omega (arith, h .locs, n)))
-        ∙ sym (simp onward)
+        check-yes _ _ no-edges ∙ check-yes _ _ (lt-ltb (length (s .chart .locs)) most-locations (omega (arith, h .locs, n)))
+        ∙ sym (simp step-by-step)
 
   -- a variable
   pub var-after-loc : (t .locs ≡ 0 → ⊥) → var-line s fs ≡ fail 4
@@ -124,12 +125,12 @@ module _ (s : So-far) (fs : List (List ℕ)) {t : Tally} {ws : List ℤ} (h : Ro
       early : (is-empty (s .chart .locs) && is-empty (s .chart .edges)) ≡ true
       early = rw (no-locs, no-edges e)
 
-      pub var-full : 8 ≤ t .vars → var-line s fs ≡ fail 8
+      pub var-full : most-variables ≤ t .vars → var-line s fs ≡ fail 8
       unfolding var-line
-      var-full n = check-yes _ _ early ∙ check-no _ _ (le-ltb (length (s .chart .vars)) 8 (omega (arith, h .vars, n)))
+      var-full n = check-yes _ _ early ∙ check-no _ _ (le-ltb (length (s .chart .vars)) most-variables (omega (arith, h .vars, n)))
 
-      pub var-read : t .vars < 8 → var-line s fs ≡ if-ok (var-judged fs) (λ v. var-named s (nth fs 1) v)
+      pub var-read : t .vars < most-variables → var-line s fs ≡ if-ok (var-judged fs) (λ v. var-named s (nth fs 1) v)
       unfolding var-line
       var-read n =
-          check-yes _ _ early ∙ check-yes _ _ (lt-ltb (length (s .chart .vars)) 8 (omega (arith, h .vars, n)))
-          ∙ sym (simp onward)
+          check-yes _ _ early ∙ check-yes _ _ (lt-ltb (length (s .chart .vars)) most-variables (omega (arith, h .vars, n)))
+          ∙ sym (simp step-by-step)

@@ -30,10 +30,10 @@ used-words t = rows-size (t .vars) (t .locs) (t .edges)
 
 -- the rows of the largest chart, and the rows of names
 abbrev pub most-rows : ℕ
-most-rows = rows-size 8 64 256
+most-rows = rows-size most-variables most-locations most-edges
 
 abbrev pub most-names : ℕ
-most-names = location-size * 8
+most-names = location-size * most-variables
 
 -- no more than a chart has
 pub record Few (t : Tally) : Type 0 where

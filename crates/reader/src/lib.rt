@@ -26,7 +26,7 @@ use tally::Tally;
 use tally::used_words;
 
 // Refusal 1: the most bytes of a chart file.
-const MOST_BYTES: usize = 32768;
+pub const MOST_BYTES: usize = 32768;
 
 // The rows to the words lent, after their counts; or 14, where these are too few.
 fn copy_out(t: Tally, rows: &[i32], words: &mut [i32]) -> semantics::Answer

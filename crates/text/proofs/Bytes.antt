@@ -1,17 +1,14 @@
 -- Two texts that are the same, and the bytes of a name, one byte at a time. Assumes nothing.
-use Rattle.semantics.proofs.Prelude.{_≡_, refl, ap, Bool, true, false, _&&_, List, [], _∷_, ℕ, suc, _+_, _≤_, _<_, add-one, eqb, length, getD, drop, drop-of-length-le, drop-cons, eq-eqb, ne-eqb, le-leb, lt-leb}
+use Rattle.semantics.proofs.Prelude.{_≡_, refl, ap, Bool, true, false, List, [], _∷_, ℕ, suc, _+_, _≤_, _<_, add-one, eqb, length, getD, drop, drop-of-length-le, drop-cons, eq-eqb, ne-eqb, le-leb, lt-leb}
+use mathlib.Core.Bool.{and-false}
 use Rattle.semantics.specs.Lists.{all}
 use Rattle.semantics.specs.Text.{same-bytes, name-byte, name-ok}
-
-pub and-no : (t : Bool) → (t && false) ≡ false
-and-no true = refl
-and-no false = refl
 
 pub same-lengths : (a b : List ℕ) → (length a ≡ length b → ⊥) → same-bytes a b ≡ false
 same-lengths [] [] h = absurd (h refl)
 same-lengths [] (y ∷ ys) h = refl
 same-lengths (x ∷ xs) [] h = refl
-same-lengths (x ∷ xs) (y ∷ ys) h = rw (same-lengths xs ys (λ e. h (ap suc e))) (and-no (eqb x y))
+same-lengths (x ∷ xs) (y ∷ ys) h = rw (same-lengths xs ys (λ e. h (ap suc e))) (and-false (eqb x y))
 
 module _ (a b : List ℕ) (i : ℕ) where
   pub same-step : i < length a → i < length b → getD a i 0 ≡ getD b i 0 → same-bytes (drop i a) (drop i b) ≡ same-bytes (drop (i + 1) a) (drop (i + 1) b)
@@ -23,7 +20,7 @@ module _ (a b : List ℕ) (i : ℕ) where
   pub same-end : length a ≤ i → length b ≤ i → same-bytes (drop i a) (drop i b) ≡ true
   same-end h k = rw (drop-of-length-le a h, drop-of-length-le b k)
 
--- ---- names
+-- ---- a test of all bytes, one byte at a time
 
 module _ (p : ℕ → Bool) (l : List ℕ) (i : ℕ) where
   pub all-step : i < length l → p (getD l i 0) ≡ true → all p (drop i l) ≡ all p (drop (i + 1) l)
@@ -35,12 +32,14 @@ module _ (p : ℕ → Bool) (l : List ℕ) (i : ℕ) where
   pub all-end : length l ≤ i → all p (drop i l) ≡ true
   all-end h = rw (drop-of-length-le l h)
 
+-- ---- a name: 1 to 16 bytes, each of them tested
+
 module _ (l : List ℕ) where
   pub name-empty : length l < 1 → name-ok l ≡ false
   name-empty h = simp (lt-leb 1 (length l) h)
 
   pub name-long : 16 < length l → name-ok l ≡ false
-  name-long h = simp (lt-leb (length l) 16 h, and-no)
+  name-long h = simp (lt-leb (length l) 16 h, and-false)
 
   pub name-all : 1 ≤ length l → length l ≤ 16 → name-ok l ≡ all name-byte l
   name-all h k = simp (le-leb 1 (length l) h, le-leb (length l) 16 k)

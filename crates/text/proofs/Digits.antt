@@ -1,15 +1,16 @@
 -- Numbers, digit by digit, and what stays the same where a number is cut at 100,000. Assumes nothing.
-use Rattle.semantics.proofs.Prelude.{_≡_, refl, ap, _∙_, Bool, true, false, _⊎_, inl, inr, ⊎-elim, List, [], _∷_, Option, some, none, ℕ, zero, suc, _+_, _-_, _*_, _≤_, _<_, min, add-one, arith, length, getD, take, drop, drop-of-length-le, drop-cons, take-length, ℤ, pos, negsuc, negℤ, _-ℤ_, +ℤ-idl, w32, SFits, toZ, ofZ, toZ-ofZ, eq-eqb, ne-eqb, le-leb, lt-leb, le-ltb}
+use Rattle.semantics.proofs.Prelude.{_≡_, refl, sym, ap, _∙_, Bool, true, false, _⊎_, inl, inr, ⊎-elim, List, [], _∷_, Option, some, none, ℕ, zero, suc, _+_, _-_, _*_, _≤_, _<_, min, add-one, arith, length, getD, take, drop, drop-of-length-le, drop-cons, ℤ, pos, negsuc, negℤ, _-ℤ_, +ℤ-idl, w32, SFits, toZ, ofZ, toZ-ofZ, eq-eqb, ne-eqb, le-leb, lt-leb, le-ltb, ltb}
+use mathlib.Core.Bool.{and-false}
 use native.Mathlib.Decide.{decLt}
 use mir.Facts.{toZ-pos}
 use Rattle.semantics.specs.Lists.{pick}
 use Rattle.semantics.specs.Text.{between, digits, natural-of, nonnegative, negative, number-of}
 use Rattle.semantics.specs.Chart.{small}
-use Rattle.semantics.specs.Reading.{ok, check, small-or, below-or}
-use Rattle.text.specs.Fields.{clamp, natural-read, number-read, natural-said, number-said}
+use Rattle.semantics.specs.Reading.{fail, ok, check, small-or, below-or}
+use Rattle.words.proofs.Rows.{tail}
+use Rattle.text.specs.Fields.{clamp, natural-read, IsCut, number-read, natural-said, number-said}
 use Rattle.text.specs.declared.Natural.the-variants as natural
 use Rattle.text.specs.declared.NumberRead.the-variants as number
-use Rattle.text.proofs.Bytes.{and-no}
 
 lt-or-ge : (a b : ℕ) → (a < b) ⊎ (b ≤ a)
 lt-or-ge a b = go (decLt a b)
@@ -34,7 +35,7 @@ module _ (l : List ℕ) (n i : ℕ) where
 
   pub digits-high : i < length l → 57 < getD l i 0 → digits n (drop i l) ≡ none
   unfolding digits
-  digits-high h hi = rw (drop-cons l i 0) (simp (lt-leb _ _ hi, and-no))
+  digits-high h hi = rw (drop-cons l i 0) (simp (lt-leb _ _ hi, and-false))
 
 -- numbers that are the same once cut lead to the same answer
 pub cut-same : (l : List ℕ) (n m : ℕ) → min n 100000 ≡ min m 100000 → natural-read (digits n l) ≡ natural-read (digits m l)
@@ -81,9 +82,7 @@ number-empty (b ∷ bs) h = absurd (omega arith)
 pub number-minus : (l : List ℕ) → (length l ≡ 0 → ⊥) → getD l 0 0 ≡ 45 → number-of l ≡ negative (natural-of (take (length l - 1) (drop 1 l)))
 unfolding number-of
 number-minus [] n e = absurd (n refl)
-number-minus (b ∷ bs) n e =
-    let k : length (b ∷ bs) - 1 ≡ length bs = omega arith in
-    rw (k, take-length bs) (simp (eq-eqb _ _ e))
+number-minus (b ∷ bs) n e = rw (tail (b ∷ bs) 1) (simp (eq-eqb _ _ e))
 
 pub number-plus : (l : List ℕ) → (length l ≡ 0 → ⊥) → (getD l 0 0 ≡ 45 → ⊥) → number-of l ≡ nonnegative (natural-of l)
 unfolding number-of
@@ -91,6 +90,11 @@ number-plus [] n e = absurd (n refl)
 number-plus (b ∷ bs) n e = simp (ne-eqb _ _ e)
 
 -- ---- a cut natural number says all that a cut number asks
+
+pub read-cut : (o : Option ℕ) → IsCut (natural-read o)
+unfolding natural-read
+read-cut none = tt
+read-cut (some n) = omega arith
 
 pub plus-cut : (o : Option ℕ) → number-read (nonnegative (natural-said (natural-read o))) ≡ number-read (nonnegative o)
 unfolding number-read natural-said natural-read
@@ -120,25 +124,25 @@ sub-fits v h = rw (sub-neg v h) (neg-fits v h)
 pub sub-back : (v : ℕ) → v ≤ 100000 → toZ w32 (ofZ w32 (pos 0 -ℤ toZ w32 v)) ≡ negℤ (pos v)
 sub-back v h = toZ-ofZ w32 _ (sub-fits v h) ∙ sub-neg v h
 
-pub minus-is : (v : ℕ) → (v ≡ 0 → ⊥) → number.Is (negℤ (pos (min v 100000))) ≡ number-read (negative (some v))
+pub minus-is : (v : ℕ) → v ≤ 100000 → (v ≡ 0 → ⊥) → number.Is (negℤ (pos v)) ≡ number-read (negative (some v))
 unfolding number-read
-minus-is zero h = absurd (h refl)
-minus-is (suc n) h = rw (min-suc n)
+minus-is zero f h = absurd (h refl)
+minus-is (suc n) f h = ap (λ (k : ℕ). number.Is (negsuc k)) (omega arith)
 
 -- ---- the tests of a field cannot tell a cut number from the number
 
+-- a number that is cut, by a test or answer f that is the same for all from a bound on, which the cut keeps
+pub by-size : {A : Type 0} (cut bound : ℕ) → bound ≤ cut → (f : ℕ → A) (a : A) → ((m : ℕ) → bound ≤ m → f m ≡ a) → (n : ℕ) → f (min n cut) ≡ f n
+by-size cut bound h f a past n =
+    ⊎-elim
+    (λ k. let e : min n cut ≡ n = omega arith in ap f e)
+    (λ k. past (min n cut) (omega arith) ∙ sym (past n k))
+    (lt-or-ge n bound)
+
 small-cut : (z : ℤ) → check (small (clamp z)) 7 (ok (clamp z)) ≡ check (small z) 7 (ok z)
 unfolding check
-small-cut (pos n) =
-    ⊎-elim
-    (λ h. let e : min n 100000 ≡ n = omega arith in rw e)
-    (λ h. simp (lt-leb n 32767 (omega arith), lt-leb (min n 100000) 32767 (omega arith)))
-    (lt-or-ge n 32768)
-small-cut (negsuc n) =
-    ⊎-elim
-    (λ h. let e : min n 99999 ≡ n = omega arith in rw e)
-    (λ h. simp (lt-leb n 32767 (omega arith), lt-leb (min n 99999) 32767 (omega arith)))
-    (lt-or-ge n 32768)
+small-cut (pos n) = by-size 100000 32768 (omega arith) (λ k. check (small (pos k)) 7 (ok (pos k))) (fail 7) (λ m h. simp (lt-leb m 32767 (omega arith))) n
+small-cut (negsuc n) = by-size 99999 32768 (omega arith) (λ k. check (small (negsuc k)) 7 (ok (negsuc k))) (fail 7) (λ m h. simp (lt-leb m 32767 (omega arith))) n
 
 pub small-or-cut : (o : Option ℤ) → small-or (number-said (number-read o)) ≡ small-or o
 unfolding number-said number-read
@@ -149,8 +153,4 @@ pub below-or-cut : (count : ℕ) (o : Option ℤ) → count ≤ 256 → below-or
 unfolding number-said number-read check
 below-or-cut count none h = refl
 below-or-cut count (some (negsuc n)) h = refl
-below-or-cut count (some (pos n)) h =
-    ⊎-elim
-    (λ k. let e : min n 100000 ≡ n = omega arith in rw e)
-    (λ k. simp (le-ltb n count (omega arith), le-ltb (min n 100000) count (omega arith)))
-    (lt-or-ge n 256)
+below-or-cut count (some (pos n)) h = by-size 100000 256 (omega arith) (λ k. check (ltb k count) 10 (ok k)) (fail 10) (λ m k. simp (le-ltb m count (omega arith))) n

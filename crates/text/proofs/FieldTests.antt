@@ -1,12 +1,17 @@
 -- One field by its tests: a number below a count, `$k`, an operand, an initial value, a word. Assumes nothing.
 use Rattle.semantics.specs.Layout.{top-word}
-use Rattle.semantics.proofs.Prelude.{_≡_, refl, sym, ap, subst, _∙_, Bool, true, false, List, [], _∷_, Option, some, none, ℕ, _-_, _≤_, _<_, arith, T, length, getD, take, drop, take-length, ℤ, pos, negsuc, natAbs, ltZ, eq-eqb, ne-eqb, lt-ltb, le-ltb, ltb-true}
+use Rattle.semantics.proofs.Prelude.{_≡_, refl, sym, ap, subst, _∙_, Bool, true, false, List, [], _∷_, Option, some, none, ℕ, _-_, _≤_, _<_, arith, T, length, getD, take, drop, ℤ, pos, negsuc, natAbs, ltZ, eq-eqb, ne-eqb, lt-ltb, le-ltb, ltb-true}
 use Rattle.semantics.specs.Lists.{pick}
 use Rattle.semantics.specs.Text.{bytes, same-bytes, natural-of, nonnegative, number-of}
 use Rattle.semantics.specs.Chart.{known, top, num, var, small, within}
 use Rattle.semantics.specs.Encoding.{val}
 use Rattle.semantics.specs.Reading.{Res, fail, ok, check, if-ok, small-or, below-or, number-field, target-field, operand-field, init-field}
+use Rattle.words.proofs.Rows.{tail}
 use Rattle.words.proofs.Words.{ne-eqZ}
+
+-- the field f is g, the answer r says what reading f says, and r is x
+pub field-said : {A R : Type 0} (read : List ℕ → A) (res : R → A) {f g : List ℕ} {r x : R} → f ≡ g → res r ≡ read f → r ≡ x → read g ≡ res x
+field-said read res same answer is = ap read (sym same) ∙ sym answer ∙ ap res is
 
 module _ (n : ℕ) where
   pub below-neg : (z : ℤ) → ltZ z (pos 0) ≡ true → below-or n (some z) ≡ fail 10
@@ -37,9 +42,7 @@ module _ (n : ℕ) where
   pub target-is : (l : List ℕ) → (length l ≡ 0 → ⊥) → getD l 0 0 ≡ 36 → target-field n l ≡ below-or n (nonnegative (natural-of (take (length l - 1) (drop 1 l))))
   unfolding target-field check
   target-is [] h e = absurd (h refl)
-  target-is (b ∷ bs) h e =
-      let k : length (b ∷ bs) - 1 ≡ length bs = omega arith in
-      rw (k, take-length bs) (simp (eq-eqb _ _ e))
+  target-is (b ∷ bs) h e = rw (tail (b ∷ bs) 1) (simp (eq-eqb _ _ e))
 
   pub operand-var : (l : List ℕ) → getD l 0 0 ≡ 36 → operand-field n l ≡ if-ok (target-field n l) (λ k. ok (var k))
   unfolding operand-field
@@ -82,7 +85,7 @@ pub number-known : (l : List ℕ) (z : ℤ) → number-field l ≡ ok z → val 
 unfolding number-field
 number-known l z e = rw (ne-eqZ {a = z} {b = top-word} (small-not-top z (small-of (number-of l) z e)))
 
--- the word of a value says the value
+-- `*` is top, and a number is to lie in the range
 module _ (lo hi : ℤ) (l : List ℕ) where
   pub init-star : same-bytes l (bytes "*") ≡ true → init-field lo hi l ≡ ok top
   unfolding init-field

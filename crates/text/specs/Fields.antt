@@ -62,6 +62,11 @@ unfoldable pub natural-read : Option ℕ → Natural
 natural-read none = natural.Malformed
 natural-read (some n) = natural.Is (min n 100000)
 
+-- an answer that is no larger than the cut
+abbrev pub IsCut : Natural → Type 0
+IsCut natural.Malformed = Unit {0}
+IsCut (natural.Is n) = n ≤ 100000
+
 -- how it answers a number
 unfoldable pub number-read : Option ℤ → NumberRead
 number-read none = number.Malformed

@@ -12,7 +12,7 @@ ghost use Rattle.semantics.specs.Text.{same-bytes, fields, name-byte, name-ok, 
 ghost use Rattle.semantics.specs.Chart.{within, known, num, var};
 ghost use Rattle.semantics.specs.Reading.{ok, check, if-ok, nth, none-empty, small-or, number-field, below-or, location-field, target-field, operand-field, init-field, kind-field, rel-field, op-word-field};
 ghost use Rattle.semantics.specs.Reading.{filled as filled-with};
-ghost use Rattle.text.specs.Fields.{Found, natural-read, number-read, natural-said, number-said, variable-res, location-res, word-res, init-res, operand-res, kind-res, rel-res, op-word-res};
+ghost use Rattle.text.specs.Fields.{Found, natural-read, IsCut, number-read, natural-said, number-said, variable-res, location-res, word-res, init-res, operand-res, kind-res, rel-res, op-word-res};
 
 pub mod lines;
 
@@ -118,6 +118,9 @@ pub fn filled(line: &[u8], count: usize) -> bool
     (field_count(line) == count) & none_empty(line)
 }
 
+// The most bytes of a name.
+const MOST_NAME_BYTES: usize = 16;
+
 // A letter, a digit or a hyphen.
 fn is_name_byte(b: u8) -> bool
     ensures { λ r. ⌜ r ≡ name-byte b ⌝ }
@@ -135,7 +138,7 @@ pub fn name_ok(f: &[u8]) -> bool
     if f.len() < 1 {
         return false;
     }
-    if 16 < f.len() {
+    if MOST_NAME_BYTES < f.len() {
         return false;
     }
     let mut i = 0;
@@ -214,16 +217,18 @@ fn natural_in(f: &[u8]) -> Natural
 
 // The number that stands after no sign.
 fn plus(n: Natural) -> NumberRead
+    requires { ⌜ IsCut n ⌝ }
     ensures { λ r. ⌜ r ≡ number-read (nonnegative (natural-said n)) ⌝ }
 {
     match n {
         Natural::Malformed => NumberRead::Malformed,
-        Natural::Is(v) => NumberRead::Is(cut(v) as i32),
+        Natural::Is(v) => NumberRead::Is(v as i32),
     }
 }
 
 // The number that stands after `-`; there is no `-0`.
 fn minus(n: Natural) -> NumberRead
+    requires { ⌜ IsCut n ⌝ }
     ensures { λ r. ⌜ r ≡ number-read (negative (natural-said n)) ⌝ }
 {
     match n {
@@ -232,7 +237,7 @@ fn minus(n: Natural) -> NumberRead
             if v == 0 {
                 return NumberRead::Malformed;
             }
-            NumberRead::Is(0 - (cut(v) as i32))
+            NumberRead::Is(0 - (v as i32))
         }
     }
 }
@@ -321,7 +326,7 @@ fn small_word(n: NumberRead) -> WordRead
     match n {
         NumberRead::Malformed => WordRead::Refused(6),
         NumberRead::Is(z) => {
-            if words::lies_within(-32768, 32767, z) {
+            if words::is_small(z) {
                 return WordRead::Is(z);
             }
             WordRead::Refused(7)

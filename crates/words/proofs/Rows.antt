@@ -45,7 +45,7 @@ module _ (t : List ℤ) (a w : ℕ) (ws : List ℤ) (fits : a + w ≤ length t) 
   length-put = simp (length-append, length-drop, length-take) (omega arith)
 
 -- the part of a slice from a place on: `&l[j..]`
-pub tail : (l : List ℤ) (j : ℕ) → take (length l - j) (drop j l) ≡ drop j l
+pub tail : {A : Type 0} (l : List A) (j : ℕ) → take (length l - j) (drop j l) ≡ drop j l
 tail l j = take-all (length l - j) (drop j l) (simp length-drop (omega arith))
 
 -- a search: the test at i, which says b, and what is left after it

@@ -5,7 +5,7 @@ ghost use lib.IntN.{pos, natAbs};
 ghost use lib.ListN.{length, getD, replicate};
 ghost use Rattle.semantics.specs.Layout.{index-limit};
 ghost use Rattle.semantics.specs.Lists.{some-of};
-ghost use Rattle.semantics.specs.Chart.{eqZ, within};
+ghost use Rattle.semantics.specs.Chart.{eqZ, within, small};
 ghost use Rattle.semantics.specs.Encoding.{count};
 ghost use Rattle.semantics.specs.Memory.{below, zeros};
 
@@ -53,6 +53,13 @@ pub fn lies_within(lo: i32, hi: i32, w: i32) -> bool
     ensures { λ r. ⌜ r ≡ within lo hi w ⌝ }
 {
     (lo <= w) & (w <= hi)
+}
+
+// A number of a chart: document 01 has them from −32,768 to 32,767.
+pub fn is_small(w: i32) -> bool
+    ensures { λ r. ⌜ r ≡ small w ⌝ }
+{
+    (-32768 <= w) & (w <= 32767)
 }
 
 // A number from 0 up to, not including, n.

@@ -1,6 +1,5 @@
 -- `chart::in_var_range` meets its contract. Assumes nothing.
 use Rattle.semantics.proofs.Prelude.{_∙_, needs, sfits-of, w32, toZ-ofZ}
-use Rattle.semantics.specs.Encoding.{word-at}
 use Rattle.chart.specs.Encoded.{ranged}
 use Rattle.words.proofs.Words.{told}
 use Rattle.chart.proofs.in_var_range.Statement.{statement}

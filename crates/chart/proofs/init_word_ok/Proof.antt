@@ -1,6 +1,6 @@
 -- `chart::init_word_ok` meets its contract. Assumes nothing.
 use Rattle.semantics.specs.Layout.{top-word}
-use Rattle.semantics.proofs.Prelude.{needs, pos, w32, sfits-lit, toZ-ofZ}
+use Rattle.semantics.proofs.Prelude.{needs, w32, sfits-lit, toZ-ofZ}
 use Rattle.words.proofs.Words.{bits-eq, bits-ne}
 use Rattle.chart.proofs.init_word_ok.Statement.{statement}
 use Rattle.chart.proofs.init_word_ok.Tie as tie

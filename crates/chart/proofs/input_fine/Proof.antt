@@ -1,6 +1,5 @@
 -- `chart::input_fine` meets its contract. Assumes nothing.
 use Rattle.semantics.proofs.Prelude.{needs, sfits-of, pos, sfits-lit}
-use Rattle.semantics.specs.Encoding.{word-at}
 use Rattle.chart.specs.Encoded.{input-fine}
 use Rattle.words.proofs.Words.{told, told-eqb}
 use Rattle.chart.proofs.input_fine.Statement.{statement}

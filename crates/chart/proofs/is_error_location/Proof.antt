@@ -1,6 +1,5 @@
 -- `chart::is_error_location` meets its contract. Assumes nothing.
 use Rattle.semantics.proofs.Prelude.{_∙_, needs, sfits-of, pos, sfits-lit}
-use Rattle.semantics.specs.Encoding.{word-at}
 use Rattle.words.proofs.Words.{told-eqb}
 use Rattle.chart.proofs.is_error_location.Statement.{statement}
 use Rattle.chart.proofs.is_error_location.Tie as tie

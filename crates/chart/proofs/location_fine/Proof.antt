@@ -1,6 +1,5 @@
 -- `chart::location_fine` meets its contract. Assumes nothing.
 use Rattle.semantics.proofs.Prelude.{_≡_, _+_, _-_, arith, needs, sfits-of, pos, sfits-lit}
-use Rattle.semantics.specs.Encoding.{word-at}
 use Rattle.semantics.specs.Layout.{name-size, location-size}
 use Rattle.chart.specs.Encoded.{location-fine}
 use Rattle.words.proofs.Words.{told-eqb}

@@ -3,7 +3,7 @@ use Rattle.semantics.proofs.Prelude.{_≡_, refl, sym, ap, _∙_, _&&_, and-tru
 use Rattle.semantics.specs.Encoding.{word-at}
 use Rattle.semantics.specs.Lists.{all}
 use Rattle.chart.specs.Encoded.{name-word}
-use Rattle.chart.proofs.Names.{bytes-turn}
+use Rattle.chart.proofs.Names.{words-turn}
 use Rattle.chart.proofs.name_words_ok.Statement.{statement}
 use Rattle.chart.proofs.name_words_ok.Tie as tie
 
@@ -19,7 +19,7 @@ loop-again c =
     let ws = b .before .args .name .now in
     let l = b .loop in
     let e = c .is-name-word .ensures ∙ ap name-word (toZ-ofZ w32 (word-at ws (l .i)) (sfits-of (c .before .w .given))) in
-    (omega arith, l .inv .1 ∙ bytes-turn name-word ws (l .ok) (l .i) (c .is-name-word .result) (c .before .before .loop-test .taken) e)
+    (omega arith, l .inv .1 ∙ words-turn name-word ws (l .ok) (l .i) (c .is-name-word .result) (c .before .before .loop-test .taken) e)
 
 returns : tie.Need-returns Inv-loop μ-loop
 returns c =

@@ -1,6 +1,5 @@
 -- `chart::one_fine` meets its contract. Assumes nothing.
 use Rattle.semantics.proofs.Prelude.{needs, sfits-of, pos, sfits-lit}
-use Rattle.semantics.specs.Encoding.{word-at}
 use Rattle.chart.specs.Encoded.{one-fine}
 use Rattle.words.proofs.Words.{told, told-eqb}
 use Rattle.chart.proofs.one_fine.Statement.{statement}

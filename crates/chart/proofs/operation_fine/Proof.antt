@@ -1,6 +1,6 @@
 -- `chart::operation_fine` meets its contract. Assumes nothing.
 use Rattle.semantics.proofs.Prelude.{sym, _∙_, needs, sfits-of, eq-eqb, ne-eqb}
-use Rattle.semantics.specs.Encoding.{word-at, count}
+use Rattle.semantics.specs.Encoding.{count}
 use Rattle.chart.specs.Encoded.{operation-fine}
 use Rattle.words.proofs.Words.{told}
 use Rattle.chart.proofs.operation_fine.Statement.{statement}

@@ -6,11 +6,12 @@ use Rattle.chart.proofs.put_edge.Tie as tie
 
 returns : tie.Need-returns
 returns c =
-    let s = c .before .before .before .before .before .before .before .before .before .before .before .before in
+    let w = c .before .before .before .before .before .before .before .before .before .before in
+    let s = w .before .before in
     let g = s .before .args in
     let o = s .split-of in
-    let a = c .before .before .before .before .before .before .before .before .before .before .before .operand-words in
-    let b = c .before .before .before .before .before .before .before .before .before .before .operand-words2 in
+    let a = w .before .operand-words in
+    let b = w .operand-words2 in
     let f : toZ w32 (g .from .0) ≡ pos (g .from .0) = toZ-pos w32 (omega arith) in
     let t : toZ w32 (g .to .0) ≡ pos (g .to .0) = toZ-pos w32 (omega arith) in
     let n : toZ w32 (o .result .code) ≡ pos (o .result .code) = toZ-pos w32 (omega arith) in

@@ -1,7 +1,7 @@
 -- `chart::row_name_length` meets its contract. Assumes nothing.
 use Rattle.semantics.proofs.Prelude.{_≡_, sym, _∙_, _+_, _-_, _≤_, arith, needs, sfits-of, pos, length, drop, w32, sfits-lit}
 use Rattle.semantics.specs.Layout.{name-size}
-use Rattle.semantics.specs.Encoding.{word-at, name-in, loc-in}
+use Rattle.semantics.specs.Encoding.{name-in, loc-in}
 use Rattle.words.proofs.Words.{bits-eq, bits-ne}
 use Rattle.chart.proofs.Names.{name-ends, name-goes}
 use Rattle.chart.proofs.row_name_length.Statement.{statement}

@@ -1,6 +1,5 @@
 -- `chart::var_row_ok` meets its contract. Assumes nothing.
 use Rattle.semantics.proofs.Prelude.{needs, sfits-of}
-use Rattle.semantics.specs.Encoding.{word-at}
 use Rattle.words.proofs.Words.{told}
 use Rattle.chart.proofs.var_row_ok.Statement.{statement}
 use Rattle.chart.proofs.var_row_ok.Tie as tie

@@ -23,6 +23,9 @@ module _ (c : tie.After-l) where
   lies : Lies (now (start .args .text)) (start .pre .0 .at) (c .l .given .0 .0) (c .l .given .0 .1 .0) (c .l .given .0 .1 .1 .0)
   lies = some-line _ _ (sym (start .pre .0 .is) ∙ c .l .given .1)
 
+abbrev line-at : tie.After-goes → tie.After-l
+line-at c = c .before .before .before .before .before .before .before .before
+
 returns : tie.Need-returns
 returns c = λ at e g h. absurd (rw (g, c .enum-told .given .1) at h)
 
@@ -36,7 +39,7 @@ judge-line-requires c κs = let k = c .before .before .before .before in
 
 returns-3 : tie.Need-returns-3
 returns-3 c = λ at e g h.
-    let k = c .before .before .before .before .before .before .before .before .before in
+    let k = line-at (c .before) in
     let a = start k .args in
     let d = c .before .before .before .before .judge-line in
     let l = some-line _ _ (sym e ∙ k .l .given .1) in
@@ -57,6 +60,6 @@ advance-spec =
     (λ c. lies (c .before .before .before) .within)
     judge-line-requires
     (λ c κs. search needs)
-    (λ c. omega (arith, lies (c .before .before .before .before .before .before .before .before .before) .here, start (c .before .before .before .before .before .before .before .before .before) .pre .0 .counted))
+    (λ c. omega (arith, lies (line-at (c .before)) .here, start (line-at (c .before)) .pre .0 .counted))
     (λ c. search needs) (λ c. search needs)
     returns-3)

@@ -2,7 +2,7 @@
 use Rattle.semantics.proofs.Prelude.{_≡_, sym, _∙_, _+_, _≤_, arith, take, length, length-take-le, now, needs}
 use Rattle.semantics.specs.Layout.{counts-size}
 use Rattle.reader.specs.ReadSoFar.{used-words}
-use Rattle.reader.proofs.CopiedOut.{held-words, too-few, enough}
+use Rattle.reader.proofs.CopiedOut.{held-words, too-short, enough}
 use Rattle.reader.proofs.copy_out.Statement.{statement}
 use Rattle.reader.proofs.copy_out.Tie as tie
 
@@ -17,8 +17,8 @@ module _ (c : tie.After-put-chart-arg2) where
 returns : tie.Need-returns
 returns c = let u = c .before .before in
     let ws = now (u .before .args .words) in (
-      λ d h. rw (too-few h (omega (arith, u .before .pre)) ws (omega (arith, u .used-words .ensures, c .before .if1 .taken))) (c .refused .ensures),
-      λ d h. rw (too-few h (omega (arith, u .before .pre)) ws (omega (arith, u .used-words .ensures, c .before .if1 .taken))),
+      λ d h. rw (too-short h (omega (arith, u .before .pre)) ws (omega (arith, u .used-words .ensures, c .before .if1 .taken))) (c .refused .ensures),
+      λ d h. rw (too-short h (omega (arith, u .before .pre)) ws (omega (arith, u .used-words .ensures, c .before .if1 .taken))),
     )
 
 put-chart-requires : tie.Need-put-chart-requires

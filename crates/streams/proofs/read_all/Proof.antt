@@ -1,5 +1,5 @@
 -- `streams::read_all` meets its contract, and ends: the bytes that are left become fewer. Assumes nothing.
-use Rattle.semantics.proofs.Prelude.{_≡_, refl, _∙_, _+_, _-_, _≤_, arith, needs, sfits-of, natAbs, length, w64, toZ, ofZ}
+use Rattle.semantics.proofs.Prelude.{_≡_, refl, _∙_, _-_, _≤_, arith, needs, sfits-of, length, w64, toZ, ofZ}
 use borrow.Rule.Slice.PartMut.{putMid, same-len-mid}
 use Rattle.streams.proofs.Answers.{Onward, Counted, moves-on, counted-more, all-moved, ended-short}
 use Rattle.streams.proofs.read_all.Statement.{statement}
@@ -24,17 +24,17 @@ module _ (c : tie.After-slice-known2 Inv-loop μ-loop) where
   same : length (putMid (turn .loop .count) (length (turn .loop .buf) - turn .loop .count) (turn .loop .buf) (read .read-some .last .0)) ≡ length (turn .before .before .args .buf .now)
   same = same-len-mid (turn .loop .count) (length (turn .loop .buf) - turn .loop .count) (turn .loop .buf) (read .read-some .last .0) (read .read-some .kept .0) ∙ turn .loop .inv .0
 
-onward : (c : tie.Else1 Inv-loop μ-loop) → Onward (turn (c .before) .loop .buf) (turn (c .before) .loop .count) (toZ w64 (ofZ w64 (read (c .before) .read-some .result)))
-onward c =
+moved-some : (c : tie.Else1 Inv-loop μ-loop) → Onward (turn (c .before) .loop .buf) (turn (c .before) .loop .count) (toZ w64 (ofZ w64 (read (c .before) .read-some .result)))
+moved-some c =
     let l = turn (c .before) .loop in
     let r = read (c .before) .read-some in
     moves-on _ _ _ (sfits-of {z = r .result} (r .ok)) (omega (arith, l .inv .0, l .inv .1 .0)) (c .if1 .left) (r .ensures)
 
 loop-less : tie.Need-loop-less Inv-loop μ-loop
-loop-less c = omega (arith, onward c .some, onward c .within, turn (c .before) .loop .inv .0)
+loop-less c = omega (arith, moved-some c .some, moved-some c .within, turn (c .before) .loop .inv .0)
 
 loop-again : tie.Need-loop-again Inv-loop μ-loop
-loop-again c = (same (c .before), (omega (arith, onward c .within, turn (c .before) .loop .inv .0), counted-more _ (onward c)))
+loop-again c = (same (c .before), (omega (arith, moved-some c .within, turn (c .before) .loop .inv .0), counted-more _ (moved-some c)))
 
 same-length : tie.Need-same-length Inv-loop μ-loop
 same-length c = c .before .loop .inv .0
@@ -60,8 +60,8 @@ read-all-spec =
     (λ c. search needs)
     (λ c. search needs)
     (λ c κs. search needs)
-    (λ c. (onward c .sign, onward c .fits))
-    (λ c. record { fits = omega (arith, onward c .within) })
+    (λ c. (moved-some c .sign, moved-some c .fits))
+    (λ c. record { fits = omega (arith, moved-some c .within) })
     loop-less
     loop-again
     same-length

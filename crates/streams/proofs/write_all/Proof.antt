@@ -16,8 +16,8 @@ loop-holds c = (omega arith, refl)
 abbrev turn : tie.After-write-some Inv-loop μ-loop → tie.At-loop Inv-loop μ-loop
 turn c = c .before .before .before
 
-onward : (c : tie.Else1 Inv-loop μ-loop) → Onward (turn (c .before) .before .before .args .buf .now) (turn (c .before) .loop .count) (toZ w64 (ofZ w64 (c .before .write-some .result)))
-onward c =
+moved-some : (c : tie.Else1 Inv-loop μ-loop) → Onward (turn (c .before) .before .before .args .buf .now) (turn (c .before) .loop .count) (toZ w64 (ofZ w64 (c .before .write-some .result)))
+moved-some c =
     let r = c .before .write-some in
     moves-on _ _ _ (sfits-of {z = r .result} (r .ok)) (turn (c .before) .loop .inv .0) (c .if1 .left) (r .ensures)
 
@@ -40,9 +40,9 @@ write-all-spec =
     (λ c. search needs)
     (λ c. search needs)
     (λ c κs. search needs)
-    (λ c. (onward c .sign, onward c .fits))
-    (λ c. record { fits = omega (arith, onward c .within) })
-    (λ c. omega (arith, onward c .some, onward c .within))
-    (λ c. (onward c .within, counted-more _ (onward c)))
+    (λ c. (moved-some c .sign, moved-some c .fits))
+    (λ c. record { fits = omega (arith, moved-some c .within) })
+    (λ c. omega (arith, moved-some c .some, moved-some c .within))
+    (λ c. (moved-some c .within, counted-more _ (moved-some c)))
     returns
     returns-2)

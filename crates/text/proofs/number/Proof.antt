@@ -3,7 +3,7 @@ use Rattle.semantics.proofs.Prelude.{needs, sym, ap, _∙_}
 use Rattle.semantics.specs.Text.{negative}
 use Rattle.text.specs.Fields.{number-read, natural-said}
 use Rattle.text.specs.declared.Natural.{Natural}
-use Rattle.text.proofs.Digits.{number-empty, number-minus, number-plus, minus-cut}
+use Rattle.text.proofs.Digits.{number-empty, number-minus, number-plus, read-cut, minus-cut}
 use Rattle.text.proofs.number.Statement.{statement}
 use Rattle.text.proofs.number.Tie as tie
 
@@ -26,7 +26,7 @@ number-spec =
     (tie.spec
     returns
     (λ c. search needs) (λ c. search needs) (λ c. search needs) (λ c. search needs) (λ c κs. search needs)
-    (λ c κs. search needs)
+    (λ c κs. rw (c .natural-in .ensures) (read-cut _))
     returns-2
     (λ c κs. search needs)
     returns-3)

@@ -4,7 +4,7 @@ use Rattle.semantics.specs.Text.{fields}
 use Rattle.semantics.specs.Reading.{ok, if-ok, nth}
 use Rattle.semantics.specs.Program.{mode-field, order-field}
 use Rattle.program.specs.Asked.{mode-res, order-res, settings-res}
-use Rattle.program.proofs.OneField.{field-said}
+use Rattle.text.proofs.FieldTests.{field-said}
 use Rattle.program.proofs.go_line.settings_fields.Statement.{statement}
 use Rattle.program.proofs.go_line.settings_fields.Tie as tie
 

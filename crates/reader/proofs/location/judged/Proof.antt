@@ -3,7 +3,8 @@ use Rattle.semantics.proofs.Prelude.{sym, ap, _∙_, not-true, not-false, needs
 use Rattle.semantics.specs.Reading.{kind-field}
 use Rattle.semantics.specs.Text.{name-ok}
 use Rattle.text.specs.Fields.{kind-res}
-use Rattle.reader.proofs.CheckSteps.{check-no, check-yes, said}
+use Rattle.text.proofs.FieldTests.{field-said}
+use Rattle.reader.proofs.CheckSteps.{check-no, check-yes}
 use Rattle.reader.proofs.location.judged.Statement.{statement}
 use Rattle.reader.proofs.location.judged.Tie as tie
 
@@ -14,12 +15,12 @@ returns c = sym (check-no _ _ (sym (c .before .filled .ensures) ∙ not-true _ (
 returns-2 : tie.Need-returns-2
 unfolding kind-res
 returns-2 c = let f = sym (c .before .before .before .before .filled .ensures) ∙ not-false _ (c .before .before .before .if1 .left) in
-    let n = said name-ok (c .before .before .field .ensures) (c .before .name-ok .ensures) (not-true _ (c .if2 .taken)) in
+    let n = field-said name-ok (λ b. b) (c .before .before .field .ensures) (c .before .name-ok .ensures) (not-true _ (c .if2 .taken)) in
     sym (check-yes _ _ f ∙ check-no _ _ n)
 
 returns-3 : tie.Need-returns-3
 returns-3 c = let f = sym (c .before .before .before .before .before .before .filled .ensures) ∙ not-false _ (c .before .before .before .before .before .if1 .left) in
-    let n = said name-ok (c .before .before .before .before .field .ensures) (c .before .before .before .name-ok .ensures) (not-false _ (c .before .before .if2 .left)) in
+    let n = field-said name-ok (λ b. b) (c .before .before .before .before .field .ensures) (c .before .before .before .name-ok .ensures) (not-false _ (c .before .before .if2 .left)) in
     c .kind-field .ensures ∙ ap kind-field (c .before .field2 .ensures) ∙ sym (check-yes _ _ f ∙ check-yes _ _ n)
 
 pub judged-spec : {M : Type 1} → statement M
