@@ -13,7 +13,7 @@ use Rattle.semantics.specs.Memory.{Memory, width, row, table-of, waitlist-of, a
 use Rattle.semantics.specs.Outcomes.{started, resumed, put-in}
 use Rattle.semantics.proofs.Encoded.{well-formed-split}
 use Rattle.semantics.proofs.SettingsKept.{run-kept}
-use Rattle.semantics.proofs.Simulate.{AllPairs, ExplorationR, run-R, start-R}
+use Rattle.semantics.proofs.Simulate.{AllPairs, ExplorationR, run-R, start-R, same-length}
 use Rattle.state.specs.declared.Layout.{Layout}
 use Rattle.state.specs.Rows.{width-of, rows-of}
 use Rattle.state.proofs.Layouts.{LayoutOf}
@@ -70,12 +70,6 @@ rows-said c [] (f ∷ fs) a = absurd a
 rows-said c (e ∷ en) [] a = absurd a
 rows-said c (e ∷ en) (f ∷ fs) a = let p = a .0 .words in let q = rows-said c en fs (a .1) in λ i. p i ++ q i
 
-count-said : (c : Chart) (en : List (List ℤ)) (fs : List AbstractState) → AllPairs (Says c) en fs → length en ≡ length fs
-count-said c [] [] a = refl
-count-said c [] (f ∷ fs) a = absurd a
-count-said c (e ∷ en) [] a = absurd a
-count-said c (e ∷ en) (f ∷ fs) a = ap suc (count-said c en fs (a .1))
-
 module _ (c : Chart) (y : Layout) (o : LayoutOf c y) (last : ℕ) (a : Analysis) (t l : List ℤ) where
   pub stores : (x : Exploration (List ℤ)) (v : Exploration AbstractState) → Loaded y last a t l x → ExplorationR (Says c) x v → Stores c a t l v
   stores x v h s = go (subst (λ (z : Exploration (List ℤ)). ExplorationR (Says c) z v) (sym (h .load)) s)
@@ -86,7 +80,7 @@ module _ (c : Chart) (y : Layout) (o : LayoutOf c y) (last : ℕ) (a : Analysis)
       go : ExplorationR (Says c) (load-of y a t l) v → Stores c a t l v
       go q =
           let rows = rows-said c (rows-of y (a .used) t) (v .reached) (q .reached) in
-          let used : a .used ≡ length (v .reached) = sym (rows-length y (a .used) t) ∙ count-said c (rows-of y (a .used) t) (v .reached) (q .reached) in
+          let used : a .used ≡ length (v .reached) = sym (rows-length y (a .used) t) ∙ same-length (Says c) (rows-of y (a .used) t) (v .reached) (q .reached) in
           let waiting : a .waiting ≡ length (v .waitlist) = k .slots .count ∙ ap length (q .waitlist) in
           let size : length l ≡ v .capacity = h .form .capacity ∙ q .capacity in
           record {

@@ -13,6 +13,8 @@ use Rattle.semantics.proofs.Tidy.{some-not}
 use Rattle.semantics.proofs.MemoryOf.{counted}
 use Rattle.semantics.proofs.MemoryInForm.{Form, form, slots-back, zeros-back}
 use Rattle.semantics.proofs.Simulate.{ExplorationR}
+use Rattle.semantics.proofs.AtAndIn.{clash}
+use Rattle.semantics.proofs.Encoded.{every-any}
 use Rattle.state.specs.declared.Layout.{Layout}
 use Rattle.state.specs.Rows.{rows-of}
 use Rattle.state.proofs.Layouts.{LayoutOf, slots-in}
@@ -47,17 +49,13 @@ in-use n [] t j h = absurd h
 in-use n (k ∷ ks) t j (inl p) = subst (λ (i : ℕ). i < n) (sym p) (ltb→lt k n (and-left (ltb k n) (all (below n) (map pos ks)) t))
 in-use n (k ∷ ks) t j (inr q) = in-use n ks (and-right (ltb k n) (all (below n) (map pos ks)) t) j q
 
-every-any : (en : List (List ℤ)) → Every Any en
-every-any [] = tt
-every-any (e ∷ en) = (tt, every-any en)
-
 -- ---- the verdict and the edge
 
 safe-none : (v : Verdict) (n : ℕ) → T (empty-if-safe v n) → v ≡ Safe → n ≡ 0
-safe-none Open n t e = absurd (let z : _≡_ {A = ℕ} 0 1 = cc in omega arith)
+safe-none Open n t e = absurd (clash cc)
 safe-none Safe n t e = eqb→eq n 0 t
-safe-none Alarm n t e = absurd (let z : _≡_ {A = ℕ} 0 1 = cc in omega arith)
-safe-none Full n t e = absurd (let z : _≡_ {A = ℕ} 0 1 = cc in omega arith)
+safe-none Alarm n t e = absurd (clash cc)
+safe-none Full n t e = absurd (clash cc)
 
 none-safe : (v : Verdict) → T (empty-if-safe v 0) → v ≡ Safe
 none-safe Open t = absurd t

@@ -1,11 +1,10 @@
--- What a well-formed chart's counts say of a slot's words and of products with them, and which numbers are a capacity
--- and a budget that 11 and 13 let pass. Assumes nothing.
+-- What a well-formed chart's counts say of a slot's words and of products with them, and which numbers are a budget that
+-- 13 lets pass. Assumes nothing.
 use Rattle.semantics.proofs.Prelude.{List, ℕ, _*_, _≤_, _<_, mul-le-mul, arith, T, leb, leb→le, ℤ, pos, negsuc, natAbs, nonNeg}
-use Rattle.semantics.specs.Layout.{most-slots, most-iterations}
+use Rattle.semantics.specs.Layout.{most-iterations}
 use Rattle.semantics.specs.Encoding.{decode, well-formed}
-use Rattle.semantics.specs.Memory.{capacity-ok}
 use Rattle.semantics.specs.Outcomes.{budget-ok}
-use Rattle.semantics.proofs.ConstantValues.{and-left, and-right}
+use Rattle.semantics.proofs.ConstantValues.{and-right}
 use Rattle.state.specs.declared.Layout.{Layout}
 use Rattle.state.specs.Rows.{width-of, most-width}
 use Rattle.state.proofs.Layouts.{LayoutOf}
@@ -23,16 +22,6 @@ module _ (ws : List ℤ) (ok : T (well-formed ws)) (y : Layout) (o : LayoutOf (d
       let d : y .stride ≤ most-width = omega (arith, o .stride, narrow ws ok) in
       let m : r * y .stride ≤ 4294967296 * most-width = mul-le-mul few d in
       omega arith
-
--- a capacity that 11 lets pass is a number from 1 to 256
-pub record Counted (z : ℤ) : Type 0 where
-  pub sign : T (nonNeg z)
-  pub some : 1 ≤ natAbs z
-  pub few : natAbs z ≤ most-slots
-
-pub counted : (z : ℤ) → T (capacity-ok z) → Counted z
-counted (pos n) t = record { sign = tt; some = leb→le 1 n (and-left (leb 1 n) (leb n most-slots) t); few = leb→le n most-slots (and-right (leb 1 n) (leb n most-slots) t) }
-counted (negsuc n) t = absurd t
 
 -- a budget that 13 lets pass is a number up to 60,000
 pub record Budgeted (z : ℤ) : Type 0 where

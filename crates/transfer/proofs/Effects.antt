@@ -8,7 +8,7 @@ use Rattle.semantics.specs.Constants.{operand-value, both, assign-value, one-of
 use Rattle.semantics.specs.Encoding.{word, word-at, tag, operand-word, rel-code, op-words, encode, count, var-ok, operand-ok, op-ok, chart-ok}
 use Rattle.semantics.proofs.ConstantValues.{and-left, and-right}
 use Rattle.semantics.proofs.StatesOk.{ValOk, ValsOk}
-use Rattle.semantics.proofs.MemoryOf.{not-top}
+use Rattle.semantics.proofs.MemoryOf.{small-not-top, known-not-top}
 use Rattle.words.proofs.Words.{eqZ-true}
 use Rattle.state.specs.Rows.{value-at, with-value, word-join}
 use Rattle.transfer.specs.Transfer.{operand-by, set-ranged, set-value, assign-at, set-result, both-at, input-at, holds-by, refine-by, tested-by, assume-at, op-by}
@@ -19,14 +19,8 @@ abbrev pub Plain : Value → Type 0
 Plain (known z) = eqZ z top-word ≡ false
 Plain top = Unit
 
-small-plain : (z : ℤ) → T (small z) → Plain (known z)
-small-plain z t = not-top z (pos 32767) (search (and-left, and-right)) tt
-
 value-plain : (v : Var) (x : Value) → T (var-ok v) → ValOk v x → Plain x
-value-plain v (known z) t h =
-    let p : T (leZ z (v .hi)) = search (and-left, and-right) in
-    let q : T (leZ (v .hi) (pos 32767)) = search (and-left, and-right) depth 8 in
-    not-top z (v .hi) p q
+value-plain v (known z) t h = known-not-top v z t h
 value-plain v top t h = tt
 
 -- each value of a list
@@ -141,7 +135,7 @@ module _ (c : Chart) (ok : T (chart-ok c)) (rest : List ℤ) (l : ℤ) (xs : Lis
   -- ---- operands
 
   operand-plain : (a : Operand) → T (operand-ok (c .vars) a) → Plain (operand-value a xs)
-  operand-plain (num z) o = small-plain z o
+  operand-plain (num z) o = small-not-top z o
   operand-plain (var k) o = get-plain xs k plain
 
   operand-sided : (a : Operand) → Sided a (operand-value a xs)

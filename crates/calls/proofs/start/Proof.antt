@@ -4,7 +4,7 @@ use Rattle.semantics.proofs.Prelude.{_≡_, sym, ap, _∙_, [], arith, needs, n
 use Rattle.semantics.specs.Outcomes.{size-of, start-cases, refusal, start-outcome}
 use Rattle.checks.specs.Form.{lent}
 use Rattle.calls.proofs.Refusals.{StartPasses, start-passes, ends-refused, ends-through}
-use Rattle.calls.proofs.CallSizes.{counted}
+use Rattle.semantics.proofs.MemoryOf.{counted}
 use Rattle.calls.proofs.start.Statement.{statement}
 use Rattle.calls.proofs.start.Tie as tie
 

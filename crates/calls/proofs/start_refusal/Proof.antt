@@ -3,7 +3,7 @@ use Rattle.semantics.proofs.Prelude.{_≡_, refl, sym, ap, _∙_, true, arith, 
 use Rattle.semantics.specs.Algorithm.{allowed}
 use Rattle.semantics.specs.Memory.{capacity-ok}
 use Rattle.semantics.proofs.AtAndIn.{from-true}
-use Rattle.calls.proofs.CallSizes.{counted}
+use Rattle.semantics.proofs.MemoryOf.{counted}
 use Rattle.calls.proofs.start_refusal.Statement.{statement}
 use Rattle.calls.proofs.start_refusal.Tie as tie
 
