@@ -87,7 +87,8 @@ fn settings_fields(line: &[u8]) -> SettingsRead
     SettingsRead::Is(Settings { merge, stop, order })
 }
 
-// 11, 12, 13, once every field is well formed.
+// 11, 12, 13, once every field is well formed. All three are asked first, so that a wrong build can change their order
+// and nothing else.
 fn sized(go: Go) -> Asked
     ensures { λ r. ⌜ asked-res r ≡ sized (go .settings) (go .capacity) (go .budget) ⌝ }
 {
