@@ -3,7 +3,7 @@ use Rattle.semantics.proofs.Prelude.{_≡_, refl, sym, ap, subst, _∙_, true, 
 use Rattle.semantics.specs.declared.Verdict.{Verdict}
 use Rattle.semantics.specs.declared.Verdict.the-variants.{Open, Safe, Alarm, Full}
 use Rattle.semantics.specs.declared.Analysis.{Analysis}
-use Rattle.semantics.specs.Algorithm.{Domain, Out, Exploration, Taken, verdict-of, visit-all, finish, iteration, run, has-verdict}
+use Rattle.semantics.specs.Algorithm.{Domain, Out, Exploration, Taken, visit-all, finish, iteration, run, has-verdict}
 use Rattle.semantics.specs.Tidy.{Every, Queue, Tidy}
 use Rattle.semantics.proofs.Tidy.{Left, take-left, Keeps, iteration-tidy}
 use Rattle.state.specs.declared.Layout.{Layout}

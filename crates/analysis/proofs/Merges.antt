@@ -8,7 +8,7 @@ use Rattle.semantics.specs.Chart.{eqZ}
 use Rattle.semantics.specs.Lists.{pick, some-of}
 use Rattle.semantics.specs.Algorithm.{wait, wait-all, changed, merged, of-place, leq-joined, stopped, allowed}
 use Rattle.semantics.specs.Tidy.{Every}
-use Rattle.semantics.proofs.ConstantValues.{left-true, right-true}
+use Rattle.semantics.proofs.Bools.{left-true, right-true}
 use Rattle.words.proofs.Words.{eqZ-true}
 use Rattle.state.specs.Rows.{values-of, word-leq, word-join, words-leq, words-join, same-words, same-place, row-leq, row-join, row-merge, join-of}
 use Rattle.state.proofs.RowLoops.{length-words-join}

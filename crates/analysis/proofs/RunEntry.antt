@@ -6,9 +6,9 @@ use Rattle.semantics.specs.declared.Verdict.{Verdict}
 use Rattle.semantics.specs.declared.Verdict.the-variants.{Open, Safe, Alarm, Full}
 use Rattle.semantics.specs.Lists.{In, some-of, all}
 use Rattle.semantics.specs.Chart.{Chart, eqZ}
-use Rattle.semantics.specs.Tidy.{Distinct, Queue, Every, Tidy}
+use Rattle.semantics.specs.Tidy.{Distinct, Queue, Tidy}
 use Rattle.semantics.specs.Memory.{Memory, width, load, below, each-once, zeros, is-alarm, empty-if-safe, analysis-ok}
-use Rattle.semantics.proofs.ConstantValues.{and-left, and-right}
+use Rattle.semantics.proofs.Bools.{and-left, and-right}
 use Rattle.semantics.proofs.Tidy.{some-not}
 use Rattle.semantics.proofs.MemoryOf.{counted}
 use Rattle.semantics.proofs.MemoryInForm.{Form, form, slots-back, zeros-back}

@@ -4,7 +4,7 @@ use Rattle.semantics.proofs.Prelude.{List, ℕ, _*_, _≤_, _<_, mul-le-mul, ar
 use Rattle.semantics.specs.Layout.{most-iterations}
 use Rattle.semantics.specs.Encoding.{decode, well-formed}
 use Rattle.semantics.specs.Outcomes.{budget-ok}
-use Rattle.semantics.proofs.ConstantValues.{and-right}
+use Rattle.semantics.proofs.Bools.{and-right}
 use Rattle.state.specs.declared.Layout.{Layout}
 use Rattle.state.specs.Rows.{width-of, most-width}
 use Rattle.state.proofs.Layouts.{LayoutOf}

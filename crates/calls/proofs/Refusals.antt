@@ -1,11 +1,12 @@
 -- What a call that nothing refuses may rely on, and what a refused call leaves. Assumes nothing.
 use Rattle.semantics.proofs.Prelude.{_≡_, refl, sym, ap, _∙_, List, ℕ, _*_, _≤_, T, ℤ, natAbs}
+use Rattle.semantics.proofs.Bools.{passed}
 use Rattle.semantics.specs.declared.Settings.{Settings}
 use Rattle.semantics.specs.Algorithm.{allowed}
 use Rattle.semantics.specs.Encoding.{decode, well-formed}
 use Rattle.semantics.specs.Memory.{Memory, width, capacity-ok}
 use Rattle.semantics.specs.Outcomes.{Outcome, refusal, refused-by, settled, budget-ok, size-of, form-of, start-cases, run-cases}
-use Rattle.semantics.proofs.FirstCase.{none-met, passed, enough, refused-stays, goes}
+use Rattle.semantics.proofs.FirstCase.{none-met, enough, refused-stays, goes}
 use Rattle.checks.specs.Form.{InForm}
 use Rattle.checks.proofs.FormTests.{in-form}
 use Rattle.calls.specs.declared.Called.{Called}

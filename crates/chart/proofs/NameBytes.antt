@@ -1,15 +1,16 @@
 -- The name of a location, as its words have it, and that its numbers are bytes where the words are in form.
 -- Assumes nothing.
-use Rattle.semantics.proofs.Prelude.{_≡_, refl, ap, _∙_, Bool, true, false, _||_, List, [], _∷_, map, ℕ, zero, suc, _+_, _*_, _≤_, _<_, arith, lt-ltb, T, leb, eqb, leb→le, eqb→eq, ℤ, pos, natAbs, length, getD, take, drop, drop-drop}
+use Rattle.semantics.proofs.Prelude.{_≡_, refl, ap, _∙_, Bool, true, false, List, [], _∷_, map, ℕ, zero, suc, _+_, _*_, _≤_, _<_, arith, lt-ltb, T, ℤ, pos, natAbs, length, getD, take, drop, drop-drop}
 use Rattle.semantics.specs.Layout.{counts-size, variable-size, name-size, location-size, name-place}
 use Rattle.semantics.specs.Lists.{all, pick}
 use Rattle.semantics.specs.Text.{between, name-byte, name-ok}
 use Rattle.semantics.specs.Chart.{Loc, eqZ}
 use Rattle.semantics.specs.Listing.{loc-text}
 use Rattle.semantics.specs.Encoding.{name-in, loc-in, several, count, decode, well-formed}
-use Rattle.semantics.proofs.ConstantValues.{and-left, and-right}
-use Rattle.semantics.proofs.StatesOk.{bounds}
-use Rattle.semantics.proofs.Encoded.{well-formed-split}
+use Rattle.semantics.proofs.Bools.{and-left, and-right}
+use Rattle.semantics.proofs.Encoded.{formed-bounds}
+use Rattle.semantics.proofs.Texts.{plain-range}
+use Rattle.semantics.proofs.Rendered.{byte-plain}
 use Rattle.chart.specs.Encoded.{locations-at, byte-of}
 use Rattle.chart.proofs.Rows.{past-drop}
 
@@ -57,21 +58,8 @@ name-fits (x ∷ xs) h = omega (arith, bytes-in name-size xs .1)
 
 -- ---- in form, the numbers are bytes
 
-either : (a b : Bool) {P : Type 0} → (T a → P) → (T b → P) → T (a || b) → P
-either true b f g t = f t
-either false b f g t = g t
-
 small-byte : (b : ℕ) → T (name-byte b) → b < 256
-unfolding name-byte
-small-byte b t =
-    either (between 65 90 b || between 97 122 b || between 48 57 b) (eqb b 45)
-    (either (between 65 90 b || between 97 122 b) (between 48 57 b)
-    (either (between 65 90 b) (between 97 122 b) (upto 65 90 (omega arith)) (upto 97 122 (omega arith)))
-    (upto 48 57 (omega arith)))
-    (λ s. omega (arith, eqb→eq b 45 s))
-    t where
-      upto : (lo hi : ℕ) → hi < 256 → T (between lo hi b) → b < 256
-      upto lo hi h s = omega (arith, leb→le b hi (and-right (leb lo b) (leb b hi) s))
+small-byte b t = let r = plain-range b (byte-plain b t) in omega arith
 
 small-bytes : (bs : List ℕ) (i : ℕ) → T (all name-byte bs) → getD bs i 0 < 256
 small-bytes [] i t = omega arith
@@ -80,11 +68,11 @@ small-bytes (b ∷ bs) (suc i) t = small-bytes bs i (and-right (name-byte b) (al
 
 small-names : (ls : List Loc) (k i : ℕ) → T (all (λ l. name-ok (l .name)) ls) → getD (loc-text ls k) i 0 < 256
 small-names [] k i t = omega arith
-small-names (l ∷ ls) zero i t = small-bytes (l .name) i (and-right (between 1 16 (length (l .name))) (all name-byte (l .name)) (and-left (name-ok (l .name)) (all (λ m. name-ok (m .name)) ls) t))
+small-names (l ∷ ls) zero i t = small-bytes (l .name) i (and-right (between 1 name-size (length (l .name))) (all name-byte (l .name)) (and-left (name-ok (l .name)) (all (λ m. name-ok (m .name)) ls) t))
 small-names (l ∷ ls) (suc k) i t = small-names ls k i (and-right (name-ok (l .name)) (all (λ m. name-ok (m .name)) ls) t)
 
--- so `name_byte` answers the byte of the name itself
+-- so `byte_of` answers the byte of the name itself
 pub names-are-bytes : (ws : List ℤ) → T (well-formed ws) → (k i : ℕ) → byte-of (getD (loc-text (decode ws .locs) k) i 0) ≡ getD (loc-text (decode ws .locs) k) i 0
 names-are-bytes ws t k i =
-    let b = bounds (decode ws) (well-formed-split ws t .1) in
+    let b = formed-bounds ws t in
     rw (lt-ltb (getD (loc-text (decode ws .locs) k) i 0) 256 (small-names (decode ws .locs) k i (b .names)))

@@ -5,7 +5,7 @@ use Rattle.semantics.specs.Lists.{all, pick}
 use Rattle.semantics.specs.Text.{same-bytes}
 use Rattle.semantics.specs.Chart.{Loc, eqZ}
 use Rattle.semantics.specs.Encoding.{word-at, name-in, loc-in, several, distinct-names, count}
-use Rattle.semantics.proofs.ConstantValues.{and-regroup}
+use Rattle.semantics.proofs.Bools.{and-regroup}
 
 -- the first word left, and the words after it; past the end there is no byte more
 pub name-step : (n : ℕ) (ws : List ℤ) (i : ℕ) → name-in (suc n) (drop i ws) ≡ pick (eqZ (word-at ws i) (pos 0)) [] (natAbs (word-at ws i) ∷ (name-in n (drop (suc i) ws)))

@@ -2,7 +2,7 @@
 use Rattle.semantics.proofs.Prelude.{_≡_, sym, ap, _∙_, Bool, true, _&&_, and-true, List, ℕ, suc, _+_, _-_, _*_, _≤_, _<_, sub-zero, mul-zero, mul-suc, add-one, arith, ℤ, length, take, drop, drop-drop}
 use Rattle.semantics.specs.Lists.{all}
 use Rattle.semantics.specs.Encoding.{several}
-use Rattle.semantics.proofs.ConstantValues.{and-regroup}
+use Rattle.semantics.proofs.Bools.{and-regroup}
 use Rattle.words.proofs.Rows.{tail}
 
 -- a test of n rows of k words: ok is what the i rows passed say, and the rows left begin at `at`

@@ -7,9 +7,8 @@ use Rattle.semantics.specs.Text.{name-byte, name-ok}
 use Rattle.semantics.specs.Chart.{Var, Chart, eqZ, small, in-range, Operand, Op, assign, add, sub, input, assume, skip, num, var}
 use Rattle.semantics.specs.Encoding.{kind-word, var-words, loc-words, tag, operand-word, op-words, edge-words, var-in, name-in, loc-in, operand, op-of, edge-in, operand-ok, op-ok, edge-ok, begins-with}
 use Rattle.semantics.specs.Memory.{below, zeros}
-use Rattle.semantics.proofs.ConstantValues.{and-left, and-right, and-regroup}
+use Rattle.semantics.proofs.Bools.{and-left, and-right, and-regroup, both-true}
 use Rattle.semantics.proofs.MemoryInForm.{word-back}
-use Rattle.semantics.proofs.MemoryOf.{both-true}
 use Rattle.words.proofs.Words.{eqZ-self, eqZ-sym}
 use Rattle.chart.specs.Encoded.{name-word, location-fine, operand-fine, ranged, two-fine, one-fine, input-fine, operands-fine, operation-fine, edge-fine, at-most}
 use Rattle.chart.proofs.Rows.{iff, interchange}

@@ -4,8 +4,7 @@ use Rattle.semantics.proofs.Prelude.{_≡_, refl, sym, ap, _∙_, Bool, true, f
 use Rattle.semantics.specs.Lists.{all, each}
 use Rattle.semantics.specs.Chart.{eqZ}
 use Rattle.semantics.specs.Encoding.{several, past, begins-with}
-use Rattle.semantics.proofs.ConstantValues.{and-left, and-right, and-regroup}
-use Rattle.semantics.proofs.MemoryOf.{both-true}
+use Rattle.semantics.proofs.Bools.{and-left, and-right, and-regroup, both-true}
 use Rattle.chart.specs.Encoded.{rows}
 
 pub iff : (a b : Bool) → (T a → T b) → (T b → T a) → a ≡ b

@@ -5,8 +5,8 @@ use Rattle.semantics.specs.Lists.{all, each}
 use Rattle.semantics.specs.Text.{name-ok}
 use Rattle.semantics.specs.Chart.{eqZ, in-range}
 use Rattle.semantics.specs.Encoding.{word-at, var-words, loc-words, edge-words, encode, var-in, loc-in, edge-in, name-in, several, past, count, decode, var-ok, distinct-names, edge-ok, chart-ok, begins-with, well-formed}
-use Rattle.semantics.proofs.ConstantValues.{and-left, and-right}
-use Rattle.semantics.proofs.MemoryOf.{to-false, both-true, padded-length}
+use Rattle.semantics.proofs.Bools.{and-left, and-right, to-false, both-true}
+use Rattle.semantics.proofs.MemoryOf.{padded-length}
 use Rattle.semantics.proofs.Encoded.{edge-wide}
 use Rattle.chart.specs.Encoded.{rows, counts-fine, locations-at, edges-at, location-fine, ranged, edge-fine, rows-fine}
 use Rattle.semantics.proofs.Decoded.{vars-count, locs-count, edges-count}

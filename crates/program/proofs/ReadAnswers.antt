@@ -7,7 +7,7 @@ use Rattle.semantics.specs.Reading.{fail, Reading, refused, accepted, read}
 use Rattle.semantics.specs.Encoding.{encode, decode, well-formed}
 use Rattle.semantics.specs.Outcomes.{ReadOutcome, held-by, read-outcome}
 use Rattle.semantics.specs.declared.Answer.{Answer}
-use Rattle.semantics.proofs.ConstantValues.{and-left}
+use Rattle.semantics.proofs.Bools.{and-left}
 use Rattle.semantics.proofs.Exactness.{encoded-exactly}
 use Rattle.semantics.proofs.Refusals.{read-said}
 use Rattle.semantics.proofs.ProgramCalls.{read-goes}

@@ -6,7 +6,7 @@ use Rattle.semantics.specs.Layout.{variable-size, location-size, edge-size, hig
 use Rattle.semantics.specs.Chart.{Var, Loc, Edge, Chart, in-range}
 use Rattle.semantics.specs.Encoding.{var-words, loc-words, edge-words}
 use Rattle.semantics.specs.Reading.{So-far, with-var, with-loc, with-edge}
-use Rattle.semantics.proofs.MemoryOf.{both-true}
+use Rattle.semantics.proofs.Bools.{both-true}
 use Rattle.semantics.proofs.ReadInBounds.{all-snoc}
 use Rattle.semantics.proofs.Encoded.{loc-wide, edge-wide}
 use Rattle.chart.specs.Encoded.{ranged}

@@ -1,32 +1,11 @@
 -- Facts of values, of any number of variables. Assumes nothing.
-use Rattle.semantics.proofs.Prelude.{_≡_, refl, sym, ap, _∙_, subst, Bool, true, false, _&&_, and-assoc, List, [], _∷_, Option, some, none, ℕ, zero, suc, arith, le-antisymm, T, eqb, eqb→eq, leb→le, length, getD, set, ℤ, pos, negsuc, _+ℤ_, _-ℤ_, leZ}
+use Rattle.semantics.proofs.Prelude.{_≡_, refl, sym, ap, _∙_, subst, Bool, true, false, List, [], _∷_, Option, some, none, ℕ, zero, suc, arith, le-antisymm, T, eqb, eqb→eq, leb→le, length, getD, set, ℤ, pos, negsuc, _+ℤ_, _-ℤ_, leZ}
 use Rattle.semantics.specs.Lists.{all-pairs, pick}
 use Rattle.semantics.specs.Chart.{Value, known, top, Var, Operand, num, var, Rel, eq, ne, lt, le, gt, ge, Op, assign, add, sub, input, assume, skip, Edge, Chart, eqZ, within, holds, Ranged, Matches₁, Matches, value, Becomes, in-range}
 use Rattle.semantics.specs.Algorithm.{to, halt}
 use Rattle.semantics.specs.Constants.{AbstractState, equal-value, leq-value, join-values, operand-value, both, assign-value, refine, one-known, tested, one-of, effect, arrive-at, post}
-use Rattle.semantics.proofs.AtAndIn.{from-true}
+use Rattle.semantics.proofs.Bools.{from-true, and-left, and-right}
 use Rattle.semantics.proofs.Covering.{halt-to}
-
-pub and-left : (a b : Bool) → T (a && b) → T a
-and-left true b t = tt
-and-left false b t = absurd t
-
-pub and-right : (a b : Bool) → T (a && b) → T b
-and-right true b t = t
-and-right false b t = absurd t
-
--- the same of Bools that are equal to true
-pub left-true : (a b : Bool) → a && b ≡ true → a ≡ true
-left-true true b e = refl
-left-true false b e = e
-
-pub right-true : (a b : Bool) → a && b ≡ true → b ≡ true
-right-true true b e = e
-right-true false b e = absurd (subst T (sym e) tt)
-
--- the last two tests apart: mathlib's `and-assoc` the other way round
-pub and-regroup : (a b c : Bool) → a && (b && c) ≡ a && b && c
-and-regroup a b c = sym (and-assoc a b c)
 
 pub eqZ-same : (a b : ℤ) → T (eqZ a b) → a ≡ b
 eqZ-same (pos a) (pos b) t = ap pos (eqb→eq a b t)

@@ -4,8 +4,7 @@ use Rattle.semantics.specs.Lists.{pick}
 use Rattle.semantics.specs.Layout.{most-bytes}
 use Rattle.semantics.specs.Reading.{Res, fail, ok, check, refused, read}
 use Rattle.semantics.specs.Program.{has-lf, first-line, past-line, Go, go-line, print-read, print-go, output}
-use Rattle.semantics.proofs.AtAndIn.{from-true}
-use Rattle.semantics.proofs.MemoryOf.{to-true}
+use Rattle.semantics.proofs.Bools.{from-true, to-true}
 use Rattle.semantics.proofs.ReadInBounds.{check-ok, then-ok}
 use Rattle.semantics.proofs.Program.{GoOk}
 

@@ -4,7 +4,7 @@ use Rattle.semantics.proofs.Prelude.{_≡_, Bool, true, false, List, []
 use Rattle.semantics.specs.Lists.{some-of, all}
 use Rattle.semantics.specs.Layout.{most-iterations, most-slots, name-size}
 use Rattle.semantics.specs.Text.{bytes, decimal, line-of, name-ok}
-use Rattle.semantics.specs.Chart.{Value, known, top, Var, Loc, Chart, within}
+use Rattle.semantics.specs.Chart.{Value, known, top, Var, Loc, Chart}
 use Rattle.semantics.specs.Algorithm.{Mode, Sep, Order, Old, New, Verdict, Open, Safe, Alarm, Full, Exploration, Join}
 use Rattle.semantics.specs.Constants.{AbstractState}
 use Rattle.semantics.specs.Encoding.{var-ok}
@@ -12,8 +12,8 @@ use Rattle.semantics.specs.Memory.{Memory, load, analysis-ok}
 use Rattle.semantics.specs.Outcomes.{text-of}
 use Rattle.semantics.specs.Listing.{mode-text, order-text, verdict-text, loc-text, val-text, mark, slot-text, slots-text, listing-text}
 use Rattle.semantics.specs.Tidy.{Every}
-use Rattle.semantics.proofs.ConstantValues.{and-left, and-right}
-use Rattle.semantics.proofs.MemoryOf.{both-true, counted, Good}
+use Rattle.semantics.proofs.Bools.{and-left, and-right, both-true}
+use Rattle.semantics.proofs.MemoryOf.{counted, Good}
 use Rattle.semantics.proofs.StatesOk.{ValOk, ValsOk, StateOk, Bounds}
 use Rattle.semantics.proofs.MemoryInForm.{form, states-count, rows-states}
 use Rattle.semantics.proofs.Numbers.{digits-few}

@@ -1,9 +1,9 @@
 -- An exploration stored in words, with any words after, is read back and is in form. Assumes nothing.
-use Rattle.semantics.proofs.Prelude.{_≡_, refl, sym, ap, _∙_, subst, inl, inr, Bool, true, false, _&&_, _||_, not, List, [], _∷_, _++_, map, append-assoc, ℕ, zero, suc, _-_, _*_, _≤_, _<_, mul-le-mul-right, arith, T, ltb, eqb, leb→le, le→leb, lt→ltb, eqb-refl, length, take, drop, replicate, length-append, length-map, length-replicate, take-at, drop-at, ℤ, pos, negsuc, natAbs, leZ, ne-eqb, not-T, eqb-true, eqb·suc-zero, nonNeg}
+use Rattle.semantics.proofs.Prelude.{_≡_, refl, sym, ap, _∙_, subst, inl, inr, Bool, true, false, _||_, not, List, [], _∷_, _++_, map, append-assoc, ℕ, zero, suc, _-_, _*_, _≤_, _<_, mul-le-mul-right, arith, T, ltb, eqb, leb→le, le→leb, lt→ltb, eqb-refl, length, take, drop, replicate, length-append, length-map, length-replicate, take-at, drop-at, ℤ, pos, negsuc, natAbs, leZ, ne-eqb, not-T, eqb-true, eqb·suc-zero, nonNeg}
 use Rattle.semantics.specs.Lists.{In, some-of, each, all, all-of, all-pairs, pick}
 use Rattle.semantics.specs.Layout.{most-iterations, most-slots, top-word}
 use Rattle.semantics.specs.Chart.{Value, known, top, Var, Chart, eqZ, within, small}
-use Rattle.semantics.specs.Algorithm.{Verdict, Open, Safe, Alarm, Full, Exploration, allowed}
+use Rattle.semantics.specs.Algorithm.{Verdict, Open, Safe, Alarm, Full, Exploration}
 use Rattle.semantics.specs.Constants.{AbstractState, Covers, constants}
 use Rattle.semantics.specs.Coverage.{system}
 use Rattle.semantics.specs.Laws.{Fit}
@@ -11,29 +11,13 @@ use Rattle.semantics.specs.Tidy.{Every, Distinct, Tidy}
 use Rattle.semantics.specs.Encoding.{word, val, padded, var-ok}
 use Rattle.semantics.specs.Memory.{Memory, width, row, table-of, waitlist-of, analysis-of, state-in, states-in, load, value-ok, below, row-ok, rows-ok, each-once, zeros, is-alarm, empty-if-safe, capacity-ok, form-tests, analysis-ok}
 use Rattle.semantics.proofs.AtAndIn.{clash}
-use Rattle.semantics.proofs.ConstantValues.{and-left, and-right}
+use Rattle.semantics.proofs.Bools.{and-left, and-right, both-true, or-right}
 use Rattle.semantics.proofs.Covering.{Sound}
 use Rattle.semantics.proofs.ConstantsSound.{laws}
 use Rattle.semantics.proofs.Tidy.{queue-few}
 use Rattle.semantics.proofs.StatesOk.{ValOk, ValsOk, StateOk, Bounds}
 
 -- ---- tests
-
-pub to-true : (b : Bool) → T b → b ≡ true
-to-true true t = refl
-to-true false t = absurd t
-
-pub to-false : (b : Bool) → (T b → ⊥) → b ≡ false
-to-false true t = absurd (t tt)
-to-false false t = refl
-
-pub both-true : (a b : Bool) → T a → T b → T (a && b)
-both-true true b s t = t
-both-true false b s t = absurd s
-
-or-right : (a b : Bool) → T b → T (a || b)
-or-right true b t = tt
-or-right false b t = t
 
 pub eqZ-refl : (z : ℤ) → T (eqZ z z)
 eqZ-refl (pos n) = eqb-refl n

@@ -1,5 +1,6 @@
 -- The program's calls go through one after the other on the words that it lends: 14 and 15 never come up. Assumes nothing.
 use Rattle.semantics.proofs.Prelude.{_≡_, ap, true, false, List, [], _++_, ℕ, _*_, _≤_, mul-le-mul, arith, T, eqb, length, drop, length-append, length-drop, ℤ, pos, natAbs, le-ltb}
+use Rattle.semantics.proofs.Bools.{to-true}
 use Rattle.semantics.specs.Layout.{most-iterations, most-slots}
 use Rattle.semantics.specs.Chart.{Chart}
 use Rattle.semantics.specs.Reading.{accepted, read}
@@ -11,7 +12,7 @@ use Rattle.semantics.specs.Listing.{listing-text}
 use Rattle.semantics.specs.Outcomes.{fine, too-few, budget-ok, started, resumed, put-in, read-outcome, start-outcome, run-outcome, listing-outcome}
 use Rattle.semantics.specs.Program.{Go}
 use Rattle.semantics.proofs.StatesOk.{Bounds}
-use Rattle.semantics.proofs.MemoryOf.{to-true, counted, Good, table-length, list-length, load-back, formed-back}
+use Rattle.semantics.proofs.MemoryOf.{counted, Good, table-length, list-length, load-back, formed-back}
 use Rattle.semantics.proofs.Encoded.{encode-short, formed-bounds}
 use Rattle.semantics.proofs.ReadInBounds.{in-bounds}
 use Rattle.semantics.proofs.ListingShort.{listing-short}

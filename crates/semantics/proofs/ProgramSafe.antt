@@ -15,7 +15,7 @@ use Rattle.semantics.specs.Listing.{mode-text, order-text, verdict-text,
 use Rattle.semantics.specs.Rendering.{fields-text}
 use Rattle.semantics.specs.Program.{first-line, past-line, Go, go-line, explored, print-read, print-go, output}
 use Rattle.semantics.specs.ProgramSafe.{verdict-field, ChartSafe, ProgramSafe}
-use Rattle.semantics.proofs.ConstantValues.{and-left, and-right}
+use Rattle.semantics.proofs.Bools.{and-left, and-right}
 use Rattle.semantics.proofs.Covering.{covering}
 use Rattle.semantics.proofs.ConstantsSound.{laws}
 use Rattle.semantics.proofs.Numbers.{plain}

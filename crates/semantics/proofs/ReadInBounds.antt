@@ -7,8 +7,7 @@ use Rattle.semantics.specs.Chart.{Value, known, top, Var, Loc, Operand, 
 use Rattle.semantics.specs.Reading.{Reading, refused, accepted, Res, fail, ok, check, if-ok, small-or, below-or, location-field, target-field, operand-field, init-field, OpWord, do-set, do-add, do-sub, do-in, do-if, do-skip, So-far, nth, with-var, with-loc, with-edge, var-line, loc-line, op-fields-read, edge-line, judge, onward, judged, nothing-read, bad-byte-line, open-line, refused-at, read, number-field}
 use Rattle.semantics.specs.Encoding.{init-ok, var-ok, distinct-names, operand-ok, op-ok, edge-ok, chart-ok}
 use Rattle.semantics.proofs.AtAndIn.{clash}
-use Rattle.semantics.proofs.ConstantValues.{and-left, and-right}
-use Rattle.semantics.proofs.MemoryOf.{both-true}
+use Rattle.semantics.proofs.Bools.{and-left, and-right, both-true}
 
 -- ---- a check that did not refuse
 

@@ -8,8 +8,7 @@ use Rattle.semantics.specs.Reading.{ok, check, if-ok, location-field, ta
 use Rattle.semantics.specs.Encoding.{init-ok, var-ok, distinct-names, operand-ok, op-ok, edge-ok}
 use Rattle.semantics.specs.Rendering.{operand-text, var-fields, loc-fields, op-fields, edge-fields, vars-fields}
 use Rattle.semantics.specs.Listing.{val-text}
-use Rattle.semantics.proofs.ConstantValues.{and-left, and-right}
-use Rattle.semantics.proofs.MemoryOf.{to-true, both-true}
+use Rattle.semantics.proofs.Bools.{and-left, and-right, to-true, both-true}
 use Rattle.semantics.proofs.Numbers.{in-between, leads, natural-back, number-back}
 
 -- ---- one field

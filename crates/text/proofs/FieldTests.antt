@@ -1,13 +1,13 @@
 -- One field by its tests: a number below a count, `$k`, an operand, an initial value, a word. Assumes nothing.
-use Rattle.semantics.specs.Layout.{top-word}
-use Rattle.semantics.proofs.Prelude.{_≡_, refl, sym, ap, subst, _∙_, Bool, true, false, List, [], _∷_, Option, some, none, ℕ, _-_, _≤_, _<_, arith, T, length, getD, take, drop, ℤ, pos, negsuc, natAbs, ltZ, eq-eqb, ne-eqb, lt-ltb, le-ltb, ltb-true}
+use Rattle.semantics.proofs.Prelude.{_≡_, refl, sym, ap, subst, _∙_, Bool, true, false, List, [], _∷_, some, ℕ, _-_, _≤_, _<_, arith, T, length, getD, take, drop, ℤ, pos, negsuc, natAbs, ltZ, eq-eqb, ne-eqb, lt-ltb, le-ltb, ltb-true}
 use Rattle.semantics.specs.Lists.{pick}
-use Rattle.semantics.specs.Text.{bytes, same-bytes, natural-of, nonnegative, number-of}
-use Rattle.semantics.specs.Chart.{known, top, num, var, small, within}
+use Rattle.semantics.specs.Text.{bytes, same-bytes, natural-of, nonnegative}
+use Rattle.semantics.specs.Chart.{known, top, num, var, within}
 use Rattle.semantics.specs.Encoding.{val}
-use Rattle.semantics.specs.Reading.{Res, fail, ok, check, if-ok, small-or, below-or, number-field, target-field, operand-field, init-field}
+use Rattle.semantics.specs.Reading.{Res, fail, ok, check, if-ok, below-or, number-field, target-field, operand-field, init-field}
+use Rattle.semantics.proofs.MemoryOf.{small-not-top}
+use Rattle.semantics.proofs.ReadInBounds.{number-small}
 use Rattle.words.proofs.Rows.{tail}
-use Rattle.words.proofs.Words.{ne-eqZ}
 
 -- the field f is g, the answer r says what reading f says, and r is x
 pub field-said : {A R : Type 0} (read : List ℕ → A) (res : R → A) {f g : List ℕ} {r x : R} → f ≡ g → res r ≡ read f → r ≡ x → read g ≡ res x
@@ -65,25 +65,9 @@ module _ {A B : Type 0} {r : Res A} (f : A → Res B) where
 
 -- ---- an initial value
 
-not-both : (n : ℕ) (z : ℤ) → fail n ≡ ok z → ⊥
-not-both n z e = let q : _≡_ {A = ℕ} 0 1 = cc in omega arith
-
-small-of : (o : Option ℤ) (z : ℤ) → small-or o ≡ ok z → small z ≡ true
-unfolding check
-small-of none z e = absurd (not-both 6 z e)
-small-of (some y) z e = go (small y) refl e
-  where
-    go : (t : Bool) → small y ≡ t → check t 7 (ok y) ≡ ok z → small z ≡ true
-    go true s q = let p : y ≡ z = cc in ap small (sym p) ∙ s
-    go false s q = absurd (not-both 7 z q)
-
-small-not-top : (z : ℤ) → small z ≡ true → z ≡ top-word → ⊥
-small-not-top z s e = let t : small top-word ≡ true = ap small (sym e) ∙ s in subst T (sym t) tt
-
 -- a number that a field says is no word of top
 pub number-known : (l : List ℕ) (z : ℤ) → number-field l ≡ ok z → val z ≡ known z
-unfolding number-field
-number-known l z e = rw (ne-eqZ {a = z} {b = top-word} (small-not-top z (small-of (number-of l) z e)))
+number-known l z e = rw (small-not-top z (number-small l z e))
 
 -- `*` is top, and a number is to lie in the range
 module _ (lo hi : ℤ) (l : List ℕ) where

@@ -9,7 +9,7 @@ use Rattle.semantics.specs.Constants.{AbstractState, equal-value, leq-value, jo
 use Rattle.semantics.specs.Tidy.{Every}
 use Rattle.semantics.specs.Encoding.{word, encode, count, decode, op-ok, edge-ok, chart-ok, well-formed}
 use Rattle.semantics.specs.Memory.{row}
-use Rattle.semantics.proofs.ConstantValues.{and-left, and-right}
+use Rattle.semantics.proofs.Bools.{and-left, and-right}
 use Rattle.semantics.proofs.Tidy.{Keeps}
 use Rattle.semantics.proofs.StatesOk.{StateOk, join-ok, bounds, keeps, initial-ok}
 use Rattle.semantics.proofs.Encoded.{well-formed-split}

@@ -1,12 +1,12 @@
 -- The effect of an operation on a row's words is its effect on the values that they say. Assumes nothing.
-use Rattle.semantics.proofs.Prelude.{_≡_, refl, sym, ap, _∙_, Bool, true, false, _||_, List, [], _∷_, _++_, map, Option, none, some, ℕ, zero, suc, _+_, _<_, add-one, arith, T, ltb→lt, ℤ, pos, natAbs, _+ℤ_, _-ℤ_, length, getD, set, List·getD-map, leZ}
+use Rattle.semantics.proofs.Prelude.{_≡_, refl, sym, ap, _∙_, Bool, true, false, _||_, List, [], _∷_, _++_, map, Option, none, some, ℕ, zero, suc, _+_, _<_, add-one, arith, T, ltb→lt, ℤ, pos, natAbs, _+ℤ_, _-ℤ_, length, getD, set, List·getD-map}
 use Rattle.semantics.specs.Layout.{top-word, edge-size, operation-place, target-place, first-tag-place, first-value-place, second-tag-place, second-value-place, add-code, sub-code}
 use Rattle.semantics.specs.Lists.{pick, all}
-use Rattle.semantics.specs.Chart.{Value, known, top, Var, Operand, num, var, Rel, eq, ne, lt, le, gt, ge, Op, assign, add, sub, input, assume, skip, Chart, eqZ, small, holds, in-range}
+use Rattle.semantics.specs.Chart.{Value, known, top, Var, Operand, num, var, Rel, eq, ne, lt, le, gt, ge, Op, assign, add, sub, input, assume, skip, Chart, eqZ, holds, in-range}
 use Rattle.semantics.specs.Algorithm.{Step, halt, to}
 use Rattle.semantics.specs.Constants.{operand-value, both, assign-value, one-of, one-known, tested, effect}
 use Rattle.semantics.specs.Encoding.{word, word-at, tag, operand-word, rel-code, op-words, encode, count, var-ok, operand-ok, op-ok, chart-ok}
-use Rattle.semantics.proofs.ConstantValues.{and-left, and-right}
+use Rattle.semantics.proofs.Bools.{and-left, and-right}
 use Rattle.semantics.proofs.StatesOk.{ValOk, ValsOk}
 use Rattle.semantics.proofs.MemoryOf.{small-not-top, known-not-top}
 use Rattle.words.proofs.Words.{eqZ-true}

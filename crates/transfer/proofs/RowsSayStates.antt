@@ -2,7 +2,7 @@
 use Rattle.semantics.proofs.Prelude.{sym, subst, List, ℕ, zero, suc, T, ℤ, take, drop}
 use Rattle.semantics.specs.Chart.{Chart}
 use Rattle.semantics.specs.Memory.{width, state-in, states-in, row-ok, rows-ok}
-use Rattle.semantics.proofs.ConstantValues.{and-left, and-right}
+use Rattle.semantics.proofs.Bools.{and-left, and-right}
 use Rattle.semantics.proofs.MemoryInForm.{row-state, row-back}
 use Rattle.semantics.proofs.Simulate.{AllPairs}
 use Rattle.state.specs.declared.Layout.{Layout}

@@ -3,7 +3,7 @@ use Rattle.semantics.proofs.Prelude.{_≡_, true, List, _++_, append-nil, ℕ, 
 use Rattle.semantics.specs.Layout.{variable-size, variable-at, init-place}
 use Rattle.semantics.specs.Chart.{within}
 use Rattle.semantics.specs.Encoding.{word-at, count}
-use Rattle.semantics.proofs.ConstantValues.{left-true, right-true}
+use Rattle.semantics.proofs.Bools.{left-true, right-true}
 use Rattle.words.proofs.Words.{between-fits}
 use Rattle.state.specs.Rows.{head-size}
 use Rattle.transfer.specs.Transfer.{initial-words, initial-row}

@@ -2,9 +2,9 @@
 use Rattle.semantics.specs.Layout.{index-limit}
 use Rattle.semantics.proofs.Prelude.{_≡_, refl, sym, ap, subst, _∙_, Bool, true, false, cond, ℕ, zero, suc, _+_, _<_, _≤_, arith, lt-of-le-of-lt, zero-add, eqb, ltb, T, ℤ, pos, negsuc, natAbs, negℤ, _+ℤ_, _-ℤ_, nonNeg, mag, leZ, ltZ, Width, w32, w64, SFits, ofZ, toZ, toZ-ofZ, sfits-widen, sfits-lit, eq-eqb, ne-eqb, le-leb, leb-true, ltb-true}
 use Rattle.semantics.specs.Chart.{eqZ}
-use Rattle.semantics.proofs.AtAndIn.{from-true}
+use Rattle.semantics.proofs.Bools.{from-true, to-true}
 use Rattle.semantics.proofs.ConstantValues.{eqZ-same}
-use Rattle.semantics.proofs.MemoryOf.{to-true, eqZ-refl}
+use Rattle.semantics.proofs.MemoryOf.{eqZ-refl}
 
 -- the test for a sign
 pub from-zero : (z : ℤ) → leZ (pos 0) z ≡ nonNeg z

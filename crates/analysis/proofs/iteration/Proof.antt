@@ -29,6 +29,5 @@ iteration-spec =
     narrow
     (λ c. sym (row-length (c .before)))
     iteration-with-requires
-    (λ c. search needs)
-    (λ c. search needs)
+    (λ c. search needs) (λ c. search needs)
     (λ c. c .before .before .before .iteration-with .ensures))

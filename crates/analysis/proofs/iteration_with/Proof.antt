@@ -109,11 +109,9 @@ iteration-with-spec =
     (tie.spec
     (λ c κs. (c .before .before .before .before .before .pre .0 .kept .slots, c .before .before .before .before .before .pre .2))
     get-row-requires
-    (λ c. search needs)
-    (λ c κs. search needs)
+    (λ c. search needs) (λ c κs. search needs)
     visit-all-requires
     finish-requires
-    (λ c. search needs)
-    (λ c. search needs)
+    (λ c. search needs) (λ c. search needs)
     same-length-3
     returns)

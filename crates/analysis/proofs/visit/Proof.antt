@@ -47,21 +47,13 @@ visit-spec =
     tie.close
     (tie.spec
     (λ c κs. let s = c .before in (omega (arith, s .pre .0 .row, s .pre .0 .kept .wide), s .pre .1, s .pre .2))
-    (λ c. search needs)
-    (λ c κs. search needs)
-    (λ c. search needs)
-    (λ c κs. search needs)
-    (λ c. search needs)
-    (λ c κs. search needs)
-    (λ c κs. search needs)
-    (λ c. search needs)
+    (λ c. search needs) (λ c κs. search needs) (λ c. search needs) (λ c κs. search needs) (λ c. search needs)
+    (λ c κs. search needs) (λ c κs. search needs) (λ c. search needs)
     returns
     arrive-requires
     (λ c. search needs)
     (λ c. let d = c .before .before .before .before in rw (c .went-on .ensures) (record { out = rw (moved d Halt (c .before .enum-told .given .1)); kept = start d .pre .0 .kept }))
     (λ c. search needs)
     (λ c. let d = c .before .before .before .before in rw (c .alarm-by .ensures) (record { out = rw (moved d Fault (c .before .enum-told2 .given .1)); kept = start d .pre .0 .kept }))
-    (λ c. search needs)
-    (λ c. search needs)
-    (λ c. search needs)
+    (λ c. search needs) (λ c. search needs) (λ c. search needs)
     returns-4)

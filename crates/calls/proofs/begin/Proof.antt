@@ -20,6 +20,5 @@ begin-spec =
     (λ c. narrow (c .before .before))
     (λ c. sym (row-length (c .before .before .before)))
     (λ c κs. let w = c .before .before .before in (w .before .pre .0, row-length w ∙ w .width .ensures))
-    (λ c. search needs)
-    (λ c. search needs)
+    (λ c. search needs) (λ c. search needs)
     (λ c. c .before .before .before .begin-with .ensures))

@@ -25,7 +25,5 @@ begin-with-spec =
     (tie.spec
     (λ c κs. let s = c .before in s .pre .1 ∙ ap width-of (s .pre .0 .layout))
     start-core-requires
-    (λ c. search needs)
-    (λ c. search needs)
-    (λ c. search needs)
+    (λ c. search needs) (λ c. search needs) (λ c. search needs)
     returns)

@@ -50,15 +50,12 @@ pub run-through-spec : {M : Type 1} → statement M
 run-through-spec =
     tie.close
     (tie.spec
-    (λ c κs. search needs)
-    (λ c κs. search needs)
-    (λ c. search needs)
+    (λ c κs. search needs) (λ c κs. search needs) (λ c. search needs)
     (λ c. let g = c .before .before in omega (arith, words-fit (now (start g .args .chart)) (start g .pre .chart) (g .before .layout-of .result) (laid g) (start g .args .a .capacity) (omega arith)))
     (λ c. fits (c .before .before))
     (λ c. let g = c .before .before .before in sym (length-take-le _ (now (start g .args .table)) (fits g)))
     (λ c. start (c .before .before .before) .pre .list)
     (λ c. let s = start (c .before .before .before .before) in sym (length-take-le _ (now (s .args .list)) (s .pre .list)))
     run-core-requires
-    (λ c. search needs)
-    (λ c. search needs)
+    (λ c. search needs) (λ c. search needs)
     returns)

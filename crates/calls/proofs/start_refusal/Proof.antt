@@ -2,7 +2,7 @@
 use Rattle.semantics.proofs.Prelude.{_≡_, refl, sym, ap, _∙_, true, arith, needs, not-true, not-false, w32, toZ-ofZ}
 use Rattle.semantics.specs.Algorithm.{allowed}
 use Rattle.semantics.specs.Memory.{capacity-ok}
-use Rattle.semantics.proofs.AtAndIn.{from-true}
+use Rattle.semantics.proofs.Bools.{from-true}
 use Rattle.semantics.proofs.MemoryOf.{counted}
 use Rattle.calls.proofs.start_refusal.Statement.{statement}
 use Rattle.calls.proofs.start_refusal.Tie as tie

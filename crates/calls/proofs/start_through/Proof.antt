@@ -51,6 +51,5 @@ start-through-spec =
     (λ c. search needs)
     (λ c. let s = c .before .before .before .before in sym (length-take-le _ (now (s .args .list)) (s .pre .5)))
     begin-requires
-    (λ c. search needs)
-    (λ c. search needs)
+    (λ c. search needs) (λ c. search needs)
     returns)

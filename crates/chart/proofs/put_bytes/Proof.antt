@@ -29,8 +29,8 @@ put-bytes-spec =
     Inv-loop
     μ-loop
     (λ c. (omega arith, omega arith, refl))
-    (λ c. search needs) (λ c κs. search needs)
-    (λ c. search needs) (λ c. search needs) (λ c. search needs) (λ c. search needs)
+    (λ c. search needs) (λ c κs. search needs) (λ c. search needs) (λ c. search needs) (λ c. search needs)
+    (λ c. search needs)
     loop-again
     (λ c. search needs)
     returns)

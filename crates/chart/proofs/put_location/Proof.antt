@@ -36,9 +36,8 @@ pub put-location-spec : {M : Type 1} → statement M
 put-location-spec =
     tie.close
     (tie.spec
-    (λ c κs. search needs)
-    (λ c. search needs) (λ c. search needs) (λ c. search needs) (λ c. search needs) (λ c. search needs)
-    (λ c κs. search needs)
+    (λ c κs. search needs) (λ c. search needs) (λ c. search needs) (λ c. search needs) (λ c. search needs)
+    (λ c. search needs) (λ c κs. search needs)
     slice-aggregate-put-row
     put-row-requires
     (λ c. search needs)

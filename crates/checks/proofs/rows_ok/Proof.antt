@@ -96,7 +96,6 @@ rows-ok-spec =
     row-ok-requires
     returns
     (λ c. omega (arith, next (c .before .before .before)))
-    (λ c. search needs)
-    (λ c. search needs)
+    (λ c. search needs) (λ c. search needs)
     loop-again
     returns-2)

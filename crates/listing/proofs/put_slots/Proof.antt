@@ -119,8 +119,7 @@ put-slots-spec =
     μ-loop
     (λ c κs. search needs)
     (λ c κs. c .layout-of .ensures .1)
-    (λ c. search needs)
-    (λ c κs. search needs)
+    (λ c. search needs) (λ c κs. search needs)
     loop-holds
     (λ c. omega (arith, room c))
     (λ c. search needs)
@@ -130,8 +129,7 @@ put-slots-spec =
     (λ c. room (c .before))
     put-slot-requires
     (λ c. omega (arith, next (c .before .before .before .before .before)))
-    (λ c. search needs)
-    (λ c. search needs)
+    (λ c. search needs) (λ c. search needs)
     loop-again
     (λ c. search needs)
     returns)

@@ -31,11 +31,7 @@ put-values-spec =
     Inv-loop
     μ-loop
     (λ c. (omega arith, refl, λ _ _ p. p))
-    (λ c. search needs)
-    (λ c. search needs)
-    (λ c κs. search needs)
-    (λ c. search needs)
-    (λ c. search needs)
+    (λ c. search needs) (λ c. search needs) (λ c κs. search needs) (λ c. search needs) (λ c. search needs)
     loop-again
     (λ c. search needs)
     returns)

@@ -23,8 +23,6 @@ pub leq-row-spec : {M : Type 1} → statement M
 leq-row-spec =
     tie.close
     (tie.spec
-    (λ c. search needs)
-    (λ c. search needs)
-    (λ c κs. search needs)
+    (λ c. search needs) (λ c. search needs) (λ c κs. search needs)
     returns
     returns-2)

@@ -1,6 +1,6 @@
 -- `streams::is_to_repeat` meets its contract. Assumes nothing.
 use Rattle.semantics.proofs.Prelude.{sym, _∙_, arith, ltb-true, needs, pos, ltZ, w64, toZ, ofZ, toZ-ofZ}
-use Rattle.semantics.proofs.ConstantValues.{left-true}
+use Rattle.semantics.proofs.Bools.{left-true}
 use Rattle.streams.proofs.is_to_repeat.Statement.{statement}
 use Rattle.streams.proofs.is_to_repeat.Tie as tie
 

@@ -56,10 +56,7 @@ read-all-spec =
     Inv-loop
     μ-loop
     loop-holds
-    (λ c. search needs)
-    (λ c. search needs)
-    (λ c. search needs)
-    (λ c κs. search needs)
+    (λ c. search needs) (λ c. search needs) (λ c. search needs) (λ c κs. search needs)
     (λ c. (moved-some c .sign, moved-some c .fits))
     (λ c. record { fits = omega (arith, moved-some c .within) })
     loop-less

@@ -36,10 +36,7 @@ write-all-spec =
     Inv-loop
     μ-loop
     loop-holds
-    (λ c. search needs)
-    (λ c. search needs)
-    (λ c. search needs)
-    (λ c κs. search needs)
+    (λ c. search needs) (λ c. search needs) (λ c. search needs) (λ c κs. search needs)
     (λ c. (moved-some c .sign, moved-some c .fits))
     (λ c. record { fits = omega (arith, moved-some c .within) })
     (λ c. omega (arith, moved-some c .some, moved-some c .within))

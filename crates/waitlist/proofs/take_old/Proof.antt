@@ -26,8 +26,7 @@ pub take-old-spec : {M : Type 1} → statement M
 take-old-spec =
     tie.close
     (tie.spec
-    (λ c κs. search needs)
-    (λ c. search needs)
+    (λ c κs. search needs) (λ c. search needs)
     slice-aggregate-shift-down
     shift-down-requires
     (λ c. search needs)

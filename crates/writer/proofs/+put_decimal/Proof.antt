@@ -49,12 +49,8 @@ returns-2 t c =
 pub +put-decimal-spec : {M : Type 1} → statement M
 +put-decimal-spec =
     close μ λ t. put-decimal-lts.spec (cited t) (here t) put-decimal.Post
-    (λ c κs. search needs)
-    (λ c κs. search needs)
-    (λ c. search needs)
+    (λ c κs. search needs) (λ c κs. search needs) (λ c. search needs)
     (returns t)
     (put-decimal-requires t)
-    (λ c κs. search needs)
-    (λ c κs. search needs)
-    (λ c. search needs)
+    (λ c κs. search needs) (λ c κs. search needs) (λ c. search needs)
     (returns-2 t)

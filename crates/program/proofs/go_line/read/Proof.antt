@@ -85,9 +85,6 @@ read-spec =
     returns-2
     returns-3
     (λ c. part-long (c .before .before .before .before .before .before))
-    (λ c κs. search needs)
-    (λ c. search needs)
-    (λ c. search needs)
-    (λ c. search needs)
+    (λ c κs. search needs) (λ c. search needs) (λ c. search needs) (λ c. search needs)
     returns-4
     returns-5)

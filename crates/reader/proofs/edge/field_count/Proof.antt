@@ -20,8 +20,8 @@ pub field-count-spec : {M : Type 1} → statement M
 field-count-spec =
     tie.close
     (tie.spec
-    (λ c. search needs) (λ c. search needs) (λ c. search needs)
-    (λ c. search needs) (λ c. search needs) (λ c. search needs)
+    (λ c. search needs) (λ c. search needs) (λ c. search needs) (λ c. search needs) (λ c. search needs)
+    (λ c. search needs)
     (λ c. rw (c .enum-told .given .1))
     (λ c. rw (c .before .before .before .w .given .1, c .enum-told2 .given .1))
     returns-3
