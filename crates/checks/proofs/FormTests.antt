@@ -9,7 +9,8 @@ use Rattle.semantics.specs.declared.Analysis.{Analysis}
 use Rattle.semantics.specs.Memory.{Memory, value-ok, below, width, row-ok, rows-ok, each-once, lent-tests, record-tests, analysis-ok}
 use Rattle.semantics.specs.Outcomes.{too-few}
 use Rattle.semantics.proofs.Decoded.{vars-count, locs-count, edges-count}
-use Rattle.semantics.proofs.FirstCase as first
+use Rattle.semantics.proofs.Bools.{passed}
+use Rattle.semantics.proofs.FirstCase.{enough}
 use Rattle.chart.proofs.Rows.{interchange}
 use Rattle.state.specs.Rows.{location-word, values-of}
 use Rattle.checks.specs.Form.{lent, InForm}
@@ -63,5 +64,5 @@ both-parts ws t l a =
 -- none of 20, 14 and 21 holds
 pub in-form : (words : List ℤ) (m : Memory) → not (well-formed words) ≡ false → too-few (decode words) (m .analysis .capacity) (length (m .table)) (length (m .waitlist)) ≡ false → not (analysis-ok (decode words) m) ≡ false → InForm words m
 in-form words m p q r =
-    let h = first.enough (decode words) (m .analysis .capacity) (length (m .table)) (length (m .waitlist)) q in
-    record { chart = first.passed (well-formed words) p; table = h .0; list = h .1; analysis = first.passed (analysis-ok (decode words) m) r }
+    let h = enough (decode words) (m .analysis .capacity) (length (m .table)) (length (m .waitlist)) q in
+    record { chart = passed (well-formed words) p; table = h .0; list = h .1; analysis = passed (analysis-ok (decode words) m) r }

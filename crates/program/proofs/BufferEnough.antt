@@ -1,11 +1,12 @@
 -- What a buffer of 32,833 bytes holds of an input is as much of it as matters. Assumes nothing.
 use Rattle.semantics.proofs.Prelude.{_≡_, refl, sym, ap, _∙_, List, [], _++_, append-nil, ℕ, _≤_, _<_, min, arith, length, take, length-append, take-all, take-append-le}
 use native.Mathlib.Decide.{decLt}
+use Rattle.semantics.specs.Layout.{input-bytes}
 use Rattle.semantics.specs.Program.{output}
 use Rattle.semantics.proofs.InputCut.{cut-same}
 use Rattle.program.specs.Responded.{Buffered, Printed}
 
-pub enough : (input buffer : List ℕ) (count : ℕ) → length buffer ≡ 32833 → Buffered input buffer count → output input ≡ output (take (min count (length buffer)) buffer)
+pub enough : (input buffer : List ℕ) (count : ℕ) → length buffer ≡ input-bytes → Buffered input buffer count → output input ≡ output (take (min count (length buffer)) buffer)
 enough input buffer count l b = go (decLt count (length buffer))
   where
     go : Dec (count < length buffer) → output input ≡ output (take (min count (length buffer)) buffer)
@@ -13,10 +14,10 @@ enough input buffer count l b = go (decLt count (length buffer))
         let n : min count (length buffer) ≡ count = omega (arith, h) in
         ap output (b .is ∙ ap (λ (xs : List ℕ). take count buffer ++ xs) (b .ends h) ∙ append-nil (take count buffer) ∙ ap (λ (k : ℕ). take k buffer) (sym n))
     go (no h) =
-        let n : min count (length buffer) ≡ 32833 = omega (arith, l, h) in
+        let n : min count (length buffer) ≡ input-bytes = omega (arith, l, h) in
         let full : input ≡ buffer ++ b .rest = b .is ∙ ap (λ (xs : List ℕ). xs ++ b .rest) (take-all count buffer (omega (arith, h))) in
         sym (cut-same input)
-        ∙ ap output (ap (take 32833) full ∙ take-append-le 32833 buffer (b .rest) (omega (arith, l)) ∙ ap (λ (k : ℕ). take k buffer) (sym n))
+        ∙ ap output (ap (take input-bytes) full ∙ take-append-le input-bytes buffer (b .rest) (omega (arith, l)) ∙ ap (λ (k : ℕ). take k buffer) (sym n))
 
 -- some input was read so, hence the answer counts bytes lent
 pub printed-within : {buffer out out′ : List ℕ} {count r : ℕ} → ((input : List ℕ) → Buffered input buffer count → Printed (output input) out out′ r) → r ≤ length out′

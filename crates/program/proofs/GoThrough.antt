@@ -1,6 +1,6 @@
 -- The start, the run and the listing go through, and the memory is what was explored. Assumes nothing.
 use Rattle.semantics.proofs.Prelude.{_≡_, sym, ap, _∙_, true, false, List, ℕ, T, ℤ, natAbs, length}
-use Rattle.semantics.specs.Layout.{most-slots}
+use Rattle.semantics.specs.Layout.{most-slots, listing-bytes, table-words}
 use Rattle.semantics.specs.Chart.{Chart}
 use Rattle.semantics.specs.Algorithm.{Exploration, has-verdict}
 use Rattle.semantics.specs.Constants.{AbstractState, initial}
@@ -42,7 +42,7 @@ module _ (words : List ℤ) (formed : T (well-formed words)) (go : Go) (asked : 
   first-good : Good chart first
   first-good = started-good chart inside (go .settings) (go .capacity) (fine .capacity) (fine .modes)
 
-  pub begun : (m : Memory) → length (m .table) ≡ 2304 → length (m .waitlist) ≡ most-slots → {r : Called} {t l : List ℤ}
+  pub begun : (m : Memory) → length (m .table) ≡ table-words → length (m .waitlist) ≡ most-slots → {r : Called} {t l : List ℤ}
       → Ends-called (start-outcome words (go .settings) (go .capacity) m) r t l → PutIn chart first (lent t l (r .analysis))
   begun m a b e = record { over = m; table = a; list = b; same = ends-at e (put-in chart first m) (ap (λ (o : Outcome). o .memory) (start-goes words formed (asking go) fine m a b)) }
 
@@ -65,7 +65,7 @@ module _ (words : List ℤ) (formed : T (well-formed words)) (go : Go) (asked : 
         same = ends-at e _ (ap (λ (x : Memory). run-outcome words (go .budget) x .memory) (h .same) ∙ ap (λ (x : Outcome). x .memory) o);
       })
 
-  pub shown : (m : Memory) → PutIn chart (explored chart (asking go)) m → (space space′ : List ℕ) (r : ℕ) → length space ≡ 24576
+  pub shown : (m : Memory) → PutIn chart (explored chart (asking go)) m → (space space′ : List ℕ) (r : ℕ) → length space ≡ listing-bytes
       → r ≡ listing-outcome words m space .answer .length → space′ ≡ listing-outcome words m space .space
       → Printed (listing-text chart (explored chart (asking go))) space space′ r
   shown m h space space′ r n p q =

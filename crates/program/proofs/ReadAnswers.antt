@@ -1,6 +1,7 @@
--- What reading answers, into 3,163 words: its refusal, or the words of the chart that it accepted; a text put at the
+-- What reading answers, into the words of the largest chart: its refusal, or the words of the chart that it accepted; a text put at the
 -- front of bytes that hold it; and the output by the go line. Assumes nothing.
 use Rattle.semantics.proofs.Prelude.{_≡_, refl, sym, ap, _∙_, List, _++_, ℕ, _-_, _≤_, zero-add, arith, T, leb, leb→le, ℤ, length, take, drop}
+use Rattle.semantics.specs.Layout.{chart-size}
 use Rattle.semantics.specs.Listing.{refused-text}
 use Rattle.semantics.specs.Program.{go-line, past-line, print-read, output}
 use Rattle.semantics.specs.Reading.{fail, Reading, refused, accepted, read}
@@ -18,7 +19,7 @@ use Rattle.program.specs.declared.go_line.Go.{Go}
 use Rattle.program.specs.Asked.{asking, Asks}
 use Rattle.program.specs.Responded.{Printed}
 
-module _ (text : List ℕ) (ws ws′ : List ℤ) (r : Answer) (long : length ws ≡ 3163) (a : r ≡ read-outcome text ws .answer) (w : ws′ ≡ read-outcome text ws .words) where
+module _ (text : List ℕ) (ws ws′ : List ℤ) (r : Answer) (long : length ws ≡ chart-size) (a : r ≡ read-outcome text ws .answer) (w : ws′ ≡ read-outcome text ws .words) where
   pub read-refused : (r .number ≡ 0 → ⊥) → read text ≡ refused (r .number) (r .line)
   unfolding read-outcome
   read-refused h = go (read text) refl

@@ -5,7 +5,7 @@ use Prim.Native.Nat.{ℕ, _<_}
 use lib.Dec.{T}
 use lib.IntN.{ℤ}
 use lib.ListN.{length, take, drop}
-use Rattle.semantics.specs.Layout.{most-slots}
+use Rattle.semantics.specs.Layout.{most-slots, table-words}
 use Rattle.semantics.specs.Chart.{Chart}
 use Rattle.semantics.specs.Reading.{ok}
 use Rattle.semantics.specs.Algorithm.{Exploration}
@@ -32,13 +32,13 @@ pub record Accepted (g : Go) : Type 0 where
 -- the words of an accepted chart, and the words that the program lends: "It lends enough, so 14 and 15 never appear"
 pub record Lends (ws t l : List ℤ) : Type 0 where
   pub formed : T (well-formed ws)
-  pub table : length t ≡ 2304
+  pub table : length t ≡ table-words
   pub list : length l ≡ most-slots
 
 -- the memory is the exploration, put into words lent
 pub record PutIn (c : Chart) (w : Exploration AbstractState) (m : Memory) : Type 0 where
   pub over : Memory
-  pub table : length (over .table) ≡ 2304
+  pub table : length (over .table) ≡ table-words
   pub list : length (over .waitlist) ≡ most-slots
   pub same : m ≡ put-in c w over
 

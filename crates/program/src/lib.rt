@@ -10,6 +10,7 @@ ghost use mathlib.Core.List.{List, _++_};
 ghost use Prim.Native.Nat.{ℕ, min};
 ghost use lib.Dec.{T};
 ghost use lib.ListN.{length, drop};
+ghost use Rattle.semantics.specs.Layout.{listing-bytes};
 ghost use Rattle.semantics.specs.Encoding.{decode, well-formed};
 ghost use Rattle.semantics.specs.Listing.{listing-text, refused-text};
 ghost use Rattle.semantics.specs.Reading.{read};
@@ -87,7 +88,7 @@ fn explore(chart: &[i32], go: Go, table: &mut [i32], list: &mut [i32]) -> Analys
 
 // The listing of an accepted chart.
 fn put_listing(chart: &[i32], go: Go, out: &mut [u8]) -> usize
-    requires { ⌜ T (well-formed (now chart)) × (length (now out) ≡ 24576) × Accepted go ⌝ }
+    requires { ⌜ T (well-formed (now chart)) × (length (now out) ≡ listing-bytes) × Accepted go ⌝ }
     ensures { λ r. ⌜ Printed (listing-text (decode (now (chart .entry))) (explored (decode (now (chart .entry))) (asking go))) (now (out .entry)) (now (out .exit)) r ⌝ }
 {
     let mut table = [0i32; TABLE_SIZE];
@@ -99,7 +100,7 @@ fn put_listing(chart: &[i32], go: Go, out: &mut [u8]) -> usize
 
 // The chart's refusal, or its listing.
 fn put_answer(chart: &[u8], go: Go, out: &mut [u8]) -> usize
-    requires { ⌜ (length (now out) ≡ 24576) × Accepted go ⌝ }
+    requires { ⌜ (length (now out) ≡ listing-bytes) × Accepted go ⌝ }
     ensures { λ r. ⌜ Printed (print-read (asking go) (read (now (chart .entry)))) (now (out .entry)) (now (out .exit)) r ⌝ }
 {
     let mut words = [0i32; CHART_SIZE];

@@ -1,7 +1,7 @@
 -- The program's input: what an accepted go line says, and how much of the input matters. Assumes nothing.
 use Rattle.semantics.proofs.Prelude.{_≡_, refl, sym, ap, _∙_, subst, Bool, true, false, _||_, List, [], _∷_, _++_, ℕ, zero, suc, _+_, _≤_, _<_, arith, T, eqb, length, take, drop, take-append-drop, length-append, take-all, take-append-le, length-take-le, lt-ltb, decLe}
 use Rattle.semantics.specs.Lists.{pick}
-use Rattle.semantics.specs.Layout.{most-bytes}
+use Rattle.semantics.specs.Layout.{most-bytes, input-bytes}
 use Rattle.semantics.specs.Reading.{Res, fail, ok, check, refused, read}
 use Rattle.semantics.specs.Program.{has-lf, first-line, past-line, Go, go-line, print-read, print-go, output}
 use Rattle.semantics.proofs.Bools.{from-true, to-true}
@@ -78,7 +78,7 @@ same-print : (r : Res Go) (x y : List ℕ) → read x ≡ read y → print-go r 
 same-print (fail n) x y e = refl
 same-print (ok g) x y e = ap (print-read g) e
 
-cut : (p q : List ℕ) → length p ≡ 32833 → output p ≡ output (p ++ q)
+cut : (p q : List ℕ) → length p ≡ input-bytes → output p ≡ output (p ++ q)
 unfolding output
 cut p q l = go (has-lf (take 64 p)) refl
   where
@@ -95,9 +95,9 @@ cut p q l = go (has-lf (take 64 p)) refl
         (same-print (go-line p) (past-line p) (past-line p ++ q) (too-long (past-line p) (omega (arith, h .1)) ∙ sym (too-long (past-line p ++ q) (omega (arith, h .1, length-append (past-line p) q)))))
 
 -- what stands past them changes nothing: the program need not read it
-pub cut-same : (input : List ℕ) → output (take 32833 input) ≡ output input
-cut-same input = go (decLe (length input) 32833)
+pub cut-same : (input : List ℕ) → output (take input-bytes input) ≡ output input
+cut-same input = go (decLe (length input) input-bytes)
   where
-    go : Dec (length input ≤ 32833) → output (take 32833 input) ≡ output input
-    go (yes h) = ap output (take-all 32833 input h)
-    go (no h) = cut (take 32833 input) (drop 32833 input) (length-take-le 32833 input (omega arith)) ∙ ap output (take-append-drop 32833 input)
+    go : Dec (length input ≤ input-bytes) → output (take input-bytes input) ≡ output input
+    go (yes h) = ap output (take-all input-bytes input h)
+    go (no h) = cut (take input-bytes input) (drop input-bytes input) (length-take-le input-bytes input (omega arith)) ∙ ap output (take-append-drop input-bytes input)

@@ -2,7 +2,7 @@
 -- Assumes nothing.
 use Rattle.semantics.proofs.Prelude.{_≡_, Bool, true, false, List, [], _∷_, _++_, map, ℕ, zero, suc, _+_, _*_, _≤_, arith, T, eqb, leb→le, le→leb, length, length-append, ℤ, pos, negsuc, leZ}
 use Rattle.semantics.specs.Lists.{some-of, all}
-use Rattle.semantics.specs.Layout.{most-iterations, most-slots, name-size}
+use Rattle.semantics.specs.Layout.{most-iterations, most-slots, name-size, listing-bytes}
 use Rattle.semantics.specs.Text.{bytes, decimal, line-of, name-ok}
 use Rattle.semantics.specs.Chart.{Value, known, top, Var, Loc, Chart}
 use Rattle.semantics.specs.Algorithm.{Mode, Sep, Order, Old, New, Verdict, Open, Safe, Alarm, Full, Exploration, Join}
@@ -95,7 +95,7 @@ module _ (c : Chart) (b : Bounds c) where
   slots-short wa s (e ∷ es) l h = omega (arith, length-append (slot-text c s e (some-of (eqb s) wa)) (slots-text c wa (suc s) es), slot-short s e (some-of (eqb s) wa) (omega arith) (h .0), slots-short wa (suc s) es (omega arith) (h .1))
 
   listing-fits : (w : Exploration AbstractState) → length (w .reached) ≤ most-slots → w .iterations ≤ most-iterations → w .edge ≤ length (c .edges) → Every (StateOk c) (w .reached)
-      → length (listing-text c w) ≤ 24576
+      → length (listing-text c w) ≤ listing-bytes
   unfolding listing-text
   listing-fits w n i e every =
       let fs = mode-text (w .settings .stop) ∷ order-text (w .settings .order) ∷ verdict-text (w .verdict) ∷ decimal (w .iterations) ∷ decimal (length (w .reached)) ∷ decimal (w .edge) ∷ [] in
@@ -117,11 +117,11 @@ module _ (c : Chart) (b : Bounds c) where
       iterations-short : length (decimal (w .iterations)) ≤ 5
       iterations-short = omega (arith, digits-few 4 (w .iterations) (w .iterations) [] (omega (arith, i)))
 
-  pub listing-short : (w : Exploration AbstractState) → Good c w → length (listing-text c w) ≤ 24576
+  pub listing-short : (w : Exploration AbstractState) → Good c w → length (listing-text c w) ≤ listing-bytes
   listing-short w g = listing-fits w (omega (arith, g .tidy .within, counted (pos (w .capacity)) (g .capacity) .few)) (g .iterations) (g .tidy .edge-in) (g .tidy .every)
 
   -- and of any analysis in form, whoever made it
-  pub text-short : (m : Memory) → T (analysis-ok c m) → length (text-of c m) ≤ 24576
+  pub text-short : (m : Memory) → T (analysis-ok c m) → length (text-of c m) ≤ listing-bytes
   unfolding load
   text-short m t =
       let r = m .analysis in

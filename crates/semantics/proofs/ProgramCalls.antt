@@ -1,7 +1,7 @@
 -- The program's calls go through one after the other on the words that it lends: 14 and 15 never come up. Assumes nothing.
 use Rattle.semantics.proofs.Prelude.{_≡_, ap, true, false, List, [], _++_, ℕ, _*_, _≤_, mul-le-mul, arith, T, eqb, length, drop, length-append, length-drop, ℤ, pos, natAbs, le-ltb}
 use Rattle.semantics.proofs.Bools.{to-true}
-use Rattle.semantics.specs.Layout.{most-iterations, most-slots}
+use Rattle.semantics.specs.Layout.{most-iterations, most-slots, chart-size, listing-bytes, table-words}
 use Rattle.semantics.specs.Chart.{Chart}
 use Rattle.semantics.specs.Reading.{accepted, read}
 use Rattle.semantics.specs.Algorithm.{Exploration, allowed, has-verdict}
@@ -19,7 +19,7 @@ use Rattle.semantics.proofs.ListingShort.{listing-short}
 use Rattle.semantics.proofs.Program.{GoOk, never-too-few}
 
 -- 3,163 words hold every chart
-pub read-goes : (text : List ℕ) (c : Chart) → read text ≡ accepted c → (ws : List ℤ) → length ws ≡ 3163
+pub read-goes : (text : List ℕ) (c : Chart) → read text ≡ accepted c → (ws : List ℤ) → length ws ≡ chart-size
     → read-outcome text ws ≡ record { answer = fine 0; words = encode c ++ drop (length (encode c)) ws }
 unfolding read-outcome
 read-goes text c e ws l =
@@ -32,21 +32,21 @@ module _ (words : List ℤ) (formed : T (well-formed words)) where
   b : Bounds chart
   b = formed-bounds words formed
 
-  pub start-goes : (g : Go) → GoOk g → (m : Memory) → length (m .table) ≡ 2304 → length (m .waitlist) ≡ most-slots
+  pub start-goes : (g : Go) → GoOk g → (m : Memory) → length (m .table) ≡ table-words → length (m .waitlist) ≡ most-slots
       → start-outcome words (g .settings) (g .capacity) m ≡ record { answer = fine 0; memory = put-in chart (started chart (g .settings) (g .capacity)) m; space = [] }
   unfolding start-outcome
   start-goes g h m t l =
       rw (to-true (capacity-ok (g .capacity)) (h .capacity), to-true (allowed (g .settings .merge) (g .settings .stop)) (h .modes), to-true (well-formed words) formed, never-too-few chart b (natAbs (g .capacity)) (length (m .table)) (length (m .waitlist)) (counted (g .capacity) (h .capacity) .few) (omega arith) (omega arith))
 
   -- on words that hold an exploration, over any others
-  module _ (w : Exploration AbstractState) (good : Good chart w) (m : Memory) (t : length (m .table) ≡ 2304) (l : length (m .waitlist) ≡ most-slots) where
+  module _ (w : Exploration AbstractState) (good : Good chart w) (m : Memory) (t : length (m .table) ≡ table-words) (l : length (m .waitlist) ≡ most-slots) where
     abbrev held : Memory
     held = put-in chart w m
 
     few : w .capacity ≤ most-slots
     few = counted (pos (w .capacity)) (good .capacity) .few
 
-    pub held-table : length (held .table) ≡ 2304
+    pub held-table : length (held .table) ≡ table-words
     held-table =
         let k : width chart ≤ 9 = omega (arith, b .few-vars) in
         let n : w .capacity * width chart ≤ most-slots * 9 = mul-le-mul few k in
@@ -71,7 +71,7 @@ module _ (words : List ℤ) (formed : T (well-formed words)) where
         let n : eqb (w .iterations) most-iterations ≡ false = ap (λ (k : ℕ). eqb k most-iterations) z in
         rw (to-true (budget-ok a) p, to-true (well-formed words) formed, enough, in-form, v, n, loaded)
 
-    pub listing-goes : (sp : List ℕ) → length sp ≡ 24576
+    pub listing-goes : (sp : List ℕ) → length sp ≡ listing-bytes
         → let text = listing-text chart w in listing-outcome words held sp ≡ record { answer = fine (length text); memory = held; space = text ++ drop (length text) sp }
     unfolding listing-outcome
     listing-goes sp s =

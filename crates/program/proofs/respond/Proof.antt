@@ -1,5 +1,6 @@
 -- `program::respond` meets its contract. Assumes nothing.
 use Rattle.semantics.proofs.Prelude.{_≡_, subst, arith, needs, now, length}
+use Rattle.semantics.specs.Layout.{listing-bytes}
 use Rattle.semantics.proofs.OutputShort.{output-short}
 use Rattle.program.specs.declared.go_line.GoLine.{GoLine}
 use Rattle.program.specs.Asked.{Asks, GoRead}
@@ -28,7 +29,7 @@ returns c =
     let s = m .before .before .before .before in
     let input = now (s .args .input) in
     let e = refused-output input (subst (λ (x : GoLine). GoRead input x) (m .n .given .1) (m .before .before .read .ensures)) in
-    let h : length (now (s .args .out)) ≡ 24576 = search needs in
+    let h : length (now (s .args .out)) ≡ listing-bytes = search needs in
     printed-is e (put-printed (c .put-refusal .ensures) (omega (arith, h, rw e at (output-short input))))
 
 returns-2 : tie.Need-returns-2

@@ -1,5 +1,6 @@
 -- `program::respond_to` meets its contract. Assumes nothing.
 use Rattle.semantics.proofs.Prelude.{_≡_, sym, arith, needs, now, length, take, length-take-le}
+use Rattle.semantics.specs.Layout.{input-bytes}
 use Rattle.semantics.specs.Program.{output}
 use Rattle.program.proofs.BufferEnough.{enough}
 use Rattle.program.proofs.respond_to.Statement.{statement}
@@ -14,7 +15,7 @@ returns : tie.Need-returns
 returns c input b =
     let s = c .before .before .before .before .before in
     let buffer = now (s .args .buffer) in
-    let h : length buffer ≡ 32833 = search needs in
+    let h : length buffer ≡ input-bytes = search needs in
     let n = c .before .before .before .least .ensures in
     let e : output input ≡ output (take (c .before .before .before .least .result) buffer) = rw n (enough input buffer (s .args .count) h b) in
     rw e (record { long = c .respond .ensures .0; bytes = c .respond .ensures .1 })
