@@ -1,6 +1,5 @@
 -- What a buffer of 32,833 bytes holds of an input is as much of it as matters. Assumes nothing.
-use Rattle.semantics.proofs.Prelude.{_≡_, refl, sym, ap, _∙_, List, [], _++_, append-nil, ℕ, _≤_, _<_, min, arith, length, take, length-append, take-all, take-append-le}
-use native.Mathlib.Decide.{decLt}
+use Rattle.semantics.proofs.Prelude.{_≡_, refl, sym, ap, _∙_, List, [], _++_, append-nil, ℕ, _≤_, _<_, min, arith, length, take, length-append, take-all, take-append-le, decLt}
 use Rattle.semantics.specs.Layout.{input-bytes}
 use Rattle.semantics.specs.Program.{output}
 use Rattle.semantics.proofs.InputCut.{cut-same}

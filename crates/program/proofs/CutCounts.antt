@@ -1,6 +1,5 @@
 -- The sizes of capacity and budget are judged alike of a number and of the number cut at 100,000. Assumes nothing.
-use Rattle.semantics.proofs.Prelude.{_≡_, refl, ap, _∙_, _&&_, Option, none, some, ℕ, suc, _<_, arith, leb, ℤ, pos, negsuc, lt-leb}
-use mathlib.Core.Bool.{and-false}
+use Rattle.semantics.proofs.Prelude.{_≡_, refl, ap, _∙_, _&&_, Option, none, some, ℕ, suc, _<_, arith, leb, ℤ, pos, negsuc, lt-leb, and-false}
 use Rattle.semantics.specs.Layout.{most-slots, most-iterations}
 use Rattle.semantics.specs.Chart.{within}
 use Rattle.semantics.specs.Reading.{Res, fail, ok, check, if-ok}

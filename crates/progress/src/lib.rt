@@ -1,5 +1,5 @@
 // The record of an analysis, and how it advances: where it begins, the counts between two edges of an iteration, and the
-// end of the iteration. Words are looked at by the others.
+// end of the iteration, where a slot that is put back is all that changes in the words.
 use semantics::Analysis;
 use semantics::EdgeId;
 use semantics::Settings;

@@ -1,20 +1,11 @@
 -- From the rows to the words lent. Assumes nothing.
-use Rattle.semantics.proofs.Prelude.{_≡_, refl, ap, true, false, List, [], _∷_, _++_, _+_, _≤_, _<_, arith, ltb, length, take, drop, ℤ, pos, length-take-le, lt-ltb, le-ltb}
-use Rattle.semantics.specs.Lists.{is-empty}
+use Rattle.semantics.proofs.Prelude.{_≡_, ap, true, false, List, _∷_, _++_, _+_, _≤_, _<_, arith, ltb, length, take, drop, ℤ, pos, length-take-le, lt-ltb, le-ltb}
 use Rattle.semantics.specs.Chart.{Chart}
 use Rattle.semantics.specs.Encoding.{encode}
 use Rattle.semantics.specs.Layout.{counts-size}
 use Rattle.chart.specs.Rows.{stored}
 use Rattle.reader.specs.ReadSoFar.{used-words, Rows}
 use Rattle.reader.specs.declared.tally.Tally.{Tally}
-
-pub none-empty-list : {A : Type 0} (l : List A) → 0 ≡ length l → is-empty l ≡ true
-none-empty-list [] e = refl
-none-empty-list (x ∷ xs) e = absurd (omega arith)
-
-pub some-list : {A : Type 0} (l : List A) → 0 < length l → is-empty l ≡ false
-some-list [] e = absurd (omega arith)
-some-list (x ∷ xs) e = refl
 
 module _ {t : Tally} {rows : List ℤ} {c : Chart} (h : Rows t rows c) (room : used-words t ≤ length rows) where
   encode-length : length (encode c) ≡ used-words t + counts-size

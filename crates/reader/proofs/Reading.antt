@@ -17,7 +17,7 @@ use Rattle.reader.specs.Lines.{input-read, op-read, edge-read, var-judge
 use Rattle.reader.specs.ReadSoFar.{Rows}
 use Rattle.reader.specs.declared.tally.Tally.{Tally}
 use Rattle.reader.proofs.OneRowMore.{range-held}
-use Rattle.reader.proofs.CopiedOut.{none-empty-list, some-list}
+use Rattle.semantics.proofs.AtAndIn.{none-empty-list, some-list}
 use Rattle.text.proofs.FieldTests.{then-fail, then-ok}
 use Rattle.reader.proofs.CheckSteps.{check-no, check-yes, step-by-step}
 

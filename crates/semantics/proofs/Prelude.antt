@@ -2,8 +2,8 @@
 -- a function. Proves nothing.
 pub use mathlib.Core.Path.{_∙_, _≡_, ap, refl, subst, sym}
 pub use mathlib.Core.Logic.{_⊎_, inl, inr, ⊎-elim}
-pub use mathlib.Core.Bool.{Bool, _&&_, _||_, and-assoc, and-true, cond, false, not, or-false, or-true, true}
-pub use mathlib.Core.List.{List, [], _++_, _∷_, append-assoc, append-nil, map, nil≢cons}
+pub use mathlib.Core.Bool.{Bool, _&&_, _||_, and-assoc, and-false, and-true, cond, false, not, or-false, or-true, true}
+pub use mathlib.Core.List.{List, [], _++_, _∷_, append-assoc, append-nil, map, map-append, nil≢cons}
 pub use mathlib.Core.Option.{Option, none, some}
 pub use Prim.Native.Nat.{_%_, _*_, _+_, _-_, _/_, _<_, _^_, _≤_, max, min, suc, suc-le-suc, zero, zero-le, ℕ}
 pub use native.Mathlib.Omega.{arith}

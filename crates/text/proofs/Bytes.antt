@@ -1,6 +1,5 @@
 -- Two texts that are the same, and the bytes of a name, one byte at a time. Assumes nothing.
-use Rattle.semantics.proofs.Prelude.{_≡_, refl, ap, Bool, true, false, List, [], _∷_, ℕ, suc, _+_, _≤_, _<_, add-one, eqb, length, getD, drop, drop-of-length-le, drop-cons, eq-eqb, ne-eqb, le-leb, lt-leb}
-use mathlib.Core.Bool.{and-false}
+use Rattle.semantics.proofs.Prelude.{_≡_, refl, ap, Bool, true, false, List, [], _∷_, ℕ, suc, _+_, _≤_, _<_, add-one, eqb, length, getD, drop, drop-of-length-le, drop-cons, eq-eqb, ne-eqb, le-leb, lt-leb, and-false}
 use Rattle.semantics.specs.Lists.{all}
 use Rattle.semantics.specs.Text.{same-bytes, name-byte, name-ok}
 

@@ -1,8 +1,5 @@
 -- Numbers, digit by digit, and what stays the same where a number is cut at 100,000. Assumes nothing.
-use Rattle.semantics.proofs.Prelude.{_≡_, refl, sym, ap, _∙_, Bool, true, false, _⊎_, inl, inr, ⊎-elim, List, [], _∷_, Option, some, none, ℕ, zero, suc, _+_, _-_, _*_, _≤_, _<_, min, add-one, arith, length, getD, take, drop, drop-of-length-le, drop-cons, ℤ, pos, negsuc, negℤ, _-ℤ_, +ℤ-idl, w32, SFits, toZ, ofZ, toZ-ofZ, eq-eqb, ne-eqb, le-leb, lt-leb, le-ltb, ltb}
-use mathlib.Core.Bool.{and-false}
-use native.Mathlib.Decide.{decLt}
-use mir.Facts.{toZ-pos}
+use Rattle.semantics.proofs.Prelude.{_≡_, refl, sym, ap, _∙_, Bool, true, false, _⊎_, inl, inr, ⊎-elim, List, [], _∷_, Option, some, none, ℕ, zero, suc, _+_, _-_, _*_, _≤_, _<_, min, add-one, arith, length, getD, take, drop, drop-of-length-le, drop-cons, ℤ, pos, negsuc, negℤ, _-ℤ_, +ℤ-idl, w32, SFits, toZ, ofZ, toZ-ofZ, eq-eqb, ne-eqb, le-leb, lt-leb, le-ltb, ltb, toZ-pos, and-false, decLt}
 use Rattle.semantics.specs.Lists.{pick}
 use Rattle.semantics.specs.Text.{between, digits, natural-of, nonnegative, negative, number-of}
 use Rattle.semantics.specs.Chart.{small}

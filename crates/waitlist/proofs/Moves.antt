@@ -1,10 +1,10 @@
 -- Laws of the waitlist's words that move: the front taken or put, the last taken, a slot taken out. Assumes nothing.
-use Rattle.semantics.proofs.Prelude.{_≡_, refl, sym, ap, _∙_, Bool, true, false, List, [], _∷_, _++_, map, append-assoc, append-nil, some, ℕ, zero, suc, _+_, _-_, _≤_, _<_, add-one, arith, eqb, ℤ, pos, length, take, drop, getD, set, replicate, length-map, length-append, length-replicate, length-set, drop-of-length-le, take-append-drop, replicate-append-replicate, take-at, drop-at, drop-cons, set-at, append-snoc, take-suc, take-suc-set, drop-set-lt, getD-drop, getD-at, take-all, length-take-le}
-use mathlib.Core.List.{map-append}
+use Rattle.semantics.proofs.Prelude.{_≡_, refl, sym, ap, _∙_, Bool, true, false, List, [], _∷_, _++_, map, append-assoc, append-nil, some, ℕ, zero, suc, _+_, _-_, _≤_, _<_, add-one, arith, eqb, ℤ, pos, length, take, drop, getD, set, replicate, length-map, length-append, length-replicate, length-set, drop-of-length-le, take-append-drop, replicate-append-replicate, take-at, drop-at, drop-cons, set-at, append-snoc, take-suc, take-suc-set, drop-set-lt, getD-drop, getD-at, take-all, length-take-le, map-append}
 use Rattle.semantics.specs.Chart.{eqZ}
 use Rattle.semantics.specs.declared.Order.the-variants.{Old, New}
-use Rattle.semantics.specs.Algorithm.{without, take-last, later}
+use Rattle.semantics.specs.Algorithm.{without, take-last}
 use Rattle.words.proofs.Words.{eqZ-sym}
+use Rattle.semantics.proofs.Waitlist.{take-last-snoc}
 use Rattle.waitlist.specs.Waits.{Stored, pushed, shifted, others, next-place, kept-at, TakenFrom}
 use Rattle.waitlist.proofs.WaitWords.{waits-are, kept, front, back}
 use Rattle.semantics.specs.Lists.{pick}
@@ -86,14 +86,10 @@ take-first-held {l} {n} (k ∷ ws) p h =
 
 -- ---- the last
 
-last-snoc : (ws : List ℕ) (k : ℕ) → take-last (ws ++ (k ∷ [])) ≡ some (record { slot = k; rest = ws })
-last-snoc [] k = refl
-last-snoc (x ∷ ws) k = ap (later x) (last-snoc ws k)
-
 pub take-last-held : {l : List ℤ} {n : ℕ} (wa : List ℕ) → Stored l n wa → 0 < n
     → (k : ℕ) × (getD l (n - 1) (pos 0) ≡ pos k) × TakenFrom New wa k (set l (n - 1) (pos 0)) (n - 1)
 take-last-held {l} {n} wa p h =
-    (k, at-last, record { taken = ap take-last split ∙ last-snoc ws k ∙ ap (λ (x : List ℕ). some (record { slot = k; rest = x })) (sym (waits-are put)); kept = kept put })
+    (k, at-last, record { taken = ap take-last split ∙ take-last-snoc ws k ∙ ap (λ (x : List ℕ). some (record { slot = k; rest = x })) (sym (waits-are put)); kept = kept put })
   where
     ws : List ℕ
     ws = take (n - 1) wa

@@ -1,6 +1,5 @@
 -- Laws of the waitlist's words: what they hold, a word more, and room for a slot that does not wait. Assumes nothing.
-use Rattle.semantics.proofs.Prelude.{_≡_, refl, sym, ap, subst, _∙_, inl, inr, Bool, true, false, List, [], _∷_, _++_, map, ℕ, suc, _+_, _-_, _<_, arith, eqb, ℤ, pos, natAbs, length, take, drop, set, replicate, length-map, length-append, length-set, take-at, drop-at, set-at, append-snoc}
-use mathlib.Core.List.{map-append}
+use Rattle.semantics.proofs.Prelude.{_≡_, refl, sym, ap, subst, _∙_, inl, inr, Bool, true, false, List, [], _∷_, _++_, map, ℕ, suc, _+_, _-_, _<_, arith, eqb, ℤ, pos, natAbs, length, take, drop, set, replicate, length-map, length-append, length-set, take-at, drop-at, set-at, append-snoc, map-append}
 use Rattle.semantics.specs.declared.Order.the-variants.{Old}
 use Rattle.semantics.specs.Chart.{eqZ}
 use Rattle.semantics.specs.Lists.{In, some-of}

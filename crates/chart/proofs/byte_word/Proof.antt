@@ -1,6 +1,5 @@
 -- `chart::byte_word` meets its contract. Assumes nothing.
-use Rattle.semantics.proofs.Prelude.{arith, w32, needs}
-use mir.Facts.{toZ-pos}
+use Rattle.semantics.proofs.Prelude.{arith, w32, needs, toZ-pos}
 use Rattle.chart.proofs.byte_word.Statement.{statement}
 use Rattle.chart.proofs.byte_word.Tie as tie
 

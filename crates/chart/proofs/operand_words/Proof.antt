@@ -1,6 +1,5 @@
 -- `chart::operand_words` meets its contract. Assumes nothing.
-use Rattle.semantics.proofs.Prelude.{refl, arith, w32, needs}
-use mir.Facts.{toZ-pos}
+use Rattle.semantics.proofs.Prelude.{refl, arith, w32, needs, toZ-pos}
 use Rattle.chart.proofs.operand_words.Statement.{statement}
 use Rattle.chart.proofs.operand_words.Tie as tie
 

@@ -1,6 +1,5 @@
 -- `chart::put_chart` meets its contract. Assumes nothing.
-use Rattle.semantics.proofs.Prelude.{[], _∷_, _≡_, _∙_, arith, pos, now, toZ, w32, needs}
-use mir.Facts.{toZ-pos}
+use Rattle.semantics.proofs.Prelude.{[], _∷_, _≡_, _∙_, arith, pos, now, toZ, w32, needs, toZ-pos}
 use Rattle.chart.proofs.Storing.{stored-then}
 use Rattle.chart.proofs.put_chart.Statement.{statement}
 use Rattle.chart.proofs.put_chart.Tie as tie

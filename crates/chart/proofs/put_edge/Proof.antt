@@ -1,6 +1,5 @@
 -- `chart::put_edge` meets its contract. Assumes nothing.
-use Rattle.semantics.proofs.Prelude.{_≡_, _∙_, arith, pos, toZ, ofZ, w32, needs}
-use mir.Facts.{toZ-pos}
+use Rattle.semantics.proofs.Prelude.{_≡_, _∙_, arith, pos, toZ, ofZ, w32, needs, toZ-pos}
 use Rattle.chart.proofs.put_edge.Statement.{statement}
 use Rattle.chart.proofs.put_edge.Tie as tie
 

@@ -1,6 +1,6 @@
 -- `reader::finish` meets its contract. Assumes nothing.
 use Rattle.semantics.proofs.Prelude.{arith, needs}
-use Rattle.reader.proofs.CopiedOut.{none-empty-list, some-list}
+use Rattle.semantics.proofs.AtAndIn.{none-empty-list, some-list}
 use Rattle.reader.proofs.finish.Statement.{statement}
 use Rattle.reader.proofs.finish.Tie as tie
 

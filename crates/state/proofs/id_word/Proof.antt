@@ -1,6 +1,5 @@
 -- `state::id_word` meets its contract. Assumes nothing.
-use Rattle.semantics.proofs.Prelude.{sym, _∙_, needs, le-ltb, w32}
-use mir.Facts.{toZ-pos}
+use Rattle.semantics.proofs.Prelude.{sym, _∙_, needs, le-ltb, w32, toZ-pos}
 use Rattle.state.specs.Rows.{word-limit, id-word}
 use Rattle.state.proofs.Layouts.{id-fits}
 use Rattle.state.proofs.id_word.Statement.{statement}

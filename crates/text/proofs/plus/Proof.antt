@@ -1,6 +1,5 @@
 -- `text::plus` meets its contract. Assumes nothing.
-use Rattle.semantics.proofs.Prelude.{needs, _≤_, arith, ap, _∙_, pos, w32}
-use mir.Facts.{toZ-pos}
+use Rattle.semantics.proofs.Prelude.{needs, _≤_, arith, ap, _∙_, pos, w32, toZ-pos}
 use Rattle.text.specs.Fields.{number-read, natural-said}
 use Rattle.text.specs.declared.NumberRead.the-variants as number
 use Rattle.text.proofs.plus.Statement.{statement}

@@ -1,6 +1,5 @@
 -- `waitlist::slot_word` meets its contract. Assumes nothing.
-use Rattle.semantics.proofs.Prelude.{arith, needs, w32}
-use mir.Facts.{toZ-pos}
+use Rattle.semantics.proofs.Prelude.{arith, needs, w32, toZ-pos}
 use Rattle.waitlist.proofs.slot_word.Statement.{statement}
 use Rattle.waitlist.proofs.slot_word.Tie as tie
 
