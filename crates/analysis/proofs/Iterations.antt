@@ -18,9 +18,9 @@ use Rattle.progress.specs.Progress.{load-of, Finished}
 use Rattle.analysis.specs.Loaded.{domain-of, Any, Resumable, Loaded, Progressed}
 
 -- each edge has a number up to the last
-pub keeps : (c : List ℤ) (last i n : ℕ) → i + n ≤ last → Every (Keeps (domain-of c) Any last) (edges-from i n)
-keeps c last i zero h = tt
-keeps c last i (suc n) h = (record { number = omega arith; post = λ e f p q. tt }, keeps c last (suc i) n (omega arith))
+pub edges-keep : (c : List ℤ) (last i n : ℕ) → i + n ≤ last → Every (Keeps (domain-of c) Any last) (edges-from i n)
+edges-keep c last i zero h = tt
+edges-keep c last i (suc n) h = (record { number = omega arith; post = λ e f p q. tt }, edges-keep c last (suc i) n (omega arith))
 
 module _ (y : Layout) (last : ℕ) (a : Analysis) (t l : List ℤ) (h : Resumable y last a t l) (k : ℕ) (l₁ : List ℤ)
     (s : TakenFrom (a .settings .order) (waits (a .waiting) l) k l₁ (a .waiting - 1)) where
@@ -50,7 +50,7 @@ module _ (y : Layout) (last : ℕ) (a : Analysis) (t l : List ℤ) (h : Resumabl
 
       tidy : Tidy Any last (load-of y r t₂ l₃)
       tidy = subst (λ (x : Exploration (List ℤ)). Tidy Any last x) (sym load)
-          (iteration-tidy (domain-of c) Any last (λ e x p q s. tt) (edges-from 0 last) (keeps c last 0 last (omega arith)) (load-of y a t l) (h .tidy))
+          (iteration-tidy (domain-of c) Any last (λ e x p q s. tt) (edges-from 0 last) (edges-keep c last 0 last (omega arith)) (load-of y a t l) (h .tidy))
 
       queue : Queue (p .used) (waits (r .waiting) l₃)
       queue = subst (λ (n : ℕ). Queue n (waits (r .waiting) l₃)) (rows-length y (r .used) t₂ ∙ f .used) (tidy .queue)

@@ -129,13 +129,13 @@ module _ (c : Chart) (y : Layout) (o : LayoutOf c y) (m : Memory) (r : Analysis)
 
 module _ (ws : List ℤ) (ok : T (well-formed ws)) (y : Layout) (o : LayoutOf (decode ws) y) (m : Memory) (r : Analysis) (t l : List ℤ) where
   -- a run with a budget, from the capacity's words of an analysis in form
-  pub run-leaves : m .analysis .capacity * width (decode ws) ≤ length (m .table) → m .analysis .capacity ≤ length (m .waitlist) → T (analysis-ok (decode ws) m) → (budget : ℕ)
+  pub run-at-exit : m .analysis .capacity * width (decode ws) ≤ length (m .table) → m .analysis .capacity ≤ length (m .waitlist) → T (analysis-ok (decode ws) m) → (budget : ℕ)
       → Loaded y (length (decode ws .edges)) r t l (run (domain-of ws) (edges-from 0 (length (decode ws .edges))) (min budget (most-iterations - m .analysis .iterations))
       (load-of y (m .analysis) (take (m .analysis .capacity * y .stride) (m .table)) (take (m .analysis .capacity) (m .waitlist))))
       → put-in (decode ws) (resumed (decode ws) (pos budget) (load (decode ws) m)) m
       ≡ record { table = t ++ drop (m .analysis .capacity * y .stride) (m .table); waitlist = l ++ drop (m .analysis .capacity) (m .waitlist); analysis = r }
   unfolding load
-  run-leaves lt ll form budget h =
+  run-at-exit lt ll form budget h =
       let c = decode ws in
       let v = load c m in
       let n = min budget (most-iterations - m .analysis .iterations) in
@@ -145,10 +145,10 @@ module _ (ws : List ℤ) (ok : T (well-formed ws)) (y : Layout) (o : LayoutOf (d
       (m .analysis .capacity) (run-kept (constants c) (numbered c) n v .capacity)
 
   -- a start, from the row of the initial state
-  pub start-leaves : (z : Settings) (capacity last : ℕ) → Loaded y last r t l (start (domain-of ws) z capacity (initial-row ws))
+  pub start-at-exit : (z : Settings) (capacity last : ℕ) → Loaded y last r t l (start (domain-of ws) z capacity (initial-row ws))
       → put-in (decode ws) (started (decode ws) z (pos capacity)) m
       ≡ record { table = t ++ drop (capacity * y .stride) (m .table); waitlist = l ++ drop capacity (m .waitlist); analysis = r }
   unfolding start
-  start-leaves z capacity last h =
+  start-at-exit z capacity last h =
       let c = decode ws in
       put-is c y o m r t l (started c z (pos capacity)) (start-stores ws ok y o last r t l z capacity h) capacity refl

@@ -1,4 +1,4 @@
--- Edges that do not leave the location of the taken state are passed over: their play changes nothing. Assumes nothing.
+-- Edges that do not leave the location of the taken state are passed-over over: their play changes nothing. Assumes nothing.
 use Rattle.semantics.proofs.Prelude.{_≡_, refl, sym, ap, _∙_, Bool, true, false, List, ℕ, zero, suc, _+_, _-_, _≤_, arith, ne-eqb, ltb-true, ltb-false, ltb, ℤ}
 use Rattle.semantics.specs.declared.Settings.{Settings}
 use Rattle.semantics.specs.Algorithm.{Step, halt, Out, then, visit, visit-all}
@@ -35,7 +35,7 @@ module _ (c : List ℤ) (s : Settings) (r : ℕ) (e : List ℤ) (n : ℕ) (en : 
       pass-one g (h g (omega arith) (omega arith)) ∙ pass-some k (g + 1) (λ j lo hi q. h j (omega arith) (omega arith) q) ∙ ap rest (sym m)
 
   -- edges from g, and from m on, where none up to m leaves the location
-  pub passed : (g m : ℕ) → g ≤ m → Passed c (location-in e) g m → rest g ≡ rest m
-  passed g m h p =
+  pub passed-over : (g m : ℕ) → g ≤ m → Passed c (location-in e) g m → rest g ≡ rest m
+  passed-over g m h p =
       let k : g + (m - g) ≡ m = omega arith in
       pass-some (m - g) g (λ j lo hi q. p j lo (omega arith) q) ∙ ap rest k

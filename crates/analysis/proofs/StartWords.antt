@@ -9,7 +9,7 @@ use Rattle.state.specs.Rows.{width-of, rows-of}
 use Rattle.waitlist.specs.Waits.{Stored}
 use Rattle.waitlist.proofs.WaitWords.{waits-are}
 use Rattle.reached.specs.Reached.{Kept}
-use Rattle.reached.proofs.Table.{rows-stored, stored}
+use Rattle.reached.proofs.Table.{rows-stored, stored-next}
 use Rattle.reached.proofs.FormKept.{next-slot-in, kept-stored}
 use Rattle.transfer.specs.Transfer.{error-row}
 use Rattle.progress.specs.Progress.{load-of}
@@ -18,13 +18,13 @@ use Rattle.analysis.specs.Loaded.{domain-of, Any, Loaded}
 -- the first row is stored in a table with nothing in use, and its slot waits
 module _ (y : Layout) (t l : List ℤ) (k : Kept y t l 0 0) (h : 0 < length l) (e : List ℤ) (len : length e ≡ width-of y) where
   abbrev begun-table : List ℤ
-  begun-table = stored y 0 t e (next-slot-in k h) (k .apart) len
+  begun-table = stored-next y 0 t e (next-slot-in k h) (k .apart) len
 
-  pub begun : (last : ℕ) (c : List ℤ) (a : Analysis) (l′ : List ℤ) → Stored l′ (a .waiting) (0 ∷ []) → length l′ ≡ length l → Allowed (a .settings)
+  pub start-loaded : (last : ℕ) (c : List ℤ) (a : Analysis) (l′ : List ℤ) → Stored l′ (a .waiting) (0 ∷ []) → length l′ ≡ length l → Allowed (a .settings)
       → length l ≡ a .capacity → a .iterations ≡ 0 → a .used ≡ 1 → a .edge .0 ≡ 0 → a .verdict ≡ first-verdict (error-row c e)
       → Loaded y last a begun-table l′ (start (domain-of c) (a .settings) (a .capacity) e)
   unfolding start
-  begun last c a l′ p ll ok ca it us ed ve = record { load = load; form = record { kept = kept; capacity = ll ∙ ca; allowed = ok; tidy = tidy } }
+  start-loaded last c a l′ p ll ok ca it us ed ve = record { load = load; form = record { kept = kept; capacity = ll ∙ ca; allowed = ok; tidy = tidy } }
     where
       rows : rows-of y (a .used) begun-table ≡ e ∷ []
       rows = rw us (rows-stored y 0 t e (next-slot-in k h) (k .apart) len)

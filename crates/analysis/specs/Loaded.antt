@@ -13,7 +13,7 @@ use Rattle.state.specs.declared.Layout.{Layout}
 use Rattle.state.specs.Rows.{width-of, most-width, rows-of, row-domain}
 use Rattle.waitlist.specs.Waits.{waits}
 use Rattle.reached.specs.Reached.{Kept}
-use Rattle.chart.specs.declared.Edge.{Edge}
+use Rattle.chart.specs.declared.EdgeRow.{EdgeRow}
 use Rattle.transfer.specs.Transfer.{edge-at, post-words, error-row}
 use Rattle.analysis.specs.Chains.{Chained}
 use Rattle.progress.specs.declared.Progress.{Progress}
@@ -27,7 +27,7 @@ domain-of c = row-domain (post-words c) (error-row c)
 -- ---- between the edges of an iteration
 
 -- edge g, counted from 0: its number counts from 1, and its words stand where the chart has them
-pub record Is-edge (c : List ℤ) (g : ℕ) (e : Edge) : Type 0 where
+pub record Is-edge (c : List ℤ) (g : ℕ) (e : EdgeRow) : Type 0 where
   pub id : e .id .0 ≡ g + 1
   pub at : e .at ≡ edge-at c g
 

@@ -1,6 +1,6 @@
 // The algorithm over lent words: a successor's arrival, the edges of an iteration in file order, the iteration, the run
 // of iterations and the start. Record and counts go by value.
-use chart::Edge;
+use chart::EdgeRow;
 use progress::Progress;
 use semantics::Analysis;
 use semantics::Mode;
@@ -25,7 +25,7 @@ mod outgoing;
 // What an analysis asks of its chart, by value: the layout of its table, edge 1, and how many edges there are.
 struct Outline {
     layout: Layout,
-    first: Edge,
+    first: EdgeRow,
     edges: usize,
 }
 
@@ -64,7 +64,7 @@ fn arrive(layout: Layout, a: Analysis, e: &[i32], table: &mut [i32], list: &mut 
 // One edge, with the copy of the taken state. `next` is a row lent for the successor.
 fn visit(
     chart: &[i32],
-    edge: Edge,
+    edge: EdgeRow,
     layout: Layout,
     a: Analysis,
     copy: &[i32],
@@ -109,7 +109,7 @@ fn visit_all(
     let mut at = a;
     let location = state::location_of(copy);
     let mut id = outgoing::first(heads, location);
-    while semantics::is_edge_within(edges, id) {
+    while id.is_within(edges) {
         let edge = chart::edge_of(first, id);
         let p = visit(
             chart,
@@ -122,7 +122,7 @@ fn visit_all(
             list,
         );
         let exit = p.exit;
-        if progress::has_ended(exit) {
+        if exit.has_ended() {
             return p;
         }
         at = progress::with_counts(at, p.used, p.waiting);

@@ -3,7 +3,7 @@
 // `nexts` for each edge that of the next one that leaves the same location; one more than the count of edges stands for
 // none. Past the end of either a number is 0, which passes over nothing: so nothing is asked of a location or of the
 // count of edges.
-use chart::Edge;
+use chart::EdgeRow;
 use semantics::EdgeId;
 use semantics::LocationId;
 ghost use mathlib.Core.Path.{_≡_};
@@ -54,19 +54,19 @@ pub fn chain(chart: &[i32], edges: usize, heads: &mut [usize], nexts: &mut [usiz
 pub fn first(heads: &[usize], l: LocationId) -> EdgeId
     ensures { λ r. ⌜ r .0 ≡ max 1 (getD (now (heads .entry)) (l .0) 0) ⌝ }
 {
-    semantics::later_edge(EdgeId(1), EdgeId(number_at(heads, l.0)))
+    EdgeId(1).or_later(EdgeId(number_at(heads, l.0)))
 }
 
 // The edge to look at next. The chain of this one serves if it leaves the location.
-pub fn next(chart: &[i32], edge: Edge, nexts: &[usize], l: LocationId) -> EdgeId
+pub fn next(chart: &[i32], edge: EdgeRow, nexts: &[usize], l: LocationId) -> EdgeId
     requires { ⌜ Passed (now chart) (from-at (now chart) (edge .id .0 - 1)) (edge .id .0) (getD (now nexts) (edge .id .0 - 1) 0 - 1) × (edge .at ≡ edge-at (now chart) (edge .id .0 - 1)) × (1 ≤ edge .id .0) × (edge .id .0 < index-limit) ⌝ }
     ensures { λ r. ⌜ (edge .id .0 < r .0) × Passed (now (chart .entry)) (l .0) (edge .id .0) (r .0 - 1) ⌝ }
 {
     let id = edge.id;
-    let after = semantics::edge_after(id);
+    let after = id.after();
     let from = chart::edge_from(chart, edge);
-    if !semantics::same_location(from, l) {
+    if !from.equals(l) {
         return after;
     }
-    semantics::later_edge(after, EdgeId(number_at(nexts, id.0 - 1)))
+    after.or_later(EdgeId(number_at(nexts, id.0 - 1)))
 }

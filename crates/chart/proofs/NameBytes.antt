@@ -6,7 +6,7 @@ use Rattle.semantics.specs.Lists.{all, pick}
 use Rattle.semantics.specs.Text.{between, name-byte, name-ok}
 use Rattle.semantics.specs.Chart.{Loc, eqZ}
 use Rattle.semantics.specs.Listing.{loc-text}
-use Rattle.semantics.specs.Encoding.{name-in, loc-in, several, count, decode, well-formed}
+use Rattle.semantics.specs.Encoding.{name-in, loc-in, several, decode, well-formed, variable-count, location-count}
 use Rattle.semantics.proofs.Bools.{and-left, and-right}
 use Rattle.semantics.proofs.Encoded.{formed-bounds}
 use Rattle.semantics.proofs.Texts.{plain-range}
@@ -28,15 +28,15 @@ text-past (suc n) zero ws h = absurd (omega arith)
 text-past (suc n) (suc k) ws h = text-past n k (drop location-size ws) (omega arith)
 
 module _ (ws : List ℤ) (k : ℕ) where
-  pub name-at : k < count ws 1 → loc-text (decode ws .locs) k ≡ loc-in (drop (locations-at ws + location-size * k) ws) .name
+  pub name-at : k < location-count ws → loc-text (decode ws .locs) k ≡ loc-in (drop (locations-at ws + location-size * k) ws) .name
   unfolding decode
   name-at h =
-      rw (past-drop variable-size (count ws 0) (drop counts-size ws), drop-drop (variable-size * count ws 0) counts-size ws)
-      (text-at (count ws 1) k (drop (locations-at ws) ws) h ∙ rw (drop-drop (location-size * k) (locations-at ws) ws))
+      rw (past-drop variable-size (variable-count ws) (drop counts-size ws), drop-drop (variable-size * variable-count ws) counts-size ws)
+      (text-at (location-count ws) k (drop (locations-at ws) ws) h ∙ rw (drop-drop (location-size * k) (locations-at ws) ws))
 
-  pub no-name : count ws 1 ≤ k → loc-text (decode ws .locs) k ≡ []
+  pub no-name : location-count ws ≤ k → loc-text (decode ws .locs) k ≡ []
   unfolding decode
-  no-name h = text-past (count ws 1) k _ h
+  no-name h = text-past (location-count ws) k _ h
 
 -- a name has a word for each byte
 bytes-in : (n : ℕ) (ws : List ℤ) → (map natAbs (take (length (name-in n ws)) ws) ≡ name-in n ws) × (length (name-in n ws) ≤ length ws)

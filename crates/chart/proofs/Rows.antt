@@ -56,6 +56,6 @@ module _ {A : Type 0} (g : List ℤ → A) (k : ℕ) where
         ∙ and-regroup (begins-with (f (g ws)) ws) (all (λ r. begins-with (f (g r)) r) (rows k n (drop k ws))) (begins-with more (past k n (drop k ws)))
 
     -- so many words are there
-    pub each-length : (n : ℕ) (ws : List ℤ) → length (each f (several g k n ws)) ≡ k * n
-    each-length zero ws = sym (mul-zero k)
-    each-length (suc n) ws = simp (length-append, wide, mul-suc) (omega (arith, each-length n (drop k ws)))
+    pub several-length-of : (n : ℕ) (ws : List ℤ) → length (each f (several g k n ws)) ≡ k * n
+    several-length-of zero ws = sym (mul-zero k)
+    several-length-of (suc n) ws = simp (length-append, wide, mul-suc) (omega (arith, several-length-of n (drop k ws)))

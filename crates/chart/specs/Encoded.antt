@@ -10,8 +10,8 @@ use lib.IntN.{ℤ, pos, natAbs}
 use lib.Signed.{nonNeg, leZ}
 use Rattle.semantics.specs.Lists.{pick, all}
 use Rattle.semantics.specs.Chart.{eqZ, within, small}
-use Rattle.semantics.specs.Layout.{most-variables, most-locations, most-edges, counts-size, variable-size, name-size, location-size, edge-size, variable-at, high-place, kind-place, name-place, from-place, to-place, operation-place, target-place, first-tag-place, first-value-place, second-tag-place, second-value-place, skip-code, add-code, sub-code, in-code, ge-code, number-tag, variable-tag}
-use Rattle.semantics.specs.Encoding.{word-at, count, kind-word, var-in, var-ok, loc-in, distinct-names, several}
+use Rattle.semantics.specs.Layout.{most-variables, most-locations, most-edges, counts-size, variable-size, name-size, location-size, edge-size, variables-place, locations-place, edges-place, variable-at, high-place, kind-place, name-place, from-place, to-place, operation-place, target-place, first-tag-place, first-value-place, second-tag-place, second-value-place, skip-code, add-code, sub-code, in-code, ge-code, number-tag, variable-tag}
+use Rattle.semantics.specs.Encoding.{word-at, count, kind-word, var-in, var-ok, loc-in, distinct-names, several, variable-count, location-count, edge-count}
 use Rattle.semantics.specs.Memory.{below, zeros}
 
 -- n rows of k words, each with the words after it
@@ -34,15 +34,15 @@ name-word z =
 -- no more variables, locations and edges than a chart may have, and a location at least
 unfoldable pub counts-fine : List ℤ → Bool
 counts-fine ws =
-    at-most most-variables (word-at ws 0) && at-most most-locations (word-at ws 1) && leb 1 (count ws 1) && at-most most-edges (word-at ws 2)
+    at-most most-variables (word-at ws variables-place) && at-most most-locations (word-at ws locations-place) && leb 1 (location-count ws) && at-most most-edges (word-at ws edges-place)
 
 -- where the locations' words begin
 abbrev pub locations-at : List ℤ → ℕ
-locations-at ws = variable-at (count ws 0)
+locations-at ws = variable-at (variable-count ws)
 
 -- where the edges' words begin
 abbrev pub edges-at : List ℤ → ℕ
-edges-at ws = locations-at ws + location-size * count ws 1
+edges-at ws = locations-at ws + location-size * location-count ws
 
 -- ---- a location: its kind is 0 or 1; bytes of a name, and 0 after them
 
@@ -100,10 +100,10 @@ unfoldable pub rows-fine : List ℤ → Bool
 rows-fine ws =
     let vars = drop counts-size ws in
     let locations = drop (locations-at ws) ws in
-    all var-ok (several var-in variable-size (count ws 0) vars)
-    && all location-fine (rows location-size (count ws 1) locations)
-    && distinct-names (several loc-in location-size (count ws 1) locations)
-    && all (edge-fine vars (count ws 0) (count ws 1)) (rows edge-size (count ws 2) (drop (edges-at ws) ws))
+    all var-ok (several var-in variable-size (variable-count ws) vars)
+    && all location-fine (rows location-size (location-count ws) locations)
+    && distinct-names (several loc-in location-size (location-count ws) locations)
+    && all (edge-fine vars (variable-count ws) (location-count ws)) (rows edge-size (edge-count ws) (drop (edges-at ws) ws))
 
 -- ---- names
 

@@ -19,7 +19,7 @@ ghost use Rattle.semantics.specs.Lists.{all};
 ghost use Rattle.semantics.specs.Text.{same-bytes};
 ghost use Rattle.semantics.specs.Chart.{eqZ};
 ghost use Rattle.semantics.specs.Layout.{counts-size, variable-size, name-size, location-size, edge-size, variable-at, high-place, init-place, to-place, operation-place, target-place, first-tag-place, first-value-place, second-tag-place, second-value-place, ge-code, index-limit, most-variables, most-locations, most-edges};
-ghost use Rattle.semantics.specs.Encoding.{word-at, count, val, kind-word, rel-code, tag, operand-word, var-words, loc-words, op-words, edge-words, init-ok, var-in, var-ok, loc-in, several, distinct-names, decode, well-formed};
+ghost use Rattle.semantics.specs.Encoding.{word-at, count, val, kind-word, rel-code, tag, operand-word, var-words, loc-words, op-words, edge-words, init-ok, var-in, var-ok, loc-in, several, distinct-names, decode, well-formed, variable-count, location-count, edge-count};
 ghost use Rattle.semantics.specs.Operations.{the-operand, the-relation, the-operation};
 ghost use Rattle.semantics.specs.Listing.{loc-text};
 ghost use Rattle.chart.specs.Encoded.{rows, at-most, name-word, counts-fine, locations-at, edges-at, location-fine, operand-fine, ranged, two-fine, one-fine, input-fine, operands-fine, operation-fine, edge-fine, rows-fine, byte-of};
@@ -125,7 +125,7 @@ fn is_at_most(n: usize, w: i32) -> bool
 }
 
 // The row's words from a place on.
-fn put_row(rows: &mut [i32], at: usize, row: &[i32])
+fn store_words(rows: &mut [i32], at: usize, row: &[i32])
     requires { ⌜ at + length (now row) ≤ length (now rows) ⌝ }
     ensures { λ _. ⌜ now (rows .exit) ≡ stored at (now (row .entry)) (now (rows .entry)) ⌝ }
 {
@@ -141,8 +141,8 @@ pub fn put_chart(chart: &mut [i32], vars: usize, locations: usize, edges: usize,
     ensures { λ _. ⌜ now (chart .exit) ≡ stored 0 (pos vars ∷ pos locations ∷ pos edges ∷ now (rows .entry)) (now (chart .entry)) ⌝ }
 {
     let counts = [vars as i32, locations as i32, edges as i32];
-    put_row(chart, 0, &counts);
-    put_row(chart, COUNTS_SIZE, rows);
+    store_words(chart, 0, &counts);
+    store_words(chart, COUNTS_SIZE, rows);
 }
 
 // The words of so many rows.
@@ -153,20 +153,20 @@ pub fn rows_size(vars: usize, locations: usize, edges: usize) -> usize
     VARIABLE_SIZE * vars + LOCATION_SIZE * locations + EDGE_SIZE * edges
 }
 
-pub fn var_count(chart: &[i32]) -> usize
-    ensures { λ r. ⌜ (r ≡ count (now (chart .entry)) 0) × (r < index-limit) ⌝ }
+pub fn variable_count(chart: &[i32]) -> usize
+    ensures { λ r. ⌜ (r ≡ variable-count (now (chart .entry))) × (r < index-limit) ⌝ }
 {
     words::number_at(chart, VARIABLES_PLACE)
 }
 
 pub fn location_count(chart: &[i32]) -> usize
-    ensures { λ r. ⌜ (r ≡ count (now (chart .entry)) 1) × (r < index-limit) ⌝ }
+    ensures { λ r. ⌜ (r ≡ location-count (now (chart .entry))) × (r < index-limit) ⌝ }
 {
     words::number_at(chart, LOCATIONS_PLACE)
 }
 
 pub fn edge_count(chart: &[i32]) -> usize
-    ensures { λ r. ⌜ (r ≡ count (now (chart .entry)) 2) × (r < index-limit) ⌝ }
+    ensures { λ r. ⌜ (r ≡ edge-count (now (chart .entry))) × (r < index-limit) ⌝ }
 {
     words::number_at(chart, EDGES_PLACE)
 }
@@ -175,7 +175,7 @@ pub fn edge_count(chart: &[i32]) -> usize
 fn locations_at(chart: &[i32]) -> usize
     ensures { λ r. ⌜ (r ≡ locations-at (now (chart .entry))) × (r ≤ variable-at index-limit) ⌝ }
 {
-    COUNTS_SIZE + VARIABLE_SIZE * var_count(chart)
+    COUNTS_SIZE + VARIABLE_SIZE * variable_count(chart)
 }
 
 fn edges_at(chart: &[i32]) -> usize
@@ -185,8 +185,8 @@ fn edges_at(chart: &[i32]) -> usize
 }
 
 // How many words the chart takes.
-fn end_of(chart: &[i32]) -> usize
-    ensures { λ r. ⌜ r ≡ edges-at (now (chart .entry)) + edge-size * count (now (chart .entry)) 2 ⌝ }
+fn chart_size(chart: &[i32]) -> usize
+    ensures { λ r. ⌜ r ≡ edges-at (now (chart .entry)) + edge-size * edge-count (now (chart .entry)) ⌝ }
 {
     edges_at(chart) + EDGE_SIZE * edge_count(chart)
 }
@@ -212,7 +212,7 @@ pub fn put_variable(rows: &mut [i32], at: usize, lo: i32, hi: i32, init: i32)
     ensures { λ _. ⌜ now (rows .exit) ≡ stored at (var-words (the-variable lo hi init)) (now (rows .entry)) ⌝ }
 {
     let row = [lo, hi, init];
-    put_row(rows, at, &row);
+    store_words(rows, at, &row);
 }
 
 // The accessors are total on the words. They ask for a bound on a number or a place only to keep a sum from wrapping.
@@ -304,7 +304,7 @@ fn kind_word(error: bool) -> i32
 }
 
 // The bytes of a name, one a word.
-fn put_bytes(row: &mut [i32], name: &[u8])
+fn bytes_as_words(row: &mut [i32], name: &[u8])
     requires { ⌜ length (now row) ≡ length (now name) ⌝ }
     ensures { λ _. ⌜ now (row .exit) ≡ map pos (now (name .entry)) ⌝ }
 {
@@ -330,8 +330,8 @@ pub fn put_location(rows: &mut [i32], at: usize, error: bool, name: &[u8])
     let mut row = [0i32; LOCATION_SIZE];
     row[KIND_PLACE] = kind_word(error);
     let end = name.len() + NAME_PLACE;
-    put_bytes(&mut row[NAME_PLACE..end], name);
-    put_row(rows, at, &row);
+    bytes_as_words(&mut row[NAME_PLACE..end], name);
+    store_words(rows, at, &row);
 }
 
 // Whether the location's kind is that of an error location.
@@ -600,59 +600,59 @@ pub fn put_edge(rows: &mut [i32], at: usize, from: LocationId, to: LocationId, o
         b.tag,
         b.value,
     ];
-    put_row(rows, at, &row);
+    store_words(rows, at, &row);
 }
 
 // An edge: its number, and where its words stand. The two are carried along together, so that no accessor has to count.
-pub struct Edge {
+pub struct EdgeRow {
     pub id: EdgeId,
     pub at: usize,
 }
 
 // Edge 1, whether there is one or not.
-pub fn first_edge(chart: &[i32]) -> Edge
+pub fn first_edge(chart: &[i32]) -> EdgeRow
     ensures { λ r. ⌜ (r .id .0 ≡ 1) × (r .at ≡ edges-at (now (chart .entry))) ⌝ }
 {
-    Edge {
+    EdgeRow {
         id: EdgeId(1),
         at: edges_at(chart),
     }
 }
 
 // An edge by its number, from the first.
-pub fn edge_of(first: Edge, id: EdgeId) -> Edge
+pub fn edge_of(first: EdgeRow, id: EdgeId) -> EdgeRow
     requires { ⌜ (first .at < index-limit) × (1 ≤ id .0) × (id .0 ≤ index-limit) ⌝ }
     ensures { λ r. ⌜ (r .id .0 ≡ id .0) × (r .at ≡ first .at + edge-size * (id .0 - 1)) ⌝ }
 {
     let before = id.0 - 1;
-    Edge {
+    EdgeRow {
         id,
         at: first.at + EDGE_SIZE * before,
     }
 }
 
 // The locations that it leaves and goes to, its operation's code, and the variable that it sets or tests.
-pub fn edge_from(chart: &[i32], edge: Edge) -> LocationId
+pub fn edge_from(chart: &[i32], edge: EdgeRow) -> LocationId
     ensures { λ r. ⌜ (r .0 ≡ count (now (chart .entry)) (edge .at)) × (r .0 < index-limit) ⌝ }
 {
     LocationId(words::number_at(chart, edge.at))
 }
 
-pub fn edge_to(chart: &[i32], edge: Edge) -> LocationId
+pub fn edge_to(chart: &[i32], edge: EdgeRow) -> LocationId
     requires { ⌜ edge .at < index-limit ⌝ }
     ensures { λ r. ⌜ (r .0 ≡ count (now (chart .entry)) (edge .at + to-place)) × (r .0 < index-limit) ⌝ }
 {
     LocationId(words::number_at(chart, edge.at + TO_PLACE))
 }
 
-pub fn edge_operation(chart: &[i32], edge: Edge) -> usize
+pub fn edge_operation(chart: &[i32], edge: EdgeRow) -> usize
     requires { ⌜ edge .at < index-limit ⌝ }
     ensures { λ r. ⌜ (r ≡ count (now (chart .entry)) (edge .at + operation-place)) × (r < index-limit) ⌝ }
 {
     words::number_at(chart, edge.at + OPERATION_PLACE)
 }
 
-pub fn edge_target(chart: &[i32], edge: Edge) -> usize
+pub fn edge_target(chart: &[i32], edge: EdgeRow) -> usize
     requires { ⌜ edge .at < index-limit ⌝ }
     ensures { λ r. ⌜ (r ≡ count (now (chart .entry)) (edge .at + target-place)) × (r < index-limit) ⌝ }
 {
@@ -660,35 +660,35 @@ pub fn edge_target(chart: &[i32], edge: Edge) -> usize
 }
 
 // Its two operands: what each is, and the word that it holds; the first as the number of a variable.
-pub fn first_tag(chart: &[i32], edge: Edge) -> i32
+pub fn first_tag(chart: &[i32], edge: EdgeRow) -> i32
     requires { ⌜ edge .at < index-limit ⌝ }
     ensures { λ r. ⌜ r ≡ word-at (now (chart .entry)) (edge .at + first-tag-place) ⌝ }
 {
     words::word_at(chart, edge.at + FIRST_TAG_PLACE)
 }
 
-pub fn first_value(chart: &[i32], edge: Edge) -> i32
+pub fn first_value(chart: &[i32], edge: EdgeRow) -> i32
     requires { ⌜ edge .at < index-limit ⌝ }
     ensures { λ r. ⌜ r ≡ word-at (now (chart .entry)) (edge .at + first-value-place) ⌝ }
 {
     words::word_at(chart, edge.at + FIRST_VALUE_PLACE)
 }
 
-pub fn first_variable(chart: &[i32], edge: Edge) -> usize
+pub fn first_variable(chart: &[i32], edge: EdgeRow) -> usize
     requires { ⌜ edge .at < index-limit ⌝ }
     ensures { λ r. ⌜ (r ≡ count (now (chart .entry)) (edge .at + first-value-place)) × (r < index-limit) ⌝ }
 {
     words::number_at(chart, edge.at + FIRST_VALUE_PLACE)
 }
 
-pub fn second_tag(chart: &[i32], edge: Edge) -> i32
+pub fn second_tag(chart: &[i32], edge: EdgeRow) -> i32
     requires { ⌜ edge .at < index-limit ⌝ }
     ensures { λ r. ⌜ r ≡ word-at (now (chart .entry)) (edge .at + second-tag-place) ⌝ }
 {
     words::word_at(chart, edge.at + SECOND_TAG_PLACE)
 }
 
-pub fn second_value(chart: &[i32], edge: Edge) -> i32
+pub fn second_value(chart: &[i32], edge: EdgeRow) -> i32
     requires { ⌜ edge .at < index-limit ⌝ }
     ensures { λ r. ⌜ r ≡ word-at (now (chart .entry)) (edge .at + second-value-place) ⌝ }
 {
@@ -805,10 +805,10 @@ fn edges_fine(vars: &[i32], v: usize, l: usize, edges: &[i32], n: usize) -> bool
 
 // All rows, once the counts are known to be in order.
 fn rows_fine(chart: &[i32]) -> bool
-    requires { ⌜ edges-at (now chart) + edge-size * count (now chart) 2 ≤ length (now chart) ⌝ }
+    requires { ⌜ edges-at (now chart) + edge-size * edge-count (now chart) ≤ length (now chart) ⌝ }
     ensures { λ r. ⌜ r ≡ rows-fine (now (chart .entry)) ⌝ }
 {
-    let v = var_count(chart);
+    let v = variable_count(chart);
     let l = location_count(chart);
     let e = edge_count(chart);
     let at = locations_at(chart);
@@ -826,7 +826,7 @@ pub fn well_formed(chart: &[i32]) -> bool
     ensures { λ r. ⌜ r ≡ well-formed (now (chart .entry)) ⌝ }
 {
     if counts_fine(chart) {
-        let end = end_of(chart);
+        let end = chart_size(chart);
         if end <= chart.len() {
             return rows_fine(chart);
         }

@@ -4,7 +4,7 @@ use Rattle.semantics.proofs.Prelude.{_≡_, refl, ap, sym, _∙_, Bool, true, f
 use Rattle.semantics.specs.Lists.{some-of, all, all-pairs, all-of}
 use Rattle.semantics.specs.Chart.{eqZ, within}
 use Rattle.semantics.specs.Layout.{top-word, counts-size, variable-size, high-place}
-use Rattle.semantics.specs.Encoding.{word-at, several, var-in, count, decode, well-formed}
+use Rattle.semantics.specs.Encoding.{word-at, several, var-in, decode, well-formed, variable-count, location-count, edge-count}
 use Rattle.semantics.specs.declared.Analysis.{Analysis}
 use Rattle.semantics.specs.Memory.{Memory, value-ok, below, width, row-ok, rows-ok, each-once, lent-tests, record-tests, analysis-ok}
 use Rattle.semantics.specs.Outcomes.{too-few}
@@ -29,23 +29,23 @@ module _ (l : List ℤ) (i : ℕ) (h : i < length l) (b : Bool) where
       (interchange (below n word) (all (below n) (drop (suc i) l)) (not (some-of (eqZ word) (drop (suc i) l))) (each-once (drop (suc i) l)) ∙ ap (λ (x : Bool). x && (all (below n) (drop (suc i) l) && each-once (drop (suc i) l))) (rw add-one at e))
 
   -- a value, and its variable's words at `at`
-  pub values-turn : (ws : List ℤ) (at n : ℕ) → (eqZ word top-word || within (word-at ws at) (word-at ws (at + high-place)) word) ≡ b →
+  pub values-ok-turn : (ws : List ℤ) (at n : ℕ) → (eqZ word top-word || within (word-at ws at) (word-at ws (at + high-place)) word) ≡ b →
       all-pairs value-ok (several var-in variable-size (suc n) (drop at ws)) (drop i l) ≡ b && all-pairs value-ok (several var-in variable-size n (drop (at + variable-size) ws)) (drop (i + 1) l)
-  values-turn ws at n e = rw (add-one i, drop-cons l i (pos 0) h, getD-drop at ws 0 (pos 0), getD-drop at ws 1 (pos 0), drop-drop variable-size at ws, add-zero at, e)
+  values-ok-turn ws at n e = rw (add-one i, drop-cons l i (pos 0) h, getD-drop at ws 0 (pos 0), getD-drop at ws 1 (pos 0), drop-drop variable-size at ws, add-zero at, e)
 
 -- a row: its location, and its values
 pub row-is : (ws row : List ℤ) → length row ≡ width (decode ws) →
-    below (count ws 1) (location-word row) && all-pairs value-ok (several var-in variable-size (length (values-of row)) (drop counts-size ws)) (values-of row) ≡ row-ok (decode ws) row
+    below (location-count ws) (location-word row) && all-pairs value-ok (several var-in variable-size (length (values-of row)) (drop counts-size ws)) (values-of row) ≡ row-ok (decode ws) row
 unfolding decode
 row-is ws [] h = absurd (omega arith)
 row-is ws (x ∷ xs) h =
-    let n : length xs ≡ count ws 0 = omega (arith, h, vars-count ws) in
+    let n : length xs ≡ variable-count ws = omega (arith, h, vars-count ws) in
     λ j. below (sym (locs-count ws) j) x && all-pairs value-ok (several var-in variable-size (n j) (drop counts-size ws)) xs
 
 -- the row at `from`
-pub rows-turn : (ws t : List ℤ) (from w k n : ℕ) → w ≡ width (decode ws) → k ≡ width (decode ws) → (b : Bool) → row-ok (decode ws) (take w (drop from t)) ≡ b →
+pub rows-ok-turn : (ws t : List ℤ) (from w k n : ℕ) → w ≡ width (decode ws) → k ≡ width (decode ws) → (b : Bool) → row-ok (decode ws) (take w (drop from t)) ≡ b →
     rows-ok (decode ws) (suc n) (drop from t) ≡ b && rows-ok (decode ws) n (drop (from + k) t)
-rows-turn ws t from w k n e f b q = rw (← drop-drop k from t, f, ← q, e)
+rows-ok-turn ws t from w k n e f b q = rw (← drop-drop k from t, f, ← q, e)
 
 -- ---- the rule in its two parts
 
@@ -55,10 +55,10 @@ all-of-append (true ∷ xs) ys = all-of-append xs ys
 all-of-append (false ∷ xs) ys = refl
 
 pub both-parts : (ws t l : List ℤ) (a : Analysis)
-    → all-of (lent-tests (decode ws) (a .capacity) (a .used) (a .waiting) t l) && all-of (record-tests (count ws 2) a) ≡ analysis-ok (decode ws) (lent t l a)
+    → all-of (lent-tests (decode ws) (a .capacity) (a .used) (a .waiting) t l) && all-of (record-tests (edge-count ws) a) ≡ analysis-ok (decode ws) (lent t l a)
 unfolding analysis-ok
 both-parts ws t l a =
-    all-of-append (lent-tests (decode ws) (a .capacity) (a .used) (a .waiting) t l) (record-tests (count ws 2) a)
+    all-of-append (lent-tests (decode ws) (a .capacity) (a .used) (a .waiting) t l) (record-tests (edge-count ws) a)
     ∙ ap (λ (n : ℕ). all-of (lent-tests (decode ws) (a .capacity) (a .used) (a .waiting) t l ++ record-tests n a)) (sym (edges-count ws))
 
 -- none of 20, 14 and 21 holds

@@ -164,7 +164,7 @@ pub fn is_allowed(merge: Mode, stop: Mode) -> bool
 fn edge_allowed(edge: EdgeId, v: Verdict) -> bool
     ensures { λ r. ⌜ r ≡ (eqb (edge .0) 0 || is-alarm v) ⌝ }
 {
-    semantics::is_no_edge(edge) | is_alarm(v)
+    edge.is_none() | is_alarm(v)
 }
 
 // The tests of a record alone, for a chart of so many edges.
@@ -177,7 +177,7 @@ fn record_ok(a: Analysis, edges: usize) -> bool
     let verdict = a.verdict;
     let edge = a.edge;
     (a.iterations <= semantics::MOST_ITERATIONS)
-        & semantics::is_edge_within(edges, edge)
+        & edge.is_within(edges)
         & edge_allowed(edge, verdict)
         & ((1 <= a.capacity) & (a.capacity <= semantics::MOST_SLOTS as u32))
         & is_allowed(merge, stop)

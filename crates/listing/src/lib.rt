@@ -255,18 +255,24 @@ fn listing_length(chart: &[i32], table: &[i32], list: &[i32], a: Analysis) -> us
 // ---- the public call
 
 // 20, 14, 21, 15: the first that refuses a listing into so many bytes, or 0.
-fn listing_refusal(chart: &[i32], a: Analysis, table: &[i32], list: &[i32], space: usize) -> u32
-    requires { ⌜ space < limit ⌝ }
-    ensures { λ r. ⌜ r ≡ refusal (listing-cases (form-of (now (chart .entry)) (lent (now (table .entry)) (now (list .entry)) a)) space (text-of (decode (now (chart .entry))) (lent (now (table .entry)) (now (list .entry)) a))) ⌝ }
+fn listing_refusal(
+    chart: &[i32],
+    a: Analysis,
+    table: &[i32],
+    list: &[i32],
+    space_length: usize,
+) -> u32
+    requires { ⌜ «space_length» < limit ⌝ }
+    ensures { λ r. ⌜ r ≡ refusal (listing-cases (form-of (now (chart .entry)) (lent (now (table .entry)) (now (list .entry)) a)) «space_length» (text-of (decode (now (chart .entry))) (lent (now (table .entry)) (now (list .entry)) a))) ⌝ }
 {
     let earlier = checks::form_refusal(chart, a, table, list);
     if earlier != 0 {
         return earlier;
     }
-    if semantics::LISTING_BYTES <= space {
+    if semantics::LISTING_BYTES <= space_length {
         return 0;
     }
-    if space < listing_length(chart, table, list, a) {
+    if space_length < listing_length(chart, table, list, a) {
         return 15;
     }
     0

@@ -5,8 +5,8 @@ use Rattle.semantics.specs.Program.{output}
 use Rattle.semantics.proofs.InputCut.{cut-same}
 use Rattle.program.specs.Responded.{Buffered, Printed}
 
-pub enough : (input buffer : List ℕ) (count : ℕ) → length buffer ≡ input-bytes → Buffered input buffer count → output input ≡ output (take (min count (length buffer)) buffer)
-enough input buffer count l b = go (decLt count (length buffer))
+pub buffer-enough : (input buffer : List ℕ) (count : ℕ) → length buffer ≡ input-bytes → Buffered input buffer count → output input ≡ output (take (min count (length buffer)) buffer)
+buffer-enough input buffer count l b = go (decLt count (length buffer))
   where
     go : Dec (count < length buffer) → output input ≡ output (take (min count (length buffer)) buffer)
     go (yes h) =

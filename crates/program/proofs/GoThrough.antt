@@ -9,7 +9,7 @@ use Rattle.semantics.specs.Memory.{Memory}
 use Rattle.semantics.specs.Listing.{listing-text}
 use Rattle.semantics.specs.Outcomes.{Outcome, started, put-in, start-outcome, run-outcome, listing-outcome}
 use Rattle.semantics.specs.Program.{explored}
-use Rattle.semantics.proofs.MemoryOf.{Good}
+use Rattle.semantics.proofs.MemoryOf.{Proper}
 use Rattle.semantics.proofs.Encoded.{well-formed-split}
 use Rattle.semantics.proofs.WholeWalks.{start-iterations, started-good}
 use Rattle.semantics.proofs.Program.{GoOk, explored-good}
@@ -39,7 +39,7 @@ module _ (words : List ℤ) (formed : T (well-formed words)) (go : Go) (asked : 
   abbrev first : Exploration AbstractState
   first = started chart (go .settings) (go .capacity)
 
-  first-good : Good chart first
+  first-good : Proper chart first
   first-good = started-good chart inside (go .settings) (go .capacity) (fine .capacity) (fine .modes)
 
   pub begun : (m : Memory) → length (m .table) ≡ table-words → length (m .waitlist) ≡ most-slots → {r : Called} {t l : List ℤ}

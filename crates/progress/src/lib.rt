@@ -19,6 +19,19 @@ pub enum Exit {
     Full,
 }
 
+impl Exit {
+    // Whether an edge has ended the iteration: none after it is played.
+    pub fn has_ended(self) -> bool
+        ensures { λ r. ⌜ r ≡ has-ended self ⌝ }
+    {
+        match self {
+            Exit::On => false,
+            Exit::Alarm => true,
+            Exit::Full => true,
+        }
+    }
+}
+
 // The state between two edges: how the last ended, the alarm's edge or 0, and the counts of slots in use and waiting.
 pub struct Progress {
     pub exit: Exit,
@@ -100,17 +113,6 @@ pub fn table_full(used: usize, waiting: usize) -> Progress
         edge: EdgeId(0),
         used,
         waiting,
-    }
-}
-
-// Whether an edge has ended the iteration: none after it is played.
-pub fn has_ended(exit: Exit) -> bool
-    ensures { λ r. ⌜ r ≡ has-ended exit ⌝ }
-{
-    match exit {
-        Exit::On => false,
-        Exit::Alarm => true,
-        Exit::Full => true,
     }
 }
 

@@ -9,7 +9,7 @@ use Rattle.state.specs.Rows.{width-of, Laid}
 use Rattle.waitlist.specs.Waits.{waits, Stored}
 use Rattle.waitlist.proofs.WaitWords.{waits-are, kept}
 use Rattle.reached.specs.Reached.{Kept}
-use Rattle.reached.proofs.Table.{rest-stored, stored}
+use Rattle.reached.proofs.Table.{rest-stored, stored-next}
 
 -- nothing in use yet
 pub empty-kept : (y : Layout) (t l : List ℤ) → 0 < width-of y → width-of y ≤ y .stride → length l < index-limit → length t ≡ length l * y .stride
@@ -57,7 +57,7 @@ module _ {y : Layout} {t l : List ℤ} {used waiting : ℕ} (k : Kept y t l used
 
     -- a successor that is stored there
     pub kept-stored : {l′ : List ℤ} {n′ : ℕ} (e : List ℤ) (len : length e ≡ width-of y) → Stored l′ n′ (waits waiting l ++ (used ∷ [])) → length l′ ≡ length l
-        → Kept y (stored y used t e next-slot-in (k .apart) len) l′ (used + 1) n′
+        → Kept y (stored-next y used t e next-slot-in (k .apart) len) l′ (used + 1) n′
     kept-stored e len p ll = record {
       wide = k .wide;
       apart = k .apart;
@@ -70,5 +70,5 @@ module _ {y : Layout} {t l : List ℤ} {used waiting : ℕ} (k : Kept y t l used
           (more used (used + 1) (waits waiting l) (omega arith) (k .queue)));
     }
       where
-        size : length (stored y used t e next-slot-in (k .apart) len) ≡ length t
+        size : length (stored-next y used t e next-slot-in (k .apart) len) ≡ length t
         size = length-put t (used * y .stride) (width-of y) e (omega (arith, next-slot-in, k .apart)) len

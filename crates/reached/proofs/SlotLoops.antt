@@ -8,9 +8,9 @@ use Rattle.state.specs.Rows.{width-of, row-leq, rows-of}
 use Rattle.waitlist.specs.Waits.{wait-unless}
 
 -- the state of the slot at a is tested, and the slots after it are left
-pub some-turn : (e t : List ℤ) (y : Layout) (a k : ℕ) (b : Bool) → row-leq e (take (width-of y) (drop a t)) ≡ b
+pub covered-turn : (e t : List ℤ) (y : Layout) (a k : ℕ) (b : Bool) → row-leq e (take (width-of y) (drop a t)) ≡ b
     → some-of (row-leq e) (rows-of y (suc k) (drop a t)) ≡ elim b [ true ↦ true | false ↦ some-of (row-leq e) (rows-of y k (drop (a + y .stride) t)) ]
-some-turn e t y a k b h = let d = drop-drop (y .stride) a t in λ i. elim (h i) [ true ↦ true | false ↦ some-of (row-leq e) (rows-of y k (d i)) ]
+covered-turn e t y a k b h = let d = drop-drop (y .stride) a t in λ i. elim (h i) [ true ↦ true | false ↦ some-of (row-leq e) (rows-of y k (d i)) ]
 
 pub unless-queue : (b : Bool) (n k : ℕ) (wa : List ℕ) → k < n → Queue n wa → Queue n (wait-unless b k wa)
 unless-queue true n k wa l q = q

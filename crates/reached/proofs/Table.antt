@@ -87,16 +87,16 @@ module _ (y : Layout) (n : ℕ) (t e : List ℤ) (fits : n * y .stride + y .stri
   abbrev at : ℕ
   at = n * y .stride
 
-  abbrev pub stored : List ℤ
-  stored = take at t ++ (e ++ drop (width-of y) (drop at t))
+  abbrev pub stored-next : List ℤ
+  stored-next = take at t ++ (e ++ drop (width-of y) (drop at t))
 
-  pub rows-stored : rows-of y (n + 1) stored ≡ rows-of y n t ++ (e ∷ [])
+  pub rows-stored : rows-of y (n + 1) stored-next ≡ rows-of y n t ++ (e ∷ [])
   rows-stored =
       let f : at ≤ length t = omega arith in
       let g : at + width-of y ≤ length t = omega arith in
-      rw add-one (rows-snoc y n stored ∙ rw (rows-prefix y apart n t (e ++ drop (width-of y) (drop at t)) f, put-here t at (width-of y) e g len))
+      rw add-one (rows-snoc y n stored-next ∙ rw (rows-prefix y apart n t (e ++ drop (width-of y) (drop at t)) f, put-here t at (width-of y) e g len))
 
-  pub rest-stored : drop at t ≡ replicate (length t - at) (pos 0) → drop ((n + 1) * y .stride) stored ≡ replicate (length t - (n + 1) * y .stride) (pos 0)
+  pub rest-stored : drop at t ≡ replicate (length t - at) (pos 0) → drop ((n + 1) * y .stride) stored-next ≡ replicate (length t - (n + 1) * y .stride) (pos 0)
   rest-stored z =
       let k : (n + 1) * y .stride ≡ at + y .stride = rw add-one (suc-mul n (y .stride)) in
       let q : length t - at - y .stride ≡ length t - (at + y .stride) = omega arith in

@@ -16,8 +16,8 @@ module _ {t : Tally} {rows : List ℤ} {c : Chart} (h : Rows t rows c) (room : u
     pub too-short : length ws < used-words t + counts-size → ltb (length ws) (length (encode c)) ≡ true
     too-short l = lt-ltb (length ws) (length (encode c)) (omega (arith, encode-length, l))
 
-    pub enough : used-words t + counts-size ≤ length ws → ltb (length ws) (length (encode c)) ≡ false
-    enough f = le-ltb (length ws) (length (encode c)) (omega (arith, encode-length, f))
+    pub room-for-chart : used-words t + counts-size ≤ length ws → ltb (length ws) (length (encode c)) ≡ false
+    room-for-chart f = le-ltb (length ws) (length (encode c)) (omega (arith, encode-length, f))
 
     pub held-words : stored 0 (pos (t .vars) ∷ pos (t .locs) ∷ pos (t .edges) ∷ take (used-words t) rows) ws ≡ encode c ++ drop (length (encode c)) ws
     unfolding stored encode

@@ -7,7 +7,7 @@ use Rattle.text.proofs.LineEnds.{lines-at, lines-done}
 use Rattle.text.specs.Places.{line-at, place-after}
 use Rattle.text.specs.declared.lines.Line.{Line}
 use Rattle.text.proofs.Places.{Lies, line-some}
-use Rattle.reader.specs.ReadSoFar.{LineJudged, goes-on, nothing-judged, Along, Through, Goes, Stands-by, Stands, Few-of, Ready}
+use Rattle.reader.specs.ReadSoFar.{LineJudged, goes-on, nothing-judged, Along, Through, Goes, Stands-by, Stands, Few-of, Judgeable}
 use Rattle.reader.specs.declared.Descent.{Descent}
 use Rattle.reader.specs.declared.tally.Tally.{Tally}
 use Rattle.reader.specs.declared.tally.Judgement.{Judgement}
@@ -89,7 +89,7 @@ module _ (text : List ℕ) (at : ℕ) (rows names : List ℤ) where
   counted-now line (judgement.Go t) h = h .counted
 
   -- what `advance` asks
-  pub ready : (p : Descent) (l : Line) → l ≡ line-at text at → p .going ≡ true → Stands text at p rows names → Ready text p l
+  pub ready : (p : Descent) (l : Line) → l ≡ line-at text at → p .going ≡ true → Stands text at p rows names → Judgeable text p l
   ready p l e g h = record { at = at; is = e; few = few-now (p .line) (p .last) (rw g at h); counted = counted-now (p .line) (p .last) (rw g at h) }
 
 -- how many turns are left at most, in a text of n bytes

@@ -6,8 +6,7 @@ use Rattle.semantics.specs.Layout.{most-variables, most-locations, most-edges}
 use Rattle.semantics.specs.Chart.{Var, input, Edge, Op, Chart, in-range}
 use Rattle.semantics.specs.Reading.{Res, fail, ok, check, if-ok, nth, none-empty, number-field, target-field, op-word-field, OpWord, field-count, op-fields-read, So-far, with-edge, var-line, loc-line, edge-line}
 use Rattle.semantics.specs.declared.Arithmetic.the-variants as arithmetic
-use Rattle.semantics.proofs.ReadInBounds.{location-is, target-is}
-use Rattle.semantics.proofs.ReadInBounds.{then-ok as passed}
+use Rattle.semantics.proofs.ReadInBounds.{location-is, target-below, ok-parts}
 use Rattle.chart.specs.Encoded.{ranged}
 use Rattle.text.specs.Fields.{the-word}
 use Rattle.text.specs.declared.Action.the-variants as action
@@ -43,7 +42,7 @@ op-held rows c ranges (word-of.With (action.Compute arithmetic.Add)) fs = refl
 op-held rows c ranges (word-of.With (action.Compute arithmetic.Sub)) fs = refl
 op-held rows c ranges (word-of.With action.In) fs =
     let n = length (c .vars) in
-    input-held rows (c .vars) ranges (target-field n (nth fs 4)) (λ v e. ltb→lt v n (target-is n (nth fs 4) v e)) (number-field (nth fs 5)) (number-field (nth fs 6))
+    input-held rows (c .vars) ranges (target-field n (nth fs 4)) (λ v e. ltb→lt v n (target-below n (nth fs 4) v e)) (number-field (nth fs 5)) (number-field (nth fs 6))
 op-held rows c ranges (word-of.With action.If) fs = refl
 
 -- ---- edges
@@ -56,9 +55,9 @@ edge-counted {t} {ws} s h w fs e = check-yes _ _ e ∙ rw (h .vars, h .locs, op-
 -- an edge's locations are among those of the chart
 pub edge-near : (m : ℕ) (r : Res Op) (fs : List (List ℕ)) {g : Edge} → edge-read m r fs ≡ ok g → (g .from < m) × (g .to < m)
 edge-near m r fs {g} e =
-    let f = passed _ _ e in
-    let t = passed _ _ (f .2) in
-    let o = passed _ _ (t .2) in
+    let f = ok-parts _ _ e in
+    let t = ok-parts _ _ (f .2) in
+    let o = ok-parts _ _ (t .2) in
     let p : f .0 ≡ g .from = cc (o .2) in
     let q : t .0 ≡ g .to = cc (o .2) in
     (omega (arith, ltb→lt (f .0) m (location-is m (nth fs 1) (f .0) (f .1))), omega (arith, ltb→lt (t .0) m (location-is m (nth fs 2) (t .0) (t .1))))
@@ -80,9 +79,9 @@ module _ (s : So-far) (fs : List (List ℕ)) where
       unfolding edge-line
       edge-no-word e = check-yes _ _ (lt-ltb _ _ few) ∙ check-yes _ _ enough ∙ then-fail _ e
 
-      pub edge-word : {w : OpWord} → op-word-field (nth fs 3) ≡ ok w → edge-line s fs ≡ edge-worded s w fs
+      pub edge-by-word : {w : OpWord} → op-word-field (nth fs 3) ≡ ok w → edge-line s fs ≡ edge-worded s w fs
       unfolding edge-line
-      edge-word {w} e =
+      edge-by-word {w} e =
           check-yes _ _ (lt-ltb _ _ few) ∙ check-yes _ _ enough ∙ then-ok _ e
           ∙ ap (check (eqb (length fs) (field-count w)) 5) (sym (simp step-by-step))
 

@@ -129,7 +129,7 @@ Few-of (judgement.Refused k) = Unit {0}
 Few-of (judgement.Go t) = Few t
 
 -- what it takes to judge l: it is a line of the text, and the counts are those of lines before it
-pub record Ready (text : List ℕ) (p : Descent) (l : Line) : Type 0 where
+pub record Judgeable (text : List ℕ) (p : Descent) (l : Line) : Type 0 where
   pub at : ℕ
   pub is : l ≡ line-at text at
   pub few : Few-of (p .last)

@@ -12,7 +12,7 @@ ghost use lib.ListN.{length};
 ghost use Rattle.semantics.specs.Layout.{most-edges};
 ghost use Rattle.semantics.specs.Text.{fields};
 ghost use Rattle.semantics.specs.Reading.{So-far, none-empty, edge-line};
-ghost use Rattle.semantics.specs.Reading.{field-count as field-count-of};
+ghost use Rattle.semantics.specs.Reading.{field-count};
 ghost use Rattle.text.specs.Fields.{the-word};
 ghost use Rattle.chart.specs.Rows.{stored};
 ghost use Rattle.reader.specs.Answers.{op-res, edge-res};
@@ -40,7 +40,7 @@ enum EdgeRead {
 
 // How many fields a line with this operation has.
 fn field_count(w: text::OpWord) -> usize
-    ensures { λ r. ⌜ r ≡ field-count-of (the-word w) ⌝ }
+    ensures { λ r. ⌜ r ≡ field-count (the-word w) ⌝ }
 {
     match w {
         text::OpWord::Skip => 4,
@@ -90,7 +90,7 @@ fn worded(w: text::OpWord, t: Tally, rows: &mut [i32], line: &[u8]) -> Judgement
     requires { ⌜ Few t × (t .edges < most-edges) × (length (now rows) ≡ most-rows) ⌝ }
     ensures { λ r. ⌜ ((s : So-far) (names : List ℤ) → Rows t (now (rows .entry)) (s .chart) → Names (t .vars) names (s .names) → LineJudged r (edge-worded s (the-word w) (fields (now (line .entry)))) (now (rows .exit)) names) ⌝ }
 {
-    if text::field_count(line) != field_count(w) {
+    if text::count_fields(line) != field_count(w) {
         return Judgement::Refused(5);
     }
     match judged(w, t, rows, line) {
@@ -111,7 +111,7 @@ fn worded(w: text::OpWord, t: Tally, rows: &mut [i32], line: &[u8]) -> Judgement
 fn enough(line: &[u8]) -> bool
     ensures { λ r. ⌜ r ≡ leb 4 (length (fields (now (line .entry)))) && none-empty (fields (now (line .entry))) ⌝ }
 {
-    (4 <= text::field_count(line)) & text::none_empty(line)
+    (4 <= text::count_fields(line)) & text::none_empty(line)
 }
 
 // An E line. How many fields it has goes by its operation, so that this is read first.

@@ -9,7 +9,7 @@ ghost use Rattle.semantics.specs.Chart.{Chart};
 ghost use Rattle.semantics.specs.Encoding.{encode};
 ghost use Rattle.semantics.specs.Reading.{So-far, judge, at-end, refused-at, bad-byte-line, open-line};
 ghost use Rattle.semantics.specs.Outcomes.{chart-outcome, held-by, read-outcome};
-ghost use Rattle.reader.specs.ReadSoFar.{Few, Rows, Names, LineJudged, lines-judged, goes-on, nothing-judged, Came, Ready, Advanced, most-rows, most-names};
+ghost use Rattle.reader.specs.ReadSoFar.{Few, Rows, Names, LineJudged, lines-judged, goes-on, nothing-judged, Came, Judgeable, Advanced, most-rows, most-names};
 
 mod edge;
 mod location;
@@ -43,7 +43,7 @@ fn copy_out(t: Tally, rows: &[i32], words: &mut [i32]) -> semantics::Answer
 }
 
 // After the last line: 8, where there is no location.
-fn finish(t: Tally, rows: &[i32], words: &mut [i32]) -> semantics::Answer
+fn at_end(t: Tally, rows: &[i32], words: &mut [i32]) -> semantics::Answer
     requires { ⌜ Few t × (length (now rows) ≡ most-rows) ⌝ }
     ensures answered { λ r. ⌜ ((c : Chart) → Rows t (now (rows .entry)) c → r ≡ held-by (at-end c) (now (words .entry)) .answer) ⌝ }
     ensures written { λ _. ⌜ ((c : Chart) → Rows t (now (rows .entry)) c → now (words .exit) ≡ held-by (at-end c) (now (words .entry)) .words) ⌝ }
@@ -97,7 +97,7 @@ fn advance(
     text: &[u8],
     l: text::lines::Line,
 ) -> Descent
-    requires { ⌜ Ready (now text) p l × (length (now rows) ≡ most-rows) × (length (now names) ≡ most-names) ⌝ }
+    requires { ⌜ Judgeable (now text) p l × (length (now rows) ≡ most-rows) × (length (now names) ≡ most-names) ⌝ }
     ensures { λ r. ⌜ Advanced (now (text .entry)) l p (now (rows .entry)) (now (names .entry)) r (now (rows .exit)) (now (names .exit)) ⌝ }
 {
     let s = p.last;
@@ -120,7 +120,7 @@ fn advance(
 }
 
 // Before the first line.
-fn begun() -> Descent
+fn nothing_judged() -> Descent
     ensures { λ r. ⌜ r ≡ nothing-judged ⌝ }
 {
     Descent {
@@ -140,9 +140,9 @@ fn go_down(text: &[u8], rows: &mut [i32], names: &mut [i32]) -> Descent
     ensures { λ r. ⌜ Came (now (text .entry)) (r .line) (r .last) (now (rows .exit)) ⌝ }
 {
     let mut r = text::lines::open(text);
-    let mut p = begun();
+    let mut p = nothing_judged();
     while p.going {
-        let l = text::lines::current(r);
+        let l = r.current();
         r.at = text::lines::place_after(l, r.at);
         p = advance(p, rows, names, text, l);
     }
@@ -160,7 +160,7 @@ fn read_lines(text: &[u8], words: &mut [i32]) -> semantics::Answer
     let s = p.last;
     match s {
         Judgement::Refused(k) => semantics::refused(k, p.line),
-        Judgement::Go(t) => finish(t, &rows, words),
+        Judgement::Go(t) => at_end(t, &rows, words),
     }
 }
 

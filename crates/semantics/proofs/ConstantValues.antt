@@ -181,25 +181,25 @@ effect-gives vars skip vs xs ys r q m h = (vs, refl, rw h m)
 -- ---- what the moves keep
 
 -- P of the values, where there are any
-Kept : (List Value → Type 0) → Option (List Value) → Type 0
-Kept P none = Unit
-Kept P (some us) = P us
+Whenever : (List Value → Type 0) → Option (List Value) → Type 0
+Whenever P none = Unit
+Whenever P (some us) = P us
 
 -- P is kept by a new value at variable k that is Ok there, as each number of k's range and top are
 module _ (c : Chart) (P : List Value → Type 0) (Ok : ℕ → Value → Type 0) (known-ok : (k : ℕ) (z : ℤ) → T (in-range (c .vars) k z) → Ok k (known z)) (top-ok : (k : ℕ) → Ok k top)
     (set-keeps : (k : ℕ) (v : Value) (vs : List Value) → Ok k v → P vs → P (set vs k v)) where
-  some-keeps : (b : Bool) (us : List Value) → (T b → P us) → Kept P (pick b (some us) none)
-  unfolding Kept
+  some-keeps : (b : Bool) (us : List Value) → (T b → P us) → Whenever P (pick b (some us) none)
+  unfolding Whenever
   some-keeps true us h = h tt
   some-keeps false us h = tt
 
-  assign-keeps : (k : ℕ) (v : Value) (vs : List Value) → P vs → Kept P (assign-value (c .vars) k v vs)
-  unfolding Kept
+  assign-keeps : (k : ℕ) (v : Value) (vs : List Value) → P vs → Whenever P (assign-value (c .vars) k v vs)
+  unfolding Whenever
   assign-keeps k (known z) vs h = some-keeps (in-range (c .vars) k z) (set vs k (known z)) (λ t. set-keeps k (known z) vs (known-ok k z t) h)
   assign-keeps k top vs h = set-keeps k top vs (top-ok k) h
 
-  one-known-keeps : (r : Rel) (a : Operand) (z : ℤ) (vs : List Value) → P vs → Kept P (one-known (c .vars) r a z vs)
-  unfolding Kept
+  one-known-keeps : (r : Rel) (a : Operand) (z : ℤ) (vs : List Value) → P vs → Whenever P (one-known (c .vars) r a z vs)
+  unfolding Whenever
   one-known-keeps eq (num a) z vs h = h
   one-known-keeps eq (var k) z vs h = assign-keeps k (known z) vs h
   one-known-keeps ne a z vs h = h
@@ -208,8 +208,8 @@ module _ (c : Chart) (P : List Value → Type 0) (Ok : ℕ → Value → Type 0)
   one-known-keeps gt a z vs h = h
   one-known-keeps ge a z vs h = h
 
-  tested-keeps : (r : Rel) (a b : Operand) (v w : Value) (vs : List Value) → P vs → Kept P (tested (c .vars) r a b v w vs)
-  unfolding Kept
+  tested-keeps : (r : Rel) (a b : Operand) (v w : Value) (vs : List Value) → P vs → Whenever P (tested (c .vars) r a b v w vs)
+  unfolding Whenever
   tested-keeps r a b (known x) (known y) vs h = some-keeps (holds r x y) vs (λ t. h)
   tested-keeps r a b (known x) top vs h = one-known-keeps r b x vs h
   tested-keeps r a b top (known y) vs h = one-known-keeps r a y vs h
@@ -219,8 +219,8 @@ module _ (c : Chart) (P : List Value → Type 0) (Ok : ℕ → Value → Type 0)
   abbrev pub InputOk : Op → Type 0
   InputOk o = (v : ℕ) (p q : ℤ) → o ≡ input v p q → Ok v (one-of p q)
 
-  effect-keeps : (o : Op) (vs : List Value) → InputOk o → P vs → Kept P (effect (c .vars) o vs)
-  unfolding Kept
+  effect-keeps : (o : Op) (vs : List Value) → InputOk o → P vs → Whenever P (effect (c .vars) o vs)
+  unfolding Whenever
   effect-keeps (assign v a) vs i h = assign-keeps v (operand-value a vs) vs h
   effect-keeps (add v a b) vs i h = assign-keeps v (both _+ℤ_ (operand-value a vs) (operand-value b vs)) vs h
   effect-keeps (sub v a b) vs i h = assign-keeps v (both _-ℤ_ (operand-value a vs) (operand-value b vs)) vs h
@@ -230,10 +230,10 @@ module _ (c : Chart) (P : List Value → Type 0) (Ok : ℕ → Value → Type 0)
 
   -- a move ends at the edge's target, with P
   pub post-keeps : (g : Edge) (e f : AbstractState) → InputOk (g .op) → P (e .vals) → post c g e ≡ to f → (g .to ≡ f .loc) × P (f .vals)
-  unfolding post Kept
+  unfolding post Whenever
   post-keeps g e f i h p = go (eqb (g .from) (e .loc)) p
     where
-      ends : (o : Option (List Value)) → Kept P o → arrive-at (g .to) o ≡ to f → (g .to ≡ f .loc) × P (f .vals)
+      ends : (o : Option (List Value)) → Whenever P o → arrive-at (g .to) o ≡ to f → (g .to ≡ f .loc) × P (f .vals)
       ends none k q = absurd (halt-to refl q)
       ends (some us) k q =
           let same : _≡_ {A = AbstractState} (record { loc = g .to; vals = us }) f = cc in

@@ -5,7 +5,7 @@ use Rattle.semantics.specs.Layout.{most-bytes, input-bytes}
 use Rattle.semantics.specs.Reading.{Res, fail, ok, check, refused, read}
 use Rattle.semantics.specs.Program.{has-lf, first-line, past-line, Go, go-line, print-read, print-go, output}
 use Rattle.semantics.proofs.Bools.{from-true, to-true}
-use Rattle.semantics.proofs.ReadInBounds.{check-ok, then-ok}
+use Rattle.semantics.proofs.ReadInBounds.{check-ok, ok-parts}
 use Rattle.semantics.proofs.Program.{GoOk}
 
 -- ---- the go line
@@ -22,9 +22,9 @@ go-fine input g e =
     let ends = check-ok _ _ _ plain .1 in
     let six = check-ok _ _ _ ends .1 in
     let go = check-ok _ _ _ six .1 in
-    let settings = then-ok _ _ go in
-    let capacity = then-ok _ _ (settings .2) in
-    let budget = then-ok _ _ (capacity .2) in
+    let settings = ok-parts _ _ go in
+    let capacity = ok-parts _ _ (settings .2) in
+    let budget = ok-parts _ _ (capacity .2) in
     let eleven = check-ok _ _ _ (budget .2) in
     let twelve = check-ok _ _ _ (eleven .1) in
     let thirteen = check-ok _ _ _ (twelve .1) in

@@ -13,7 +13,7 @@ use Rattle.semantics.specs.Outcomes.{text-of}
 use Rattle.semantics.specs.Listing.{mode-text, order-text, verdict-text, loc-text, val-text, mark, slot-text, slots-text, listing-text}
 use Rattle.semantics.specs.Tidy.{Every}
 use Rattle.semantics.proofs.Bools.{and-left, and-right, both-true}
-use Rattle.semantics.proofs.MemoryOf.{counted, Good}
+use Rattle.semantics.proofs.MemoryOf.{counted, Proper}
 use Rattle.semantics.proofs.StatesOk.{ValOk, ValsOk, StateOk, Bounds}
 use Rattle.semantics.proofs.MemoryInForm.{form, states-count, rows-states}
 use Rattle.semantics.proofs.Numbers.{digits-few}
@@ -117,7 +117,7 @@ module _ (c : Chart) (b : Bounds c) where
       iterations-short : length (decimal (w .iterations)) ≤ 5
       iterations-short = omega (arith, digits-few 4 (w .iterations) (w .iterations) [] (omega (arith, i)))
 
-  pub listing-short : (w : Exploration AbstractState) → Good c w → length (listing-text c w) ≤ listing-bytes
+  pub listing-short : (w : Exploration AbstractState) → Proper c w → length (listing-text c w) ≤ listing-bytes
   listing-short w g = listing-fits w (omega (arith, g .tidy .within, counted (pos (w .capacity)) (g .capacity) .few)) (g .iterations) (g .tidy .edge-in) (g .tidy .every)
 
   -- and of any analysis in form, whoever made it

@@ -148,13 +148,13 @@ module _ (c : Chart) where
       (first-formed (row e) (each row es ++ rest) (length es) (row-length e (h .0)) (row-formed e (h .0)) (rows-formed es rest (h .1)))
 
   -- what every exploration keeps that was begun by a start that went through
-  pub record Good (w : Exploration AbstractState) : Type 0 where
+  pub record Proper (w : Exploration AbstractState) : Type 0 where
     pub tidy : Tidy (StateOk c) (length (c .edges)) w
     pub held : Sound (system c) (constants c) (Fit c) (Covers c) (laws c) w
     pub capacity : T (capacity-ok (pos (w .capacity)))
     pub iterations : w .iterations ≤ most-iterations
 
-  module _ (b : Bounds c) (w : Exploration AbstractState) (g : Good w) where
+  module _ (b : Bounds c) (w : Exploration AbstractState) (g : Proper w) where
     rows-fit : length (each row (w .reached)) ≤ w .capacity * width c
     rows-fit = omega (arith, rows-length (w .reached) (g .tidy .every), mul-le-mul-right (width c) (g .tidy .within))
 

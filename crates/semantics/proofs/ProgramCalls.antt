@@ -12,7 +12,7 @@ use Rattle.semantics.specs.Listing.{listing-text}
 use Rattle.semantics.specs.Outcomes.{fine, too-few, budget-ok, started, resumed, put-in, read-outcome, start-outcome, run-outcome, listing-outcome}
 use Rattle.semantics.specs.Program.{Go}
 use Rattle.semantics.proofs.StatesOk.{Bounds}
-use Rattle.semantics.proofs.MemoryOf.{counted, Good, table-length, list-length, load-back, formed-back}
+use Rattle.semantics.proofs.MemoryOf.{counted, Proper, table-length, list-length, load-back, formed-back}
 use Rattle.semantics.proofs.Encoded.{encode-short, formed-bounds}
 use Rattle.semantics.proofs.ReadInBounds.{in-bounds}
 use Rattle.semantics.proofs.ListingShort.{listing-short}
@@ -39,7 +39,7 @@ module _ (words : List ℤ) (formed : T (well-formed words)) where
       rw (to-true (capacity-ok (g .capacity)) (h .capacity), to-true (allowed (g .settings .merge) (g .settings .stop)) (h .modes), to-true (well-formed words) formed, never-too-few chart b (natAbs (g .capacity)) (length (m .table)) (length (m .waitlist)) (counted (g .capacity) (h .capacity) .few) (omega arith) (omega arith))
 
   -- on words that hold an exploration, over any others
-  module _ (w : Exploration AbstractState) (good : Good chart w) (m : Memory) (t : length (m .table) ≡ table-words) (l : length (m .waitlist) ≡ most-slots) where
+  module _ (w : Exploration AbstractState) (good : Proper chart w) (m : Memory) (t : length (m .table) ≡ table-words) (l : length (m .waitlist) ≡ most-slots) where
     abbrev held : Memory
     held = put-in chart w m
 

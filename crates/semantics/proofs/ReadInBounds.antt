@@ -22,9 +22,9 @@ check-ok b n r {a} e = go b e
     go true e = (tt, e)
     go false e = absurd (fail-ok e)
 
-pub then-ok : {A B : Type 0} (r : Res A) (f : A → Res B) {b : B} → if-ok r f ≡ ok b → (a : A) × (r ≡ ok a) × (f a ≡ ok b)
+pub ok-parts : {A B : Type 0} (r : Res A) (f : A → Res B) {b : B} → if-ok r f ≡ ok b → (a : A) × (r ≡ ok a) × (f a ≡ ok b)
 unfolding if-ok
-then-ok {A} r f {b} e = go r e
+ok-parts {A} r f {b} e = go r e
   where
     go : (r : Res A) → if-ok r f ≡ ok b → (a : A) × (r ≡ ok a) × (f a ≡ ok b)
     go (fail n) e = absurd (fail-ok e)
@@ -49,18 +49,18 @@ pub location-is : (n : ℕ) (f : List ℕ) (k : ℕ) → location-field n f ≡ 
 unfolding location-field
 location-is n f k e = below-is n (number-of f) k e
 
-pub target-is : (n : ℕ) (f : List ℕ) (k : ℕ) → target-field n f ≡ ok k → T (ltb k n)
+pub target-below : (n : ℕ) (f : List ℕ) (k : ℕ) → target-field n f ≡ ok k → T (ltb k n)
 unfolding target-field
-target-is n [] k e = absurd (fail-ok e)
-target-is n (b ∷ bs) k e = below-is n (nonnegative (natural-of bs)) k (check-ok _ _ _ e .1)
+target-below n [] k e = absurd (fail-ok e)
+target-below n (b ∷ bs) k e = below-is n (nonnegative (natural-of bs)) k (check-ok _ _ _ e .1)
 
 operand-is : (vars : List Var) (f : List ℕ) (a : Operand) → operand-field (length vars) f ≡ ok a → T (operand-ok vars a)
 unfolding operand-field
 operand-is vars f a e = go (eqb (getD f 0 0) 36) e
   where
     go : (b : Bool) → pick b (if-ok (target-field (length vars) f) (λ k. ok (var k))) (if-ok (number-field f) (λ z. ok (num z))) ≡ ok a → T (operand-ok vars a)
-    go true e = let r = then-ok _ _ e in let p : var (r .0) ≡ a = cc (r .2) in subst (λ (x : Operand). T (operand-ok vars x)) p (target-is (length vars) f (r .0) (r .1))
-    go false e = let r = then-ok _ _ e in let p : num (r .0) ≡ a = cc (r .2) in subst (λ (x : Operand). T (operand-ok vars x)) p (number-small f (r .0) (r .1))
+    go true e = let r = ok-parts _ _ e in let p : var (r .0) ≡ a = cc (r .2) in subst (λ (x : Operand). T (operand-ok vars x)) p (target-below (length vars) f (r .0) (r .1))
+    go false e = let r = ok-parts _ _ e in let p : num (r .0) ≡ a = cc (r .2) in subst (λ (x : Operand). T (operand-ok vars x)) p (number-small f (r .0) (r .1))
 
 init-is : (lo hi : ℤ) (f : List ℕ) (x : Value) → init-field lo hi f ≡ ok x → T (init-ok lo hi x)
 unfolding init-field
@@ -69,7 +69,7 @@ init-is lo hi f x e = go (same-bytes f (42 ∷ [])) e
     go : (b : Bool) → pick b (ok top) (if-ok (number-field f) (λ z. check (within lo hi z) 7 (ok (known z)))) ≡ ok x → T (init-ok lo hi x)
     go true e = let p : top ≡ x = cc in subst (λ (y : Value). T (init-ok lo hi y)) p tt
     go false e =
-        let r = then-ok _ _ e in
+        let r = ok-parts _ _ e in
         let u = check-ok _ _ _ (r .2) in
         let p : known (r .0) ≡ x = cc (u .1) in
         subst (λ (y : Value). T (init-ok lo hi y)) p (both-true (small (r .0)) (within lo hi (r .0)) (number-small f (r .0) (r .1)) (u .0))
@@ -85,13 +85,13 @@ two-operands : (c : Chart) (make : ℕ → Operand → Operand → Op) (fs : Lis
     → if-ok (target-field (length (c .vars)) (nth fs 4)) (λ v. if-ok (operand-field (length (c .vars)) (nth fs 5)) (λ a. if-ok (operand-field (length (c .vars)) (nth fs 6)) (λ b. ok (make v a b)))) ≡ ok o
     → T (op-ok (c .vars) o)
 two-operands c make fs o same e =
-    let r = then-ok _ _ e in
-    let u = then-ok _ _ (r .2) in
-    let v = then-ok _ _ (u .2) in
+    let r = ok-parts _ _ e in
+    let u = ok-parts _ _ (r .2) in
+    let v = ok-parts _ _ (u .2) in
     let p : make (r .0) (u .0) (v .0) ≡ o = cc (v .2) in
     subst (λ (x : Op). T (op-ok (c .vars) x)) p
     (rw (same (r .0) (u .0) (v .0))
-    (and3 (ltb (r .0) (length (c .vars))) (operand-ok (c .vars) (u .0)) (operand-ok (c .vars) (v .0)) (target-is (length (c .vars)) (nth fs 4) (r .0) (r .1)) (operand-is (c .vars) (nth fs 5) (u .0) (u .1)) (operand-is (c .vars) (nth fs 6) (v .0) (v .1))))
+    (and3 (ltb (r .0) (length (c .vars))) (operand-ok (c .vars) (u .0)) (operand-ok (c .vars) (v .0)) (target-below (length (c .vars)) (nth fs 4) (r .0) (r .1)) (operand-is (c .vars) (nth fs 5) (u .0) (u .1)) (operand-is (c .vars) (nth fs 6) (v .0) (v .1))))
 
 -- `in` from p on: a lemma over v and p, since what is inferred over them grows with what they stand for
 input-is : (vars : List Var) (fs : List (List ℕ)) (o : Op) (v : ℕ) (p : ℤ) → T (ltb v (length vars)) → T (small p)
@@ -99,7 +99,7 @@ input-is : (vars : List Var) (fs : List (List ℕ)) (o : Op) (v : ℕ) (p : ℤ)
     → T (op-ok vars o)
 input-is vars fs o v p below low e =
     let k = check-ok _ _ _ e in
-    let u = then-ok _ _ (k .1) in
+    let u = ok-parts _ _ (k .1) in
     let m = check-ok _ _ _ (u .2) in
     let q = u .0 in
     let same : input v p q ≡ o = cc (m .1) in
@@ -111,22 +111,22 @@ input-is vars fs o v p below low e =
 op-is : (c : Chart) (w : OpWord) (fs : List (List ℕ)) (o : Op) → op-fields-read c w fs ≡ ok o → T (op-ok (c .vars) o)
 unfolding op-fields-read
 op-is c do-set fs o e =
-    let r = then-ok _ _ e in
-    let u = then-ok _ _ (r .2) in
+    let r = ok-parts _ _ e in
+    let u = ok-parts _ _ (r .2) in
     let p : assign (r .0) (u .0) ≡ o = cc (u .2) in
-    subst (λ (x : Op). T (op-ok (c .vars) x)) p (both-true (ltb (r .0) (length (c .vars))) (operand-ok (c .vars) (u .0)) (target-is (length (c .vars)) (nth fs 4) (r .0) (r .1)) (operand-is (c .vars) (nth fs 5) (u .0) (u .1)))
+    subst (λ (x : Op). T (op-ok (c .vars) x)) p (both-true (ltb (r .0) (length (c .vars))) (operand-ok (c .vars) (u .0)) (target-below (length (c .vars)) (nth fs 4) (r .0) (r .1)) (operand-is (c .vars) (nth fs 5) (u .0) (u .1)))
 op-is c do-add fs o e = two-operands c add fs o (λ v a b. refl) e
 op-is c do-sub fs o e = two-operands c sub fs o (λ v a b. refl) e
 op-is c do-in fs o e =
-    let r = then-ok _ _ e in
-    let u = then-ok _ _ (r .2) in
-    input-is (c .vars) fs o (r .0) (u .0) (target-is (length (c .vars)) (nth fs 4) (r .0) (r .1)) (number-small (nth fs 5) (u .0) (u .1)) (u .2)
+    let r = ok-parts _ _ e in
+    let u = ok-parts _ _ (r .2) in
+    input-is (c .vars) fs o (r .0) (u .0) (target-below (length (c .vars)) (nth fs 4) (r .0) (r .1)) (number-small (nth fs 5) (u .0) (u .1)) (u .2)
 op-is c do-if fs o e =
-    let r = then-ok _ _ e in
-    let u = then-ok _ _ (r .2) in
-    let v = then-ok _ _ (u .2) in
+    let r = ok-parts _ _ e in
+    let u = ok-parts _ _ (r .2) in
+    let v = ok-parts _ _ (u .2) in
     let p : assume (r .0) (u .0) (v .0) ≡ o = cc (v .2) in
-    subst (λ (x : Op). T (op-ok (c .vars) x)) p (both-true (ltb (r .0) (length (c .vars))) (operand-ok (c .vars) (v .0)) (target-is (length (c .vars)) (nth fs 4) (r .0) (r .1)) (operand-is (c .vars) (nth fs 6) (v .0) (v .1)))
+    subst (λ (x : Op). T (op-ok (c .vars) x)) p (both-true (ltb (r .0) (length (c .vars))) (operand-ok (c .vars) (v .0)) (target-below (length (c .vars)) (nth fs 4) (r .0) (r .1)) (operand-is (c .vars) (nth fs 6) (v .0) (v .1)))
 op-is c do-skip fs o e = let p : skip ≡ o = cc in subst (λ (x : Op). T (op-ok (c .vars) x)) p tt
 
 -- ---- one line
@@ -164,10 +164,10 @@ var-sound s t fs e h =
     let k₂ = check-ok _ _ _ (k₁ .1) in
     let k₃ = check-ok _ _ _ (k₂ .1) in
     let k₄ = check-ok _ _ _ (k₃ .1) in
-    let lo = then-ok _ _ (k₄ .1) in
-    let hi = then-ok _ _ (lo .2) in
+    let lo = ok-parts _ _ (k₄ .1) in
+    let hi = ok-parts _ _ (lo .2) in
     let k₅ = check-ok _ _ _ (hi .2) in
-    let x = then-ok _ _ (k₅ .1) in
+    let x = ok-parts _ _ (k₅ .1) in
     let k₆ = check-ok _ _ _ (x .2) in
     let v : Var = record { lo = lo .0; hi = hi .0; init = x .0 } in
     let p : with-var s (nth fs 1) v ≡ t = cc (k₆ .1) in
@@ -189,7 +189,7 @@ loc-sound s t fs e h =
     let k₂ = check-ok _ _ _ (k₁ .1) in
     let k₃ = check-ok _ _ _ (k₂ .1) in
     let k₄ = check-ok _ _ _ (k₃ .1) in
-    let k = then-ok _ _ (k₄ .1) in
+    let k = ok-parts _ _ (k₄ .1) in
     let k₅ = check-ok _ _ _ (k .2) in
     let l : Loc = record { name = nth fs 1; error = k .0 } in
     let p : with-loc s l ≡ t = cc (k₅ .1) in
@@ -208,11 +208,11 @@ unfolding edge-line
 edge-sound s t fs e h =
     let k₁ = check-ok _ _ _ e in
     let k₂ = check-ok _ _ _ (k₁ .1) in
-    let w = then-ok _ _ (k₂ .1) in
+    let w = ok-parts _ _ (k₂ .1) in
     let k₃ = check-ok _ _ _ (w .2) in
-    let f = then-ok _ _ (k₃ .1) in
-    let u = then-ok _ _ (f .2) in
-    let o = then-ok _ _ (u .2) in
+    let f = ok-parts _ _ (k₃ .1) in
+    let u = ok-parts _ _ (f .2) in
+    let o = ok-parts _ _ (u .2) in
     let g : Edge = record { from = f .0; to = u .0; op = o .0 } in
     let p : with-edge s g ≡ t = cc (o .2) in
     let good : T (edge-ok (s .chart) g) = and3 (ltb (f .0) (length (s .chart .locs))) (ltb (u .0) (length (s .chart .locs))) (op-ok (s .chart .vars) (o .0)) (location-is (length (s .chart .locs)) (nth fs 1) (f .0) (f .1)) (location-is (length (s .chart .locs)) (nth fs 2) (u .0) (u .1)) (op-is (s .chart) (w .0) fs (o .0) (o .1)) in

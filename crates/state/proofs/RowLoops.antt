@@ -31,8 +31,8 @@ module _ (e s : List ℤ) (i : ℕ) (he : length e ≤ i) (hs : length s ≤ i) 
   pub leq-end : (t : Bool) → t && words-leq (drop i e) (drop i s) ≡ t
   leq-end t = rw (drop-of-length-le e he, drop-of-length-le s hs) (and-true t)
 
-  pub same-end : (t : Bool) → t && same-words (words-join (drop i e) (drop i s)) (drop i s) ≡ t
-  same-end t = rw (drop-of-length-le e he, drop-of-length-le s hs) (and-true t)
+  pub joined-end : (t : Bool) → t && same-words (words-join (drop i e) (drop i s)) (drop i s) ≡ t
+  joined-end t = rw (drop-of-length-le e he, drop-of-length-le s hs) (and-true t)
 
   pub join-end : take i s ++ words-join (drop i e) (drop i s) ≡ s
   join-end = rw (drop-of-length-le s hs, drop-of-length-le e he, take-all i s hs) (append-nil s)

@@ -10,7 +10,7 @@ use lib.ListN.{length, take, drop, set}
 use Rattle.semantics.specs.Lists.{pick, all-pairs}
 use Rattle.semantics.specs.Chart.{eqZ}
 use Rattle.semantics.specs.Layout.{most-variables, top-word}
-use Rattle.semantics.specs.Encoding.{word-at, count}
+use Rattle.semantics.specs.Encoding.{word-at, variable-count}
 use Rattle.semantics.specs.Algorithm.{Domain, Step}
 use Rattle.state.specs.declared.Layout.{Layout}
 
@@ -37,8 +37,8 @@ abbrev pub layout-of : List ℤ → Layout
 layout-of ws = record {
   head = head-size;
   value = value-size;
-  variables = count ws 0;
-  stride = head-size + value-size * count ws 0;
+  variables = variable-count ws;
+  stride = head-size + value-size * variable-count ws;
 }
 
 -- the word of a row's location

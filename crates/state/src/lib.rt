@@ -44,7 +44,7 @@ pub fn layout_of(chart: &[i32]) -> Layout
     ensures layout { λ r. ⌜ r ≡ layout-of (now (chart .entry)) ⌝ }
     ensures small { λ r. ⌜ width-of r ≤ index-limit ⌝ }
 {
-    let variables = chart::var_count(chart);
+    let variables = chart::variable_count(chart);
     Layout {
         head: HEAD,
         value: VALUE,

@@ -35,10 +35,10 @@ module _ (l : List ℕ) (n i : ℕ) where
   digits-high h hi = rw (drop-cons l i 0) (simp (lt-leb _ _ hi, and-false))
 
 -- numbers that are the same once cut lead to the same answer
-pub cut-same : (l : List ℕ) (n m : ℕ) → min n 100000 ≡ min m 100000 → natural-read (digits n l) ≡ natural-read (digits m l)
+pub capped-same : (l : List ℕ) (n m : ℕ) → min n 100000 ≡ min m 100000 → natural-read (digits n l) ≡ natural-read (digits m l)
 unfolding digits natural-read
-cut-same [] n m h = ap natural.Is h
-cut-same (b ∷ bs) n m h = go (between 48 57 b) (cut-same bs (n * 10 + (b - 48)) (m * 10 + (b - 48)) (omega arith))
+capped-same [] n m h = ap natural.Is h
+capped-same (b ∷ bs) n m h = go (between 48 57 b) (capped-same bs (n * 10 + (b - 48)) (m * 10 + (b - 48)) (omega arith))
   where
     go : (t : Bool) → natural-read (digits (n * 10 + (b - 48)) bs) ≡ natural-read (digits (m * 10 + (b - 48)) bs)
         → natural-read (pick t (digits (n * 10 + (b - 48)) bs) none) ≡ natural-read (pick t (digits (m * 10 + (b - 48)) bs) none)

@@ -82,7 +82,7 @@ fn parted(b: u8) -> usize
     0
 }
 
-pub fn field_count(line: &[u8]) -> usize
+pub fn count_fields(line: &[u8]) -> usize
     ensures { λ r. ⌜ r ≡ length (fields (now (line .entry))) ⌝ }
 {
     let mut n = 1;
@@ -115,7 +115,7 @@ pub fn none_empty(line: &[u8]) -> bool
 pub fn filled(line: &[u8], count: usize) -> bool
     ensures { λ r. ⌜ r ≡ filled-with count (fields (now (line .entry))) ⌝ }
 {
-    (field_count(line) == count) & none_empty(line)
+    (count_fields(line) == count) & none_empty(line)
 }
 
 // The most bytes of a name.

@@ -51,9 +51,11 @@ pub fn open<'a>(text: &'a [u8]) -> Reader<'a>
     Reader { text, at: 0 }
 }
 
-// The line at the reader's place.
-pub fn current<'a>(r: Reader<'a>) -> Line
-    ensures { λ l. ⌜ l ≡ line-at (now (r .entry .text)) (r .entry .at) ⌝ }
-{
-    line_at(r.text, r.at)
+impl<'a> Reader<'a> {
+    // The line at the reader's place.
+    pub fn current(self) -> Line
+        ensures { λ l. ⌜ l ≡ line-at (now (self .entry .text)) (self .entry .at) ⌝ }
+    {
+        line_at(self.text, self.at)
+    }
 }

@@ -11,7 +11,7 @@ use Rattle.semantics.specs.Encoding.{word, encode, count, decode, op-ok, edge-o
 use Rattle.semantics.specs.Memory.{row}
 use Rattle.semantics.proofs.Bools.{and-left, and-right}
 use Rattle.semantics.proofs.Tidy.{Keeps}
-use Rattle.semantics.proofs.StatesOk.{StateOk, join-ok, bounds, keeps, initial-ok}
+use Rattle.semantics.proofs.StatesOk.{StateOk, join-ok, bounds, states-kept, initial-ok}
 use Rattle.semantics.proofs.Encoded.{well-formed-split}
 use Rattle.semantics.proofs.Simulate.{AllPairs, StepR, Agree}
 use Rattle.words.proofs.Words.{eqZ-sym}
@@ -19,23 +19,23 @@ use Rattle.state.specs.Rows.{word-limit, id-word, word-leq, word-join, words-jo
 use Rattle.state.proofs.Layouts.{id-fits}
 use Rattle.transfer.specs.Transfer.{edge-at, edges-from, post-at, post-words, error-row, initial-row}
 use Rattle.transfer.proofs.Places.{edge-word, error-is, initial-is}
-use Rattle.transfer.proofs.Effects.{Plain, AllPlain, values-plain, row-step, effect-is}
+use Rattle.transfer.proofs.Effects.{Writable, AllPlain, values-plain, row-step, effect-is}
 
 -- ---- one value
 
-equal-is : (x y : Value) → Plain x → Plain y → eqZ (word x) (word y) ≡ equal-value x y
+equal-is : (x y : Value) → Writable x → Writable y → eqZ (word x) (word y) ≡ equal-value x y
 equal-is (known a) (known b) p q = refl
 equal-is (known a) top p q = p
 equal-is top (known b) p q = eqZ-sym top-word b ∙ q
 equal-is top top p q = refl
 
-leq-is : (x y : Value) → Plain x → Plain y → word-leq (word x) (word y) ≡ leq-value x y
+leq-is : (x y : Value) → Writable x → Writable y → word-leq (word x) (word y) ≡ leq-value x y
 leq-is (known a) (known b) p q = rw q
 leq-is (known a) top p q = refl
 leq-is top (known b) p q = rw (q, eqZ-sym top-word b, q)
 leq-is top top p q = refl
 
-join-is : (x y : Value) → Plain x → Plain y → word-join (word x) (word y) ≡ word (join-value x y)
+join-is : (x y : Value) → Writable x → Writable y → word-join (word x) (word y) ≡ word (join-value x y)
 join-is x y p q = ap (λ (t : Bool). pick t (word y) top-word) (equal-is x y p q) ∙ go (equal-value x y)
   where
     go : (t : Bool) → pick t (word y) top-word ≡ word (pick t y top)
@@ -44,7 +44,7 @@ join-is x y p q = ap (λ (t : Bool). pick t (word y) top-word) (equal-is x y p q
 
 -- ---- lists of values
 
-pairs-are : (p : ℤ → ℤ → Bool) (q : Value → Value → Bool) → ((x y : Value) → Plain x → Plain y → p (word x) (word y) ≡ q x y)
+pairs-are : (p : ℤ → ℤ → Bool) (q : Value → Value → Bool) → ((x y : Value) → Writable x → Writable y → p (word x) (word y) ≡ q x y)
     → (xs ys : List Value) → AllPlain xs → AllPlain ys → all-pairs p (map word xs) (map word ys) ≡ all-pairs q xs ys
 pairs-are p q same [] [] h k = refl
 pairs-are p q same [] (y ∷ ys) h k = refl
@@ -115,7 +115,7 @@ module _ (c : Chart) (ok : T (chart-ok c)) where
 
   -- the edges counted from 0 are the chart's, with their numbers
   pub edges-say : AllPairs (Counts c) (edges-from 0 (length (c .edges))) (numbered c)
-  edges-say = go 0 (c .edges) (λ j x a. rw (zero-add j) a) (bounds c ok .edges) (keeps c (bounds c ok))
+  edges-say = go 0 (c .edges) (λ j x a. rw (zero-add j) a) (bounds c ok .edges) (states-kept c (bounds c ok))
     where
       go : (n : ℕ) (gs : List Edge) → ((j : ℕ) (x : Edge) → At gs j x → At (c .edges) (n + j) x) → T (all (edge-ok c) gs)
           → Every (Keeps (constants c) (StateOk c) (length (c .edges))) (number-from (suc n) gs) → AllPairs (Counts c) (edges-from n (length gs)) (number-from (suc n) gs)

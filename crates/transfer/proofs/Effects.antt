@@ -11,22 +11,22 @@ use Rattle.semantics.proofs.StatesOk.{ValOk, ValsOk}
 use Rattle.semantics.proofs.MemoryOf.{small-not-top, known-not-top}
 use Rattle.words.proofs.Words.{eqZ-true}
 use Rattle.state.specs.Rows.{value-at, with-value, word-join}
-use Rattle.transfer.specs.Transfer.{operand-by, set-ranged, set-value, assign-at, set-result, both-at, input-at, holds-by, refine-by, tested-by, assume-at, op-by}
+use Rattle.transfer.specs.Transfer.{operand-by, assign-ranged, assign-or-top, assign-at, assign-result, both-at, input-at, holds-by, refine-by, tested-by, assume-at, op-by}
 use Rattle.transfer.proofs.Places.{range-is}
 
 -- a value whose word is top's only where it is top
-abbrev pub Plain : Value → Type 0
-Plain (known z) = eqZ z top-word ≡ false
-Plain top = Unit
+abbrev pub Writable : Value → Type 0
+Writable (known z) = eqZ z top-word ≡ false
+Writable top = Unit
 
-value-plain : (v : Var) (x : Value) → T (var-ok v) → ValOk v x → Plain x
+value-plain : (v : Var) (x : Value) → T (var-ok v) → ValOk v x → Writable x
 value-plain v (known z) t h = known-not-top v z t h
 value-plain v top t h = tt
 
 -- each value of a list
 abbrev pub AllPlain : List Value → Type 0
 AllPlain [] = Unit
-AllPlain (x ∷ xs) = Plain x × AllPlain xs
+AllPlain (x ∷ xs) = Writable x × AllPlain xs
 
 pub values-plain : (vars : List Var) (xs : List Value) → T (all var-ok vars) → ValsOk vars xs → AllPlain xs
 values-plain [] [] t h = tt
@@ -34,7 +34,7 @@ values-plain [] (x ∷ xs) t h = absurd h
 values-plain (v ∷ vs) [] t h = absurd h
 values-plain (v ∷ vs) (x ∷ xs) t h = (value-plain v x (and-left (var-ok v) (all var-ok vs) t) (h .0), values-plain vs xs (and-right (var-ok v) (all var-ok vs) t) (h .1))
 
-get-plain : (xs : List Value) (k : ℕ) → AllPlain xs → Plain (getD xs k (known (pos 0)))
+get-plain : (xs : List Value) (k : ℕ) → AllPlain xs → Writable (getD xs k (known (pos 0)))
 get-plain [] k h = refl
 get-plain (x ∷ xs) zero h = h .0
 get-plain (x ∷ xs) (suc k) h = get-plain xs k (h .1)
@@ -66,22 +66,22 @@ module _ (c : Chart) (ok : T (chart-ok c)) (rest : List ℤ) (l : ℤ) (xs : Lis
   set-word : (k : ℕ) (x : Value) → with-value e k (word x) ≡ l ∷ map word (set xs k x)
   set-word k x = rw (add-one k) (ap (λ (m : List ℤ). l ∷ m) (map-set xs k x))
 
-  set-ranged-is : (k : ℕ) (z : ℤ) → k < length (c .vars) → set-ranged ws k z e ≡ row-step l (assign-value (c .vars) k (known z) xs)
-  unfolding set-ranged
-  set-ranged-is k z h = (λ i. pick (range-is c ok rest k z h i) (to (set-word k (known z) i)) halt) ∙ step-if l (in-range (c .vars) k z) (set xs k (known z))
+  assign-ranged-is : (k : ℕ) (z : ℤ) → k < length (c .vars) → assign-ranged ws k z e ≡ row-step l (assign-value (c .vars) k (known z) xs)
+  unfolding assign-ranged
+  assign-ranged-is k z h = (λ i. pick (range-is c ok rest k z h i) (to (set-word k (known z) i)) halt) ∙ step-if l (in-range (c .vars) k z) (set xs k (known z))
 
   top-is : (k : ℕ) → to (with-value e k top-word) ≡ row-step l (some (set xs k top))
   top-is k = ap to (set-word k top)
 
-  assign-is : (k : ℕ) (x : Value) → k < length (c .vars) → Plain x → set-value ws k (eqZ (word x) top-word) (word x) e ≡ row-step l (assign-value (c .vars) k x xs)
-  unfolding set-value
-  assign-is k (known z) h p = rw p (set-ranged-is k z h)
+  assign-is : (k : ℕ) (x : Value) → k < length (c .vars) → Writable x → assign-or-top ws k (eqZ (word x) top-word) (word x) e ≡ row-step l (assign-value (c .vars) k x xs)
+  unfolding assign-or-top
+  assign-is k (known z) h p = rw p (assign-ranged-is k z h)
   assign-is k top h p = top-is k
 
-  both-is : (f : ℤ → ℤ → ℤ) (k : ℕ) (x y : Value) → k < length (c .vars) → Plain x → Plain y
-      → set-value ws k (eqZ (word x) top-word || eqZ (word y) top-word) (f (word x) (word y)) e ≡ row-step l (assign-value (c .vars) k (both f x y) xs)
-  unfolding set-value
-  both-is f k (known a) (known b) h p q = rw (p, q) (set-ranged-is k (f a b) h)
+  both-is : (f : ℤ → ℤ → ℤ) (k : ℕ) (x y : Value) → k < length (c .vars) → Writable x → Writable y
+      → assign-or-top ws k (eqZ (word x) top-word || eqZ (word y) top-word) (f (word x) (word y)) e ≡ row-step l (assign-value (c .vars) k (both f x y) xs)
+  unfolding assign-or-top
+  both-is f k (known a) (known b) h p q = rw (p, q) (assign-ranged-is k (f a b) h)
   both-is f k (known a) top h p q = rw p (top-is k)
   both-is f k top (known b) h p q = top-is k
   both-is f k top top h p q = top-is k
@@ -104,9 +104,9 @@ module _ (c : Chart) (ok : T (chart-ok c)) (rest : List ℤ) (l : ℤ) (xs : Lis
   holds-is gt a b = refl
   holds-is ge a b = refl
 
-  refine-is : (r : Rel) (k : ℕ) (z : ℤ) → k < length (c .vars) → Plain (known z) → refine-by ws (rel-code r) k z e ≡ row-step l (one-known (c .vars) r (var k) z xs)
+  refine-is : (r : Rel) (k : ℕ) (z : ℤ) → k < length (c .vars) → Writable (known z) → refine-by ws (rel-code r) k z e ≡ row-step l (one-known (c .vars) r (var k) z xs)
   unfolding refine-by
-  refine-is eq k z h p = rw p (set-ranged-is k z h)
+  refine-is eq k z h p = rw p (assign-ranged-is k z h)
   refine-is ne k z h p = rw p
   refine-is lt k z h p = rw p
   refine-is le k z h p = rw p
@@ -123,7 +123,7 @@ module _ (c : Chart) (ok : T (chart-ok c)) (rest : List ℤ) (l : ℤ) (xs : Lis
   Sided (num z) top = ⊥
   Sided (var j) y = Unit
 
-  tested-is : (r : Rel) (k : ℕ) (a : Operand) (x y : Value) → k < length (c .vars) → T (operand-ok (c .vars) a) → Plain x → Plain y → Sided a y
+  tested-is : (r : Rel) (k : ℕ) (a : Operand) (x y : Value) → k < length (c .vars) → T (operand-ok (c .vars) a) → Writable x → Writable y → Sided a y
       → tested-by ws (rel-code r) k (natAbs (operand-word a)) (word x) (word y) e ≡ row-step l (tested (c .vars) r (var k) a x y xs)
   unfolding tested-by
   tested-is r k a (known x) (known y) h o p q s = rw (p, q, holds-is r x y) (step-if l (holds r x y) xs)
@@ -134,7 +134,7 @@ module _ (c : Chart) (ok : T (chart-ok c)) (rest : List ℤ) (l : ℤ) (xs : Lis
 
   -- ---- operands
 
-  operand-plain : (a : Operand) → T (operand-ok (c .vars) a) → Plain (operand-value a xs)
+  operand-plain : (a : Operand) → T (operand-ok (c .vars) a) → Writable (operand-value a xs)
   operand-plain (num z) o = small-not-top z o
   operand-plain (var k) o = get-plain xs k plain
 
@@ -155,7 +155,7 @@ module _ (c : Chart) (ok : T (chart-ok c)) (rest : List ℤ) (l : ℤ) (xs : Lis
     both-effect : (f : ℤ → ℤ → ℤ) (n v : ℕ) (a b : Operand) → T (op-ok (c .vars) (add v a b))
         → ((j : ℕ) → j < edge-size → word-at ws (i + j) ≡ getD (from ∷ goal ∷ pos n ∷ pos v ∷ tag a ∷ operand-word a ∷ tag b ∷ operand-word b ∷ []) j (pos 0))
         → both-at f ws i e ≡ row-step l (assign-value (c .vars) v (both f (operand-value a xs) (operand-value b xs)) xs)
-    unfolding both-at set-result
+    unfolding both-at assign-result
     both-effect f n v a b t r =
         let k : v < length (c .vars) = ltb→lt v (length (c .vars)) (search (and-left, and-right)) in
         let u : T (operand-ok (c .vars) a) = search (and-left, and-right) in

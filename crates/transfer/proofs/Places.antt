@@ -6,7 +6,7 @@ use Rattle.semantics.specs.Lists.{At, each}
 use Rattle.semantics.specs.Text.{name-ok}
 use Rattle.semantics.specs.Chart.{Var, Loc, Edge, Chart, eqZ, within, in-range, error-location, inits}
 use Rattle.semantics.specs.Tidy.{Every}
-use Rattle.semantics.specs.Encoding.{word-at, word, kind-word, var-words, loc-words, edge-words, encode, count, var-ok, chart-ok}
+use Rattle.semantics.specs.Encoding.{word-at, word, kind-word, var-words, loc-words, edge-words, encode, count, var-ok, chart-ok, variable-count, location-count}
 use Rattle.semantics.proofs.StatesOk.{Bounds, bounds}
 use Rattle.semantics.proofs.Encoded.{kind-back, each-length, every-of, loc-wide, edge-wide, every-any}
 use Rattle.transfer.specs.Transfer.{edge-at, error-row, initial-words, initial-row}
@@ -77,11 +77,11 @@ module _ (c : Chart) (ok : T (chart-ok c)) (rest : List ℤ) where
       ((each var-words (c .vars) ++ (each loc-words (c .locs) ++ each edge-words (c .edges))) ++ rest) i (pos 0)
       ∙ ap (λ (l : List ℤ). word-at l i) apart
 
-  pub var-count : count ws 0 ≡ length (c .vars)
+  pub var-count : variable-count ws ≡ length (c .vars)
   unfolding encode
   var-count = refl
 
-  pub loc-count : count ws 1 ≡ length (c .locs)
+  pub loc-count : location-count ws ≡ length (c .locs)
   unfolding encode
   loc-count = refl
 
@@ -107,8 +107,8 @@ module _ (c : Chart) (ok : T (chart-ok c)) (rest : List ℤ) where
   error-is e h =
       let n = count e 0 in
       let l = at-some (c .locs) n h in
-      let at : counts-size + variable-size * count ws 0 + location-size * n ≡ counts-size + (variable-size * length (c .vars) + (location-size * n + 0)) = omega (arith, var-count) in
-      let p : word-at ws (counts-size + variable-size * count ws 0 + location-size * n) ≡ kind-word (l .0 .error) =
+      let at : counts-size + variable-size * variable-count ws + location-size * n ≡ counts-size + (variable-size * length (c .vars) + (location-size * n + 0)) = omega (arith, var-count) in
+      let p : word-at ws (counts-size + variable-size * variable-count ws + location-size * n) ≡ kind-word (l .0 .error) =
       ap (λ (j : ℕ). word-at ws j) at ∙ past-vars (location-size * n + 0)
       ∙ each-at loc-words location-size (λ l. T (name-ok (l .name))) loc-wide (c .locs) (each edge-words (c .edges) ++ rest) n (l .0) (every-of (λ l. name-ok (l .name)) (c .locs) (b .names)) (l .1) 0 (omega arith) in
       ap (λ (z : ℤ). eqZ z (pos 1)) p ∙ kind-back (l .0 .error) ∙ sym (error-at (c .locs) n (l .0) (l .1))

@@ -12,7 +12,7 @@ use Rattle.semantics.specs.Lists.{pick}
 use Rattle.semantics.specs.Chart.{eqZ, within}
 use Rattle.semantics.specs.Algorithm.{Step, halt, fault, to}
 use Rattle.semantics.specs.Layout.{top-word, variable-size, location-size, edge-size, variable-at, high-place, init-place, to-place, operation-place, target-place, first-tag-place, first-value-place, second-tag-place, second-value-place, skip-code, set-code, add-code, sub-code, in-code, eq-code, ne-code, lt-code, le-code, gt-code, number-tag}
-use Rattle.semantics.specs.Encoding.{word-at, count, kind-word}
+use Rattle.semantics.specs.Encoding.{word-at, count, kind-word, variable-count}
 use Rattle.state.specs.Rows.{location-in, value-at, with-location, with-value, word-join}
 use Rattle.chart.specs.Encoded.{locations-at, edges-at}
 use Rattle.transfer.specs.declared.Move.{Move}
@@ -47,12 +47,12 @@ abbrev pub operand-by : ℤ → ℤ → List ℤ → ℤ
 operand-by tag z e = pick (eqZ tag number-tag) z (value-at e (natAbs z))
 
 -- variable k becomes z if that lies in its range
-unfoldable pub set-ranged : List ℤ → ℕ → ℤ → List ℤ → Step (List ℤ)
-set-ranged c k z e = pick (within (word-at c (variable-at k)) (word-at c (variable-at k + high-place)) z) (to (with-value e k z)) halt
+unfoldable pub assign-ranged : List ℤ → ℕ → ℤ → List ℤ → Step (List ℤ)
+assign-ranged c k z e = pick (within (word-at c (variable-at k)) (word-at c (variable-at k + high-place)) z) (to (with-value e k z)) halt
 
 -- variable k becomes top, or z if that lies in its range
-unfoldable pub set-value : List ℤ → ℕ → Bool → ℤ → List ℤ → Step (List ℤ)
-set-value c k top z e = pick top (to (with-value e k top-word)) (set-ranged c k z e)
+unfoldable pub assign-or-top : List ℤ → ℕ → Bool → ℤ → List ℤ → Step (List ℤ)
+assign-or-top c k top z e = pick top (to (with-value e k top-word)) (assign-ranged c k z e)
 
 -- ---- the operations of the edge at i: its target, and its operands
 
@@ -70,15 +70,15 @@ second-at c i e = operand-by (word-at c (i + second-tag-place)) (word-at c (i + 
 
 -- "`set v a`: v becomes a"
 unfoldable pub assign-at : List ℤ → ℕ → List ℤ → Step (List ℤ)
-assign-at c i e = let a = first-at c i e in set-value c (target-at c i) (eqZ a top-word) a e
+assign-at c i e = let a = first-at c i e in assign-or-top c (target-at c i) (eqZ a top-word) a e
 
 -- v becomes z, what an operation makes of the words a and b; "any unknown operand makes v unspecific"
-unfoldable pub set-result : List ℤ → ℕ → ℤ → ℤ → ℤ → List ℤ → Step (List ℤ)
-set-result c i a b z e = set-value c (target-at c i) (eqZ a top-word || eqZ b top-word) z e
+unfoldable pub assign-result : List ℤ → ℕ → ℤ → ℤ → ℤ → List ℤ → Step (List ℤ)
+assign-result c i a b z e = assign-or-top c (target-at c i) (eqZ a top-word || eqZ b top-word) z e
 
 -- "`add v a b`: a + b", "`sub v a b`: a − b", by the operation f
 unfoldable pub both-at : (ℤ → ℤ → ℤ) → List ℤ → ℕ → List ℤ → Step (List ℤ)
-both-at f c i e = let a = first-at c i e in let b = second-at c i e in set-result c i a b (f a b) e
+both-at f c i e = let a = first-at c i e in let b = second-at c i e in assign-result c i a b (f a b) e
 
 -- `in v p q`: "known if p = q, else unspecific"
 unfoldable pub input-at : List ℤ → ℕ → List ℤ → Step (List ℤ)
@@ -92,7 +92,7 @@ holds-by n a b =
 -- a side of the relation of code n is variable k, at top; the other side is x. "With eq, one side known [..]: that
 -- variable takes the value if in its range, else no successor. Every other case passes unchanged"
 unfoldable pub refine-by : List ℤ → ℕ → ℕ → ℤ → List ℤ → Step (List ℤ)
-refine-by c n k x e = pick (not (eqZ x top-word) && eqb n eq-code) (set-ranged c k x e) (to e)
+refine-by c n k x e = pick (not (eqZ x top-word) && eqb n eq-code) (assign-ranged c k x e) (to e)
 
 -- its sides are x, variable k, and y, variable j where it is at top
 unfoldable pub tested-by : List ℤ → ℕ → ℕ → ℕ → ℤ → ℤ → List ℤ → Step (List ℤ)
@@ -131,4 +131,4 @@ initial-words c i (suc n) = word-at c i ∷ initial-words c (i + variable-size) 
 
 -- "start location, each init"
 unfoldable pub initial-row : List ℤ → List ℤ
-initial-row c = pos 0 ∷ initial-words c (variable-at 0 + init-place) (count c 0)
+initial-row c = pos 0 ∷ initial-words c (variable-at 0 + init-place) (variable-count c)

@@ -1,5 +1,5 @@
 // The transfer of an edge of the encoded chart on a row of words, the test of an error location, and the initial row.
-use chart::Edge;
+use chart::EdgeRow;
 use semantics::Arithmetic;
 use semantics::LocationId;
 ghost use mathlib.Core.Path.{_≡_};
@@ -9,7 +9,7 @@ ghost use Rattle.semantics.specs.Chart.{within};
 ghost use Rattle.semantics.specs.Layout.{operation-place, index-limit};
 ghost use Rattle.semantics.specs.Encoding.{count};
 ghost use Rattle.state.specs.Rows.{layout-of, width-of};
-ghost use Rattle.transfer.specs.Transfer.{step-of, result-by, operand-by, first-at, second-at, set-ranged, set-value, assign-at, set-result, both-at, input-at, holds-by, refine-by, assume-at, op-by, post-at, error-row, initial-row};
+ghost use Rattle.transfer.specs.Transfer.{step-of, result-by, operand-by, first-at, second-at, assign-ranged, assign-or-top, assign-at, assign-result, both-at, input-at, holds-by, refine-by, assume-at, op-by, post-at, error-row, initial-row};
 
 // What a transfer answers, as the rules' `Step`: no successor, document 01's halt among them; a fault, which comes with
 // request 2.1; or a successor, which stands in the row lent.
@@ -51,7 +51,7 @@ fn operand(tag: i32, w: i32, row: &[i32]) -> i32
 }
 
 // The words of the two operands of an edge.
-fn first_operand(chart: &[i32], edge: Edge, row: &[i32]) -> i32
+fn first_operand(chart: &[i32], edge: EdgeRow, row: &[i32]) -> i32
     requires { ⌜ edge .at < index-limit ⌝ }
     ensures { λ r. ⌜ r ≡ first-at (now (chart .entry)) (edge .at) (now (row .entry)) ⌝ }
 {
@@ -60,7 +60,7 @@ fn first_operand(chart: &[i32], edge: Edge, row: &[i32]) -> i32
     operand(tag, w, row)
 }
 
-fn second_operand(chart: &[i32], edge: Edge, row: &[i32]) -> i32
+fn second_operand(chart: &[i32], edge: EdgeRow, row: &[i32]) -> i32
     requires { ⌜ edge .at < index-limit ⌝ }
     ensures { λ r. ⌜ r ≡ second-at (now (chart .entry)) (edge .at) (now (row .entry)) ⌝ }
 {
@@ -70,9 +70,9 @@ fn second_operand(chart: &[i32], edge: Edge, row: &[i32]) -> i32
 }
 
 // Variable k becomes z where that lies in its range.
-fn put_ranged(chart: &[i32], k: usize, z: i64, row: &mut [i32]) -> Move
+fn assign_ranged(chart: &[i32], k: usize, z: i64, row: &mut [i32]) -> Move
     requires { ⌜ k < index-limit ⌝ }
-    ensures { λ r. ⌜ step-of r (now (row .exit)) ≡ set-ranged (now (chart .entry)) k z (now (row .entry)) ⌝ }
+    ensures { λ r. ⌜ step-of r (now (row .exit)) ≡ assign-ranged (now (chart .entry)) k z (now (row .entry)) ⌝ }
 {
     let lo = chart::variable_low(chart, k);
     let hi = chart::variable_high(chart, k);
@@ -85,48 +85,48 @@ fn put_ranged(chart: &[i32], k: usize, z: i64, row: &mut [i32]) -> Move
 }
 
 // Variable k becomes top, or z where that lies in its range.
-fn put_value(chart: &[i32], k: usize, top: bool, z: i64, row: &mut [i32]) -> Move
+fn assign_or_top(chart: &[i32], k: usize, top: bool, z: i64, row: &mut [i32]) -> Move
     requires { ⌜ k < index-limit ⌝ }
-    ensures { λ r. ⌜ step-of r (now (row .exit)) ≡ set-value (now (chart .entry)) k top z (now (row .entry)) ⌝ }
+    ensures { λ r. ⌜ step-of r (now (row .exit)) ≡ assign-or-top (now (chart .entry)) k top z (now (row .entry)) ⌝ }
 {
     if top {
         state::set_value(row, k, words::TOP);
         return Move::Successor;
     }
-    put_ranged(chart, k, z, row)
+    assign_ranged(chart, k, z, row)
 }
 
 // ---- the operations of an edge, on the row
 
-fn assign(chart: &[i32], edge: Edge, row: &mut [i32]) -> Move
+fn assign(chart: &[i32], edge: EdgeRow, row: &mut [i32]) -> Move
     requires { ⌜ edge .at < index-limit ⌝ }
     ensures { λ r. ⌜ step-of r (now (row .exit)) ≡ assign-at (now (chart .entry)) (edge .at) (now (row .entry)) ⌝ }
 {
     let k = chart::edge_target(chart, edge);
     let a = first_operand(chart, edge, row);
-    put_value(chart, k, a == words::TOP, words::wide(a), row)
+    assign_or_top(chart, k, a == words::TOP, words::wide(a), row)
 }
 
 // The target becomes z, what an operation makes of a and b, or top where one of them is.
-fn put_result(chart: &[i32], edge: Edge, a: i32, b: i32, z: i64, row: &mut [i32]) -> Move
+fn assign_result(chart: &[i32], edge: EdgeRow, a: i32, b: i32, z: i64, row: &mut [i32]) -> Move
     requires { ⌜ edge .at < index-limit ⌝ }
-    ensures { λ r. ⌜ step-of r (now (row .exit)) ≡ set-result (now (chart .entry)) (edge .at) a b z (now (row .entry)) ⌝ }
+    ensures { λ r. ⌜ step-of r (now (row .exit)) ≡ assign-result (now (chart .entry)) (edge .at) a b z (now (row .entry)) ⌝ }
 {
     let k = chart::edge_target(chart, edge);
-    put_value(chart, k, (a == words::TOP) | (b == words::TOP), z, row)
+    assign_or_top(chart, k, (a == words::TOP) | (b == words::TOP), z, row)
 }
 
-fn compute(chart: &[i32], edge: Edge, s: Arithmetic, row: &mut [i32]) -> Move
+fn compute(chart: &[i32], edge: EdgeRow, s: Arithmetic, row: &mut [i32]) -> Move
     requires { ⌜ edge .at < index-limit ⌝ }
     ensures { λ r. ⌜ step-of r (now (row .exit)) ≡ both-at (result-by s) (now (chart .entry)) (edge .at) (now (row .entry)) ⌝ }
 {
     let a = first_operand(chart, edge, row);
     let b = second_operand(chart, edge, row);
-    put_result(chart, edge, a, b, result(s, a, b), row)
+    assign_result(chart, edge, a, b, result(s, a, b), row)
 }
 
 // A value from p up to q: known only where they are the same.
-fn input(chart: &[i32], edge: Edge, row: &mut [i32]) -> Move
+fn input(chart: &[i32], edge: EdgeRow, row: &mut [i32]) -> Move
     requires { ⌜ edge .at < index-limit ⌝ }
     ensures { λ r. ⌜ step-of r (now (row .exit)) ≡ input-at (now (chart .entry)) (edge .at) (now (row .entry)) ⌝ }
 {
@@ -158,13 +158,13 @@ fn refine(chart: &[i32], n: usize, k: usize, x: i32, row: &mut [i32]) -> Move
     ensures { λ r. ⌜ step-of r (now (row .exit)) ≡ refine-by (now (chart .entry)) n k x (now (row .entry)) ⌝ }
 {
     if (x != words::TOP) & (n == chart::EQ_CODE) {
-        return put_ranged(chart, k, words::wide(x), row);
+        return assign_ranged(chart, k, words::wide(x), row);
     }
     Move::Successor
 }
 
 // The relation of code n between the target and an operand: a test, or what it says of a side at top.
-fn assume(chart: &[i32], n: usize, edge: Edge, row: &mut [i32]) -> Move
+fn assume(chart: &[i32], n: usize, edge: EdgeRow, row: &mut [i32]) -> Move
     requires { ⌜ edge .at < index-limit ⌝ }
     ensures { λ r. ⌜ step-of r (now (row .exit)) ≡ assume-at (now (chart .entry)) n (edge .at) (now (row .entry)) ⌝ }
 {
@@ -185,7 +185,7 @@ fn assume(chart: &[i32], n: usize, edge: Edge, row: &mut [i32]) -> Move
 }
 
 // The operation of the edge, by its code.
-fn apply(chart: &[i32], edge: Edge, row: &mut [i32]) -> Move
+fn apply(chart: &[i32], edge: EdgeRow, row: &mut [i32]) -> Move
     requires { ⌜ edge .at < index-limit ⌝ }
     ensures { λ r. ⌜ step-of r (now (row .exit)) ≡ op-by (count (now (chart .entry)) (edge .at + operation-place)) (now (chart .entry)) (edge .at) (now (row .entry)) ⌝ }
 {
@@ -203,12 +203,12 @@ fn apply(chart: &[i32], edge: Edge, row: &mut [i32]) -> Move
 // ---- the transfer
 
 // The move of the row by the edge, its successor into `out`.
-pub fn successor(chart: &[i32], edge: Edge, row: &[i32], out: &mut [i32]) -> Move
+pub fn successor(chart: &[i32], edge: EdgeRow, row: &[i32], out: &mut [i32]) -> Move
     requires { ⌜ (0 < length (now row)) × (length (now out) ≡ length (now row)) × (edge .at < index-limit) ⌝ }
     ensures { λ r. ⌜ step-of r (now (out .exit)) ≡ post-at (now (chart .entry)) (edge .at) (now (row .entry)) ⌝ }
 {
     let from = chart::edge_from(chart, edge);
-    if semantics::same_location(from, state::location_of(row)) {
+    if from.equals(state::location_of(row)) {
         words::copy_words(out, row);
         let to = chart::edge_to(chart, edge);
         state::set_location(out, to);
@@ -229,7 +229,7 @@ pub fn initial(chart: &[i32], out: &mut [i32])
     requires { ⌜ length (now out) ≡ width-of (layout-of (now chart)) ⌝ }
     ensures { λ _. ⌜ now (out .exit) ≡ initial-row (now (chart .entry)) ⌝ }
 {
-    let n = chart::var_count(chart);
+    let n = chart::variable_count(chart);
     state::set_location(out, LocationId(0));
     let mut k = 0;
     while k < n {

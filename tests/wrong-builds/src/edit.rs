@@ -93,7 +93,7 @@ impl Edit {
 fn changed_at(sources: &Sources, file: &str, at: usize) -> BTreeSet<String> {
     let text = &sources[file];
     if let Some(found) = functions(text).into_iter().find(|one| one.body.contains(&at)) {
-        return path_of(file, found.name).into_iter().collect();
+        return path_of(file, &found.name).into_iter().collect();
     }
     let line = text[..at].rfind('\n').map_or(0, |end| end + 1);
     let words = text[line..].trim_start_matches("pub ");
@@ -104,7 +104,7 @@ fn changed_at(sources: &Sources, file: &str, at: usize) -> BTreeSet<String> {
     let names_it = |code: &str| code.split(|c| !is_of_name(c)).any(|word| word == name);
     let each = sources.iter().flat_map(|(file, text)| {
         let users = functions(text).into_iter().filter(|one| names_it(&text[one.whole.clone()]));
-        users.filter_map(move |one| path_of(file, one.name))
+        users.filter_map(move |one| path_of(file, &one.name))
     });
     each.collect()
 }

@@ -6,28 +6,42 @@ use std::ops::Range;
 use crate::edit::Sources;
 
 /// A function, its places in the text of its file.
-pub struct Function<'a> {
-    pub name: &'a str,
+pub struct Function {
+    /// Of a method with its type: `Type::method`.
+    pub name: String,
     /// With its attributes and its contract.
     pub whole: Range<usize>,
     pub body: Range<usize>,
 }
 
 /// The functions of a file. In the layout of `rt fmt` a head begins at the margin, after its attributes; a body begins where
-/// a line of the head that is no clause of a contract ends in `{`, and it ends with `}` at the margin.
-pub fn functions(text: &str) -> Vec<Function<'_>> {
+/// a line of the head that is no clause of a contract ends in `{`, and it ends with `}` at the margin. The methods of an `impl`
+/// stand a step in from it, which is their margin.
+pub fn functions(text: &str) -> Vec<Function> {
     let mut found = Vec::new();
     let (mut attributes, mut name, mut start, mut body, mut at) = (None, None, 0, None, 0);
+    let mut implemented: Option<&str> = None;
     for line in text.split_inclusive('\n') {
         let (words, next) = (line.trim(), at + line.len());
-        let margin = !line.starts_with([' ', '/', '\n']);
+        let indented = if implemented.is_some() { line.strip_prefix("    ") } else { Some(line) };
+        let margin = indented.is_some_and(|line| !line.starts_with([' ', '/', '\n']));
         let is_clause = words.starts_with("requires") || words.starts_with("ensures");
-        if margin && words == "}" {
+        if line.starts_with('}') && implemented.is_some() {
+            implemented = None;
+        } else if let Some(head) = line.strip_prefix("impl") {
+            let after = head.split_once("> ").filter(|_| head.starts_with('<'));
+            let type_name = after.map_or(head, |(_, words)| words).trim_start();
+            implemented = type_name.split(|c| !is_of_name(c)).next();
+        } else if margin && words == "}" {
             if let (Some(name), Some(body)) = (name.take(), body.take()) {
                 found.push(Function { name, whole: start..next, body: body..at });
             }
         } else if let (true, Some((_, head))) = (margin, line.split_once("fn ")) {
-            name = head.split(|c| !is_of_name(c)).next();
+            let word = head.split(|c| !is_of_name(c)).next();
+            name = word.map(|word| match implemented {
+                Some(type_name) => format!("{type_name}::{word}"),
+                None => word.to_string(),
+            });
             start = attributes.unwrap_or(at);
             body = words.ends_with('{').then_some(next);
         } else if name.is_some() && body.is_none() && words.ends_with('{') && !is_clause {
@@ -87,7 +101,7 @@ pub fn part(before: &Sources, sources: &Sources, of: &BTreeSet<String>) -> Part 
         if file.ends_with(".rt") {
             let places: Vec<Range<usize>> = functions(&text)
                 .into_iter()
-                .filter(|f| path_of(file, f.name).is_some_and(|path| !kept.contains(&path)))
+                .filter(|f| path_of(file, &f.name).is_some_and(|path| !kept.contains(&path)))
                 .map(|f| f.whole)
                 .collect();
             for place in places.into_iter().rev() {
@@ -107,7 +121,7 @@ fn calls(sources: &Sources) -> BTreeMap<String, BTreeSet<String>> {
     let mut words = BTreeMap::new();
     for (file, text) in sources {
         for function in functions(text) {
-            let Some(path) = path_of(file, function.name) else { continue };
+            let Some(path) = path_of(file, &function.name) else { continue };
             let parts: Vec<&str> = text[function.body].split('(').collect();
             let before = parts[..parts.len() - 1].iter();
             let called = before.filter_map(|part| part.rsplit(|c| !is_of_name(c)).next());
@@ -178,11 +192,57 @@ fn third() -> bool {
     #[test]
     fn a_function_has_its_attributes_and_its_body() {
         let found = functions(CODE);
-        assert_eq!(found.iter().map(|f| f.name).collect::<Vec<_>>(), ["first", "third"]);
+        assert_eq!(found.iter().map(|f| &f.name[..]).collect::<Vec<_>>(), ["first", "third"]);
         assert!(CODE[found[0].whole.clone()].starts_with("#[no_mangle]\npub"));
         assert!(CODE[found[0].whole.clone()].ends_with("    }\n}\n"));
         assert!(CODE[found[0].body.clone()].starts_with("    while low"));
         assert_eq!(&CODE[found[1].body.clone()], "    first(3) == third()\n");
+    }
+
+    #[test]
+    fn a_method_is_named_with_its_type() {
+        let code = "\
+fn before() -> u8 {
+    1
+}
+
+impl<'a> Held<'a> {
+    // Not fn said.
+    pub fn one(self) -> u8
+        ensures { λ r. ⌜ r ≡ 2 ⌝ }
+    {
+        before()
+    }
+
+    fn two(self) -> u8 {
+        if self.one() == 2 {
+            return 3;
+        }
+        4
+    }
+}
+
+impl Side {
+    fn two() {
+    }
+}
+
+fn after() -> u8 {
+    5
+}
+";
+        let found = functions(code);
+        let names: Vec<&str> = found.iter().map(|f| &f.name[..]).collect();
+        assert_eq!(names, ["before", "Held::one", "Held::two", "Side::two", "after"]);
+        assert_eq!(&code[found[1].body.clone()], "        before()\n");
+        assert!(code[found[2].whole.clone()].starts_with("    fn two"));
+        assert!(code[found[2].whole.clone()].ends_with("        4\n    }\n"));
+        assert_eq!(&code[found[4].body.clone()], "    5\n");
+
+        let held = Sources::from([("src/low.rt".to_string(), code.to_string())]);
+        let Part { sources: left, .. } = part(&held, &held, &["low::Held::one".to_string()].into());
+        assert!(left["src/low.rt"].contains("fn before") && left["src/low.rt"].contains("fn one"));
+        assert!(!left["src/low.rt"].contains("fn two") && !left["src/low.rt"].contains("fn after"));
     }
 
     #[test]

@@ -3,7 +3,7 @@ use Rattle.semantics.proofs.Prelude.{_≡_, refl, sym, ap, _∙_, List, ℕ, _*
 use Rattle.semantics.specs.Algorithm.{first-verdict}
 use Rattle.reached.specs.Reached.{Kept}
 use Rattle.reached.proofs.FormKept.{empty-kept, next-slot-in}
-use Rattle.analysis.proofs.StartWords.{begun}
+use Rattle.analysis.proofs.StartWords.{start-loaded}
 use Rattle.analysis.proofs.start_core.Statement.{statement}
 use Rattle.analysis.proofs.start_core.Tie as tie
 
@@ -45,7 +45,7 @@ returns c =
     let put = c .before .before .before .before .before .before .put-row in
     let app = c .before .before .before .append in
     let v = ap first-verdict (c .before .is-error .ensures) in
-    λ last. rw (c .first-record .ensures, put .ensures, s .pre .1) (begun (s .args .layout) (table d) (list d) (form d) (some d) (s .args .row .now) (s .pre .1) last (s .args .chart .now) _ (app .last .0) (app .ensures) (app .kept .0) (s .pre .7) (size d) refl refl refl v)
+    λ last. rw (c .first-record .ensures, put .ensures, s .pre .1) (start-loaded (s .args .layout) (table d) (list d) (form d) (some d) (s .args .row .now) (s .pre .1) last (s .args .chart .now) _ (app .last .0) (app .ensures) (app .kept .0) (s .pre .7) (size d) refl refl refl v)
 
 pub start-core-spec : {M : Type 1} → statement M
 start-core-spec =

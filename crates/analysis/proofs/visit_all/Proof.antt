@@ -8,7 +8,7 @@ use Rattle.analysis.specs.Chains.{from-at}
 use Rattle.progress.specs.Progress.{out-of}
 use Rattle.analysis.specs.Loaded.{Is-edge, Ready, domain-of}
 use Rattle.analysis.proofs.Arrival.{edges-turn, edges-none, post-is, then-on, then-ended}
-use Rattle.analysis.proofs.PassedEdges.{passed}
+use Rattle.analysis.proofs.PassedEdges.{passed-over}
 use Rattle.analysis.proofs.visit_all.Statement.{statement}
 use Rattle.analysis.proofs.visit_all.Tie as tie
 
@@ -49,12 +49,12 @@ loop-holds c =
       refl,
       omega (arith, m),
       ap (λ (k : ℕ). visit-all (domain-of (s .args .chart .now)) (s .args .a .settings) (length l) e (edges-from 0 k) en wa) n
-          ∙ passed (s .args .chart .now) (s .args .a .settings) (length l) e (o .edges) en wa 0 (c .first2 .result .0 - 1) (omega arith) (λ j lo hi q. s .pre .1 .chained .head (location-in e) j lo (omega (arith, m)) q),
+          ∙ passed-over (s .args .chart .now) (s .args .a .settings) (length l) e (o .edges) en wa 0 (c .first2 .result .0 - 1) (omega arith) (λ j lo hi q. s .pre .1 .chained .head (location-in e) j lo (omega (arith, m)) q),
     )
 
 -- the chain names an edge of the chart
 in-chart : (c : tie.Then1 Inv-loop μ-loop) → c .before .before .loop .id .0 ≤ start (c .before .before) .args .outline .edges
-in-chart c = leb-true _ _ (sym (c .before .is-edge-within .ensures) ∙ c .if1 .taken)
+in-chart c = leb-true _ _ (sym (c .before .is-within .ensures) ∙ c .if1 .taken)
 
 edge-of-requires : tie.Need-edge-of-requires Inv-loop μ-loop
 edge-of-requires c κs =
@@ -172,7 +172,7 @@ loop-again c =
       length-front (b .loop .next) (m .last .1 .1 .1 .1 .1 .0) (length (s .copy .now)) (m .kept .1 .1 .1 .1 .1 .0) ∙ b .loop .inv .3,
       omega (arith, c .next3 .ensures .0, k),
       turn h ∙ then-on _ _ _ _ (m .result .exit) going
-          ∙ passed (s .chart .now) (b .loop .at .settings) (length (s .list .now)) (s .copy .now) (s .outline .edges) en wa (b .loop .id .0 - 1 + 1) (c .next3 .result .0 - 1) (omega (arith, c .next3 .ensures .0, k, b .loop .inv .4)) (λ j lo hi q. c .next3 .ensures .1 j (omega (arith, k, b .loop .inv .4)) hi (q ∙ sym (b .before .before .location-of .ensures .0))),
+          ∙ passed-over (s .chart .now) (b .loop .at .settings) (length (s .list .now)) (s .copy .now) (s .outline .edges) en wa (b .loop .id .0 - 1 + 1) (c .next3 .result .0 - 1) (omega (arith, c .next3 .ensures .0, k, b .loop .inv .4)) (λ j lo hi q. c .next3 .ensures .1 j (omega (arith, k, b .loop .inv .4)) hi (q ∙ sym (b .before .before .location-of .ensures .0))),
     )
 
 returns-2 : tie.Need-returns-2 Inv-loop μ-loop
@@ -180,7 +180,7 @@ returns-2 c =
     let d = c .before .before in
     let b = d .before in
     let n = start b .args .outline .edges in
-    let past = leb-false (b .loop .id .0) n (sym (d .is-edge-within .ensures) ∙ c .before .if1 .left) in
+    let past = leb-false (b .loop .id .0) n (sym (d .is-within .ensures) ∙ c .before .if1 .left) in
     rw (c .went-on .ensures) (record { out = sym (b .loop .inv .5 ∙ rw (edges-none (b .loop .id .0 - 1) n (omega (arith, past)))); kept = b .loop .inv .0 .kept })
 
 pub visit-all-spec : {M : Type 1} → statement M

@@ -2,7 +2,7 @@
 use Rattle.semantics.proofs.Prelude.{_≡_, refl, sym, ap, _∙_, Bool, true, List, [], _∷_, needs, not-true, not-false, eq-eqb, ne-eqb, eqb, w32, toZ-ofZ}
 use Rattle.semantics.specs.Layout.{most-iterations}
 use Rattle.semantics.specs.Outcomes.{Case, case, refusal, budget-ok, form-of, run-cases}
-use Rattle.semantics.proofs.FirstCase.{none-met, later, sooner}
+use Rattle.semantics.proofs.FirstCase.{none-met, refusal-later, sooner}
 use Rattle.checks.specs.Form.{lent}
 use Rattle.calls.proofs.run_refusal.Statement.{statement}
 use Rattle.semantics.specs.Algorithm.{has-verdict}
@@ -38,7 +38,7 @@ last c p q =
     let f = c .before .before in
     let s = f .before .before in
     sym (λ j. refusal (case 22 (p j) ∷ case 23 (q j) ∷ []))
-    ∙ rw (budget-passed f) (sym (later (form s) (rest s) (none-met (form s) tt (sym (c .before .form-refusal .ensures) ∙ c .if2 .left))))
+    ∙ rw (budget-passed f) (sym (refusal-later (form s) (rest s) (none-met (form s) tt (sym (c .before .form-refusal .ensures) ∙ c .if2 .left))))
 
 returns-3 : tie.Need-returns-3
 returns-3 c = last (c .before .before) (sym (c .before .has-verdict .ensures) ∙ c .if3 .taken) refl

@@ -8,7 +8,7 @@ use Rattle.state.proofs.Layouts.{LayoutOf, is-layout, slots-in}
 use Rattle.checks.specs.Form.{lent}
 use Rattle.analysis.proofs.ChartSizes.{edges-near}
 use Rattle.analysis.proofs.RunEntry.{entered, iterations-few}
-use Rattle.analysis.proofs.MemoryAtExit.{run-leaves}
+use Rattle.analysis.proofs.MemoryAtExit.{run-at-exit}
 use Rattle.calls.proofs.CallSizes.{thin, words-fit}
 use Rattle.calls.proofs.run_through.Statement.{statement}
 use Rattle.calls.proofs.run_through.Tie as tie
@@ -44,7 +44,7 @@ returns c =
     let g = c .before .before .before .before .before .before .before in
     let s = start g in
     let k = c .before .before .run-core in
-    run-leaves (now (s .args .chart)) (s .pre .chart) (g .before .layout-of .result) (laid g) (memory g) (k .result) _ _ (s .pre .table) (s .pre .list) (s .pre .analysis) (s .args .budget) (rw (many g) at (k .ensures))
+    run-at-exit (now (s .args .chart)) (s .pre .chart) (g .before .layout-of .result) (laid g) (memory g) (k .result) _ _ (s .pre .table) (s .pre .list) (s .pre .analysis) (s .args .budget) (rw (many g) at (k .ensures))
 
 pub run-through-spec : {M : Type 1} → statement M
 run-through-spec =

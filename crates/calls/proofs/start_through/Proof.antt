@@ -4,7 +4,7 @@ use Rattle.semantics.proofs.Prelude.{sym, _*_, _≤_, arith, needs, now, length
 use Rattle.semantics.specs.Encoding.{decode}
 use Rattle.state.proofs.Layouts.{LayoutOf, is-layout, slots-in}
 use Rattle.checks.specs.Form.{lent}
-use Rattle.analysis.proofs.MemoryAtExit.{start-leaves}
+use Rattle.analysis.proofs.MemoryAtExit.{start-at-exit}
 use Rattle.calls.proofs.CallSizes.{thin, words-fit}
 use Rattle.calls.proofs.start_through.Statement.{statement}
 use Rattle.calls.proofs.start_through.Tie as tie
@@ -38,7 +38,7 @@ returns c =
     let w = c .before .before .before .before .before .before in
     let s = w .before in
     let b = c .before .before .begin in
-    λ a. start-leaves (now (s .args .chart)) (s .pre .0) (w .layout-of .result) (laid w) (lent (now (s .args .table)) (now (s .args .list)) a) (b .result) _ _ (s .args .settings) (s .args .capacity) 0 (b .ensures 0)
+    λ a. start-at-exit (now (s .args .chart)) (s .pre .0) (w .layout-of .result) (laid w) (lent (now (s .args .table)) (now (s .args .list)) a) (b .result) _ _ (s .args .settings) (s .args .capacity) 0 (b .ensures 0)
 
 pub start-through-spec : {M : Type 1} → statement M
 start-through-spec =

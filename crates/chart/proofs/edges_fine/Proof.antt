@@ -2,12 +2,12 @@
 use Rattle.semantics.proofs.Prelude.{sym, _-_, arith, length-take, length-drop}
 use Rattle.semantics.specs.Layout.{edge-size}
 use Rattle.chart.specs.Encoded.{edge-fine}
-use Rattle.chart.proofs.RowLoops.{Passed, rows-start, rows-turn, rows-end}
+use Rattle.chart.proofs.RowLoops.{RowsPassed, rows-start, rows-turn, rows-end}
 use Rattle.chart.proofs.edges_fine.Statement.{statement}
 use Rattle.chart.proofs.edges_fine.Tie as tie
 
 abbrev Inv-loop : tie.InvT-loop
-Inv-loop vars v l edges n ok₀ i₀ at₀ ok i at = Passed (edge-fine vars v l) (λ r. r) edge-size n edges ok i at
+Inv-loop vars v l edges n ok₀ i₀ at₀ ok i at = RowsPassed (edge-fine vars v l) (λ r. r) edge-size n edges ok i at
 
 abbrev μ-loop : tie.MeasureT-loop
 μ-loop vars v l edges n ok₀ i₀ at₀ ok i at = n - i

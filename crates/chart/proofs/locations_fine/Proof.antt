@@ -2,12 +2,12 @@
 use Rattle.semantics.proofs.Prelude.{sym, _-_, arith, length-take, length-drop}
 use Rattle.semantics.specs.Layout.{location-size}
 use Rattle.chart.specs.Encoded.{location-fine}
-use Rattle.chart.proofs.RowLoops.{Passed, rows-start, rows-turn, rows-end}
+use Rattle.chart.proofs.RowLoops.{RowsPassed, rows-start, rows-turn, rows-end}
 use Rattle.chart.proofs.locations_fine.Statement.{statement}
 use Rattle.chart.proofs.locations_fine.Tie as tie
 
 abbrev Inv-loop : tie.InvT-loop
-Inv-loop locations n ok₀ i₀ at₀ ok i at = Passed location-fine (λ r. r) location-size n locations ok i at
+Inv-loop locations n ok₀ i₀ at₀ ok i at = RowsPassed location-fine (λ r. r) location-size n locations ok i at
 
 abbrev μ-loop : tie.MeasureT-loop
 μ-loop locations n ok₀ i₀ at₀ ok i at = n - i

@@ -1,7 +1,7 @@
 -- `chart::name` meets its contract. Assumes nothing.
 use Rattle.semantics.proofs.Prelude.{_≡_, sym, ap, _∙_, List, ⊎-elim, ℕ, _+_, _-_, _*_, _≤_, _<_, arith, needs, ℤ, length, take, drop, length-drop, drop-of-length-le}
 use Rattle.semantics.specs.Layout.{location-size, name-place}
-use Rattle.semantics.specs.Encoding.{loc-in, count}
+use Rattle.semantics.specs.Encoding.{loc-in, location-count}
 use Rattle.words.proofs.Rows.{tail}
 use Rattle.chart.specs.Encoded.{locations-at}
 use Rattle.chart.proofs.NameBytes.{name-at, no-name, name-words, name-fits}
@@ -25,7 +25,7 @@ module _ (c : tie.After-row-name-length) where
   abbrev row : List ℤ
   row = drop (at .locations-at .result + location-size * k) ws
 
-  there : k < count ws 1
+  there : k < location-count ws
   there = omega (arith, at .before .before .location-count .ensures .0)
 
   size : c .row-name-length .result ≡ length (loc-in row .name)
@@ -52,7 +52,7 @@ returns-2 c =
     let k = n .before .args .l .0 in
     ⊎-elim
     (λ w.
-    let h : k < count ws 1 = omega (arith, n .location-count .ensures .0) in
+    let h : k < location-count ws = omega (arith, n .location-count .ensures .0) in
     let s : length ws ≤ locations-at ws + location-size * k = omega (arith, w .1 .ensures .0) in
     sym (name-at ws k h ∙ ap (λ (r : List ℤ). loc-in r .name) (drop-of-length-le ws s)))
     (λ w. sym (no-name ws k (omega (arith, n .location-count .ensures .0))))

@@ -2,13 +2,13 @@
 use Rattle.semantics.proofs.Prelude.{sym, ap, _-_, arith, not, needs}
 use Rattle.semantics.specs.Layout.{location-size}
 use Rattle.semantics.specs.Encoding.{loc-in}
-use Rattle.chart.proofs.RowLoops.{Passed, rows-start, rows-turn, rows-end}
+use Rattle.chart.proofs.RowLoops.{RowsPassed, rows-start, rows-turn, rows-end}
 use Rattle.chart.proofs.Names.{other-name}
 use Rattle.chart.proofs.name_is_new.Statement.{statement}
 use Rattle.chart.proofs.name_is_new.Tie as tie
 
 abbrev Inv-loop : tie.InvT-loop
-Inv-loop row locations n ok₀ i₀ at₀ ok i at = Passed (other-name row) loc-in location-size n locations ok i at
+Inv-loop row locations n ok₀ i₀ at₀ ok i at = RowsPassed (other-name row) loc-in location-size n locations ok i at
 
 abbrev μ-loop : tie.MeasureT-loop
 μ-loop row locations n ok₀ i₀ at₀ ok i at = n - i

@@ -1,6 +1,7 @@
 -- `chart::operation_fine` meets its contract. Assumes nothing.
 use Rattle.semantics.proofs.Prelude.{sym, _∙_, needs, sfits-of, eq-eqb, ne-eqb}
 use Rattle.semantics.specs.Encoding.{count}
+use Rattle.semantics.specs.Layout.{operation-place}
 use Rattle.chart.specs.Encoded.{operation-fine}
 use Rattle.words.proofs.Words.{told}
 use Rattle.chart.proofs.operation_fine.Statement.{statement}
@@ -10,7 +11,7 @@ returns : tie.Need-returns
 unfolding operation-fine
 returns c =
     let n = c .before .before .before in
-    rw (eq-eqb (count (n .before .args .row .now) 2) 0 (sym (n .number-at .ensures .0) ∙ c .before .before .if1 .taken)) (c .all-zero .ensures)
+    rw (eq-eqb (count (n .before .args .row .now) operation-place) 0 (sym (n .number-at .ensures .0) ∙ c .before .before .if1 .taken)) (c .all-zero .ensures)
 
 returns-2 : tie.Need-returns-2
 unfolding operation-fine

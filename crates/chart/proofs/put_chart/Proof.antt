@@ -11,7 +11,7 @@ returns c =
     let v : toZ w32 (a .vars) ≡ pos (a .vars) = toZ-pos w32 (omega arith) in
     let l : toZ w32 (a .locations) ≡ pos (a .locations) = toZ-pos w32 (omega arith) in
     let e : toZ w32 (a .edges) ≡ pos (a .edges) = toZ-pos w32 (omega arith) in
-    c .before .put-row2 .ensures ∙ rw (p .put-row .ensures, v, l, e) (stored-then 0 (pos (a .vars) ∷ pos (a .locations) ∷ pos (a .edges) ∷ []) (now (a .chart)) (omega arith) (now (a .rows)))
+    c .before .store-words2 .ensures ∙ rw (p .store-words .ensures, v, l, e) (stored-then 0 (pos (a .vars) ∷ pos (a .locations) ∷ pos (a .edges) ∷ []) (now (a .chart)) (omega arith) (now (a .rows)))
 
 pub put-chart-spec : {M : Type 1} → statement M
 put-chart-spec =

@@ -19,7 +19,7 @@ returns c =
     let q : toZ w32 (ofZ w32 (a .result .value)) ≡ a .result .value = search needs in
     let r : toZ w32 (ofZ w32 (b .result .tag)) ≡ b .result .tag = search needs in
     let u : toZ w32 (ofZ w32 (b .result .value)) ≡ b .result .value = search needs in
-    c .before .put-row .ensures ∙ rw (f, t, n, v, p, q, r, u, a .ensures .0, a .ensures .1, b .ensures .0, b .ensures .1, ← o .ensures .0)
+    c .before .store-words .ensures ∙ rw (f, t, n, v, p, q, r, u, a .ensures .0, a .ensures .1, b .ensures .0, b .ensures .1, ← o .ensures .0)
 
 pub put-edge-spec : {M : Type 1} → statement M
 put-edge-spec =

@@ -19,18 +19,18 @@ module _ (c : tie.After-row3) where
   size : length (padded name-size (map pos name)) ≡ name-size
   size = padded-length name-size (map pos name) (omega (arith, length-map name pos, c .before .before .before .before .before .before .before .pre))
 
-slice-aggregate-put-row : tie.Need-slice-aggregate-put-row
-slice-aggregate-put-row c = rw (c .before .before .before .put-bytes .ensures, bytes c, name-over name-size (name c)) (sym (ap suc (size c)))
+slice-aggregate-store-words : tie.Need-slice-aggregate-store-words
+slice-aggregate-store-words c = rw (c .before .before .before .bytes-as-words .ensures, bytes c, name-over name-size (name c)) (sym (ap suc (size c)))
 
-put-row-requires : tie.Need-put-row-requires
-put-row-requires c κs = rw (c .before .before .before .put-bytes .ensures, bytes c, name-over name-size (name c), size c) (omega arith)
+store-words-requires : tie.Need-store-words-requires
+store-words-requires c κs = rw (c .before .before .before .bytes-as-words .ensures, bytes c, name-over name-size (name c), size c) (omega arith)
 
 returns : tie.Need-returns
 returns c =
     let r = c .before .before in
     let k = r .before .before .before .before .before .kind-word in
-    c .before .put-row .ensures
-    ∙ rw (r .before .before .before .put-bytes .ensures, bytes r, name-over name-size (name r), told (sfits-of {z = k .result} (k .ok)) (k .ensures))
+    c .before .store-words .ensures
+    ∙ rw (r .before .before .before .bytes-as-words .ensures, bytes r, name-over name-size (name r), told (sfits-of {z = k .result} (k .ok)) (k .ensures))
 
 pub put-location-spec : {M : Type 1} → statement M
 put-location-spec =
@@ -38,7 +38,7 @@ put-location-spec =
     (tie.spec
     (λ c κs. search needs) (λ c. search needs) (λ c. search needs) (λ c. search needs) (λ c. search needs)
     (λ c. search needs) (λ c κs. search needs)
-    slice-aggregate-put-row
-    put-row-requires
+    slice-aggregate-store-words
+    store-words-requires
     (λ c. search needs)
     returns)

@@ -10,7 +10,7 @@ returns c =
     let p : toZ w32 (ofZ w32 (a .lo)) ≡ a .lo = search needs in
     let q : toZ w32 (ofZ w32 (a .hi)) ≡ a .hi = search needs in
     let r : toZ w32 (ofZ w32 (a .init)) ≡ a .init = search needs in
-    c .before .put-row .ensures ∙ rw (p, q, r, word-back (a .init))
+    c .before .store-words .ensures ∙ rw (p, q, r, word-back (a .init))
 
 pub put-variable-spec : {M : Type 1} → statement M
 put-variable-spec = tie.close (tie.spec (λ c. search needs) (λ c κs. search needs) (λ c. search needs) returns)

@@ -28,7 +28,7 @@ returns c =
       f .edges-at .ensures .0,
       e .edge-count .ensures .0,
       l .location-count .ensures .0,
-      l .before .var-count .ensures .0,
+      l .before .variable-count .ensures .0,
     )
 
 pub rows-fine-spec : {M : Type 1} → statement M

@@ -2,12 +2,12 @@
 use Rattle.semantics.proofs.Prelude.{sym, _-_, arith, needs}
 use Rattle.semantics.specs.Layout.{variable-size}
 use Rattle.semantics.specs.Encoding.{var-in, var-ok}
-use Rattle.chart.proofs.RowLoops.{Passed, rows-start, rows-turn, rows-end}
+use Rattle.chart.proofs.RowLoops.{RowsPassed, rows-start, rows-turn, rows-end}
 use Rattle.chart.proofs.vars_ok.Statement.{statement}
 use Rattle.chart.proofs.vars_ok.Tie as tie
 
 abbrev Inv-loop : tie.InvT-loop
-Inv-loop vars n ok₀ i₀ at₀ ok i at = Passed var-ok var-in variable-size n vars ok i at
+Inv-loop vars n ok₀ i₀ at₀ ok i at = RowsPassed var-ok var-in variable-size n vars ok i at
 
 abbrev μ-loop : tie.MeasureT-loop
 μ-loop vars n ok₀ i₀ at₀ ok i at = n - i

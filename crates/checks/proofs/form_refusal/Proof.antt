@@ -3,7 +3,7 @@ use Rattle.semantics.proofs.Prelude.{_≡_, sym, ap, _∙_, Bool, not, List, []
 use Rattle.semantics.specs.Encoding.{decode}
 use Rattle.semantics.specs.Memory.{analysis-ok}
 use Rattle.semantics.specs.Outcomes.{Case, case, refusal, size-of, form-of}
-use Rattle.semantics.proofs.FirstCase.{NoneMet, none-met, enough, later, sooner}
+use Rattle.semantics.proofs.FirstCase.{NoneMet, none-met, enough, refusal-later, sooner}
 use Rattle.checks.specs.Form.{lent}
 use Rattle.state.proofs.Layouts.{is-layout, slots-in}
 use Rattle.checks.proofs.form_refusal.Statement.{statement}
@@ -28,7 +28,7 @@ module _ (c : tie.Else1) where
   none = none-met (size start) tt (sym (c .before .size-refusal .ensures) ∙ c .if1 .left)
 
   last : {b : Bool} → ok start ≡ b → refusal (case 21 (not b) ∷ []) ≡ refusal (form-of (start .args .chart .now) (lent (start .args .table .now) (start .args .list .now) (start .args .a)))
-  last e = ap (λ (x : Bool). refusal (case 21 (not x) ∷ [])) (sym e) ∙ sym (later (size start) (rest start) none)
+  last e = ap (λ (x : Bool). refusal (case 21 (not x) ∷ [])) (sym e) ∙ sym (refusal-later (size start) (rest start) none)
 
 returns : tie.Need-returns
 returns c = let s = c .before .before in sooner (size s) (rest s) _ (c .before .size-refusal .ensures) (c .if1 .taken)

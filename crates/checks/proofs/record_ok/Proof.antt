@@ -6,7 +6,7 @@ use Rattle.checks.proofs.record_ok.Tie as tie
 returns : tie.Need-returns
 returns c =
     let e = c .before .before .before .before in
-    rw (e .before .is-edge-within .ensures, e .edge-allowed .ensures, c .before .is-allowed .ensures, c .empty-if-safe .ensures) (simp (and-assoc, and-true))
+    rw (e .before .is-within .ensures, e .edge-allowed .ensures, c .before .is-allowed .ensures, c .empty-if-safe .ensures) (simp (and-assoc, and-true))
 
 pub record-ok-spec : {M : Type 1} → statement M
 record-ok-spec =

@@ -6,7 +6,7 @@ use Rattle.semantics.specs.Memory.{width, rows-ok}
 use Rattle.words.proofs.Rows.{span, part-length}
 use Rattle.state.proofs.Layouts.{is-layout}
 use Rattle.state.proofs.Slots.{OnSlot, first-slot, next-slot, slot-in, part-in}
-use Rattle.checks.proofs.FormTests.{rows-turn}
+use Rattle.checks.proofs.FormTests.{rows-ok-turn}
 use Rattle.checks.proofs.rows_ok.Statement.{statement}
 use Rattle.checks.proofs.rows_ok.Tie as tie
 
@@ -64,7 +64,7 @@ turn c b h =
     let l = p .before .loop in
     let n : used p - l .s ≡ suc (used p - (l .s + 1)) = omega (arith, p .loop-test .taken) in
     l .inv .1 ∙ ap (λ (n : ℕ). rows-ok (decode (chart p)) n (drop (l .from) (table p))) n
-    ∙ rows-turn (chart p) (table p) (l .from) (w p) (stride p) (used p - (l .s + 1)) (wide p) (is-layout (chart p) _ (start p .pre .0 .0) .stride) b (sym (rw span at (c .row-ok .ensures)) ∙ h)
+    ∙ rows-ok-turn (chart p) (table p) (l .from) (w p) (stride p) (used p - (l .s + 1)) (wide p) (is-layout (chart p) _ (start p .pre .0 .0) .stride) b (sym (rw span at (c .row-ok .ensures)) ∙ h)
 
 returns : tie.Need-returns Inv-loop μ-loop
 returns c = sym (turn (c .before) false (not-true (c .before .row-ok .result) (c .if1 .taken)))

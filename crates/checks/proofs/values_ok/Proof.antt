@@ -6,7 +6,7 @@ use Rattle.semantics.specs.Chart.{eqZ, within}
 use Rattle.semantics.specs.Layout.{top-word, counts-size, variable-size, variable-at, high-place}
 use Rattle.semantics.specs.Encoding.{several, var-in, word-at}
 use Rattle.semantics.specs.Memory.{value-ok}
-use Rattle.checks.proofs.FormTests.{values-turn}
+use Rattle.checks.proofs.FormTests.{values-ok-turn}
 use Rattle.checks.proofs.values_ok.Statement.{statement}
 use Rattle.checks.proofs.values_ok.Tie as tie
 
@@ -55,7 +55,7 @@ module _ (c : tie.After-value-ok Inv-loop μ-loop) where
       let next : at + variable-size ≡ variable-at (i + 1) = omega arith in
       in-loop .before .loop .inv .1
       ∙ ap (λ (n : ℕ). all-pairs value-ok (several var-in variable-size n (drop at chart)) (drop i values)) n
-      ∙ values-turn values i h b chart at (length values - (i + 1)) (sym said ∙ e)
+      ∙ values-ok-turn values i h b chart at (length values - (i + 1)) (sym said ∙ e)
       ∙ ap (λ (n : ℕ). b && all-pairs value-ok (several var-in variable-size (length values - (i + 1)) (drop n chart)) (drop (i + 1) values)) next
 
 returns : tie.Need-returns Inv-loop μ-loop

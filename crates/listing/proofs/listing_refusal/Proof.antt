@@ -3,7 +3,7 @@ use Rattle.semantics.proofs.Prelude.{_≡_, sym, ap, _∙_, Bool, List, [], _�
 use Rattle.semantics.specs.Encoding.{decode}
 use Rattle.semantics.specs.Memory.{Memory}
 use Rattle.semantics.specs.Outcomes.{Case, case, refusal, form-of, text-of, listing-cases}
-use Rattle.semantics.proofs.FirstCase.{NoneMet, none-met, later, sooner}
+use Rattle.semantics.proofs.FirstCase.{NoneMet, none-met, refusal-later, sooner}
 use Rattle.semantics.proofs.StatesOk.{bounds}
 use Rattle.semantics.proofs.Encoded.{well-formed-split}
 use Rattle.semantics.proofs.ListingShort.{text-short}
@@ -27,7 +27,7 @@ module _ (s : tie.Start) where
   form = form-of words memory
 
   abbrev rest : List Case
-  rest = case 15 (ltb (s .args .space) (length text)) ∷ []
+  rest = case 15 (ltb (s .args .space-length) (length text)) ∷ []
 
 -- 20, 14 and 21 refuse nothing
 module _ (c : tie.Else1) where
@@ -40,8 +40,8 @@ module _ (c : tie.Else1) where
   given : InForm (words start) (memory start)
   given = in-form (words start) (memory start) (none .0) (none .1 .0) (none .1 .1 .0)
 
-  last : {b : Bool} → ltb (start .args .space) (length (text start)) ≡ b → refusal (case 15 b ∷ []) ≡ refusal (listing-cases (form start) (start .args .space) (text start))
-  last e = ap (λ (x : Bool). refusal (case 15 x ∷ [])) (sym e) ∙ sym (later (form start) (rest start) none)
+  last : {b : Bool} → ltb (start .args .space-length) (length (text start)) ≡ b → refusal (case 15 b ∷ []) ≡ refusal (listing-cases (form start) (start .args .space-length) (text start))
+  last e = ap (λ (x : Bool). refusal (case 15 x ∷ [])) (sym e) ∙ sym (refusal-later (form start) (rest start) none)
 
 returns : tie.Need-returns
 returns c = let s = c .before .before in sooner (form s) (rest s) _ (c .before .form-refusal .ensures) (c .if1 .taken)
@@ -52,7 +52,7 @@ returns-2 c =
     let f = c .before in
     let s = start f in
     let b = bounds (decode (words s)) (well-formed-split (words s) (given f .chart) .1) in
-    last f (le-ltb (s .args .space) (length (text s)) (omega (arith, c .if2 .taken, text-short (decode (words s)) b (memory s) (given f .analysis))))
+    last f (le-ltb (s .args .space-length) (length (text s)) (omega (arith, c .if2 .taken, text-short (decode (words s)) b (memory s) (given f .analysis))))
 
 listing-length-requires : tie.Need-listing-length-requires
 listing-length-requires c κs = given (c .before)
@@ -61,13 +61,13 @@ returns-3 : tie.Need-returns-3
 returns-3 c =
     let f = c .before .before .before in
     let s = start f in
-    last f (lt-ltb (s .args .space) (length (text s)) (omega (arith, c .if3 .taken, c .before .listing-length .ensures)))
+    last f (lt-ltb (s .args .space-length) (length (text s)) (omega (arith, c .if3 .taken, c .before .listing-length .ensures)))
 
 returns-4 : tie.Need-returns-4
 returns-4 c =
     let f = c .before .before .before in
     let s = start f in
-    last f (le-ltb (s .args .space) (length (text s)) (omega (arith, c .if3 .left, c .before .listing-length .ensures, s .pre)))
+    last f (le-ltb (s .args .space-length) (length (text s)) (omega (arith, c .if3 .left, c .before .listing-length .ensures, s .pre)))
 
 pub listing-refusal-spec : {M : Type 1} → statement M
 listing-refusal-spec =

@@ -2,7 +2,7 @@
 use Rattle.semantics.proofs.Prelude.{_≡_, sym, arith, needs, now, length, take, length-take-le}
 use Rattle.semantics.specs.Layout.{input-bytes}
 use Rattle.semantics.specs.Program.{output}
-use Rattle.program.proofs.BufferEnough.{enough}
+use Rattle.program.proofs.BufferEnough.{buffer-enough}
 use Rattle.program.proofs.respond_to.Statement.{statement}
 use Rattle.program.proofs.respond_to.Tie as tie
 
@@ -17,7 +17,7 @@ returns c input b =
     let buffer = now (s .args .buffer) in
     let h : length buffer ≡ input-bytes = search needs in
     let n = c .before .before .before .least .ensures in
-    let e : output input ≡ output (take (c .before .before .before .least .result) buffer) = rw n (enough input buffer (s .args .count) h b) in
+    let e : output input ≡ output (take (c .before .before .before .least .result) buffer) = rw n (buffer-enough input buffer (s .args .count) h b) in
     rw e (record { long = c .respond .ensures .0; bytes = c .respond .ensures .1 })
 
 pub respond-to-spec : {M : Type 1} → statement M

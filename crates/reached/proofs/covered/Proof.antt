@@ -4,7 +4,7 @@ use Rattle.semantics.specs.Lists.{some-of}
 use Rattle.words.proofs.Rows.{span, part-length}
 use Rattle.state.specs.Rows.{width-of, row-leq, rows-of}
 use Rattle.state.proofs.Slots.{OnSlot, first-slot, next-slot, slot-in, part-in}
-use Rattle.reached.proofs.SlotLoops.{some-turn}
+use Rattle.reached.proofs.SlotLoops.{covered-turn}
 use Rattle.reached.proofs.covered.Statement.{statement}
 use Rattle.reached.proofs.covered.Tie as tie
 
@@ -36,7 +36,7 @@ turn c b h =
     let k : a .used - i .loop .s ≡ suc (a .used - (i .loop .s + 1)) = omega (arith, c .before .before .loop-test .taken) in
     let q : row-leq (a .e .now) (take (width-of (a .layout)) (drop (i .loop .from) (a .table .now))) ≡ b = sym (rw (span, i .before .pre .row) at (c .leq-row .ensures)) ∙ h in
     i .loop .inv .1 ∙ ap (λ (n : ℕ). some-of (row-leq (a .e .now)) (rows-of (a .layout) n (drop (i .loop .from) (a .table .now)))) k
-    ∙ some-turn (a .e .now) (a .table .now) (a .layout) (i .loop .from) (a .used - (i .loop .s + 1)) b q
+    ∙ covered-turn (a .e .now) (a .table .now) (a .layout) (i .loop .from) (a .used - (i .loop .s + 1)) b q
 
 loop-holds : tie.Need-loop-holds Inv-loop μ-loop
 loop-holds c = let n : c .args .used - 0 ≡ c .args .used = omega arith in (first-slot _ _, rw n)

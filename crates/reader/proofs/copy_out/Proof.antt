@@ -2,7 +2,7 @@
 use Rattle.semantics.proofs.Prelude.{_≡_, sym, _∙_, _+_, _≤_, arith, take, length, length-take-le, now, needs}
 use Rattle.semantics.specs.Layout.{counts-size}
 use Rattle.reader.specs.ReadSoFar.{used-words}
-use Rattle.reader.proofs.CopiedOut.{held-words, too-short, enough}
+use Rattle.reader.proofs.CopiedOut.{held-words, too-short, room-for-chart}
 use Rattle.reader.proofs.copy_out.Statement.{statement}
 use Rattle.reader.proofs.copy_out.Tie as tie
 
@@ -31,8 +31,8 @@ returns-2 c = let p = c .before .before in
     let a = u .before .args in
     let i : used-words (a .t) ≤ length (now (a .rows)) = omega (arith, u .before .pre) in
     let f : used-words (a .t) + counts-size ≤ length (now (a .words)) = omega (arith, u .used-words .ensures, p .before .before .before .if1 .left) in (
-      λ d h. rw (enough h i (now (a .words)) f) (search needs),
-      λ d h. rw (enough h i (now (a .words)) f) (p .put-chart .ensures ∙ rw (u .used-words .ensures) (held-words h i (now (a .words)))),
+      λ d h. rw (room-for-chart h i (now (a .words)) f) (search needs),
+      λ d h. rw (room-for-chart h i (now (a .words)) f) (p .put-chart .ensures ∙ rw (u .used-words .ensures) (held-words h i (now (a .words)))),
     )
 
 pub copy-out-spec : {M : Type 1} → statement M

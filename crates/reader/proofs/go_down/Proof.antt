@@ -44,7 +44,7 @@ use denote.Signature.{plain}
 use Rattle.text.specs.Places.{line-at, place-after}
 use Rattle.text.specs.declared.lines.Reader.{Reader}
 use Rattle.text.specs.declared.lines.Line.{Line}
-use Rattle.reader.specs.ReadSoFar.{nothing-judged, Came, Stands, Ready, Advanced, most-rows, most-names}
+use Rattle.reader.specs.ReadSoFar.{nothing-judged, Came, Stands, Judgeable, Advanced, most-rows, most-names}
 use Rattle.reader.specs.declared.Descent.{Descent}
 use Rattle.reader.proofs.Reborrow.{LentAgain, lends, back}
 use Rattle.reader.proofs.NextLine.{at-first, ready, turns, fewer}
@@ -58,18 +58,18 @@ use Rattle.text.proofs.lines.open as open′
 use Rattle.text.proofs.lines.open.Symbol as open-def
 use Rattle.text.proofs.lines.open.Symbol.{name as #text·lines·open}
 use Rattle.text.proofs.lines.open.Met as open-thm
-use Rattle.text.proofs.lines.current as current
-use Rattle.text.proofs.lines.current.Symbol as current-def
-use Rattle.text.proofs.lines.current.Symbol.{name as #text·lines·current}
-use Rattle.text.proofs.lines.current.Met as current-thm
+use Rattle.text.proofs.lines.Reader.current as current
+use Rattle.text.proofs.lines.Reader.current.Symbol as current-def
+use Rattle.text.proofs.lines.Reader.current.Symbol.{name as #text·lines·Reader·current}
+use Rattle.text.proofs.lines.Reader.current.Met as current-thm
 use Rattle.text.proofs.lines.place_after as after
 use Rattle.text.proofs.lines.place_after.Symbol as after-def
 use Rattle.text.proofs.lines.place_after.Symbol.{name as #text·lines·place-after}
 use Rattle.text.proofs.lines.place_after.Met as after-thm
-use Rattle.reader.proofs.begun as begun
-use Rattle.reader.proofs.begun.Symbol as begun-def
-use Rattle.reader.proofs.begun.Symbol.{name as #reader·begun}
-use Rattle.reader.proofs.begun.Met as begun-thm
+use Rattle.reader.proofs.nothing_judged as begun
+use Rattle.reader.proofs.nothing_judged.Symbol as begun-def
+use Rattle.reader.proofs.nothing_judged.Symbol.{name as #reader·nothing-judged}
+use Rattle.reader.proofs.nothing_judged.Met as begun-thm
 use Rattle.reader.proofs.advance as advance
 use Rattle.reader.proofs.advance.Symbol as advance-def
 use Rattle.reader.proofs.advance.Symbol.{name as #reader·advance}
@@ -199,7 +199,7 @@ module _ {M : Type 1} (𝓤 : URA M) (H : Heap 𝓤) (A : Atoms 𝓤) (W : Given
   open-said : (r : Reader) → ent 𝓤 (ensured 𝓤 H A open′.ended (open′.clauses 𝓤 H A at-mem run) (κ₀, tt) (s, tt) tt r) (fact 𝓤 ((r .text ≡ s) × (r .at ≡ 0)))
   open-said r = exE 𝓤 _ (λ ws. snd∗ 𝓤 (sem 𝓤 H A (lasts open′.ended (κ₀, tt) (s, tt) ws)) (fact 𝓤 ((r .text ≡ s) × (r .at ≡ 0))))
 
-  -- the call of `begun`
+  -- the call of `nothing_judged`
   abbrev to-begun : Begun 𝓤 H A at-mem run .Ghost
   to-begun = ((tt, tt, tt, tt, tt), tt)
 
@@ -256,7 +256,7 @@ module _ {M : Type 1} (𝓤 : URA M) (H : Heap 𝓤) (A : Atoms 𝓤) (W : Given
   abbrev Passed : Descent → List ℤ → List ℤ → Line → Val → ℕ → ℕ → GName → GName → Item 𝓤
   Passed p ts ns l u ν₁ ν₂ δ₁ δ₂ = ‵ (owns (Y.the-row ∷ MutSlice (named 0) (ν₁ ∷ []) i32 ∷ MutSlice (named 1) (ν₂ ∷ []) i32 ∷ ShrSlice (named 2) κ₀ u8 ∷ S.the-row ∷ []) (aA p ts ns l δ₁ δ₂) (vA p u))
 
-  asked : (p : Descent) (ts ns : List ℤ) (l : Line) (u : Val) (ν₁ ν₂ : ℕ) (δ₁ δ₂ : GName) → Ready (now s) p l × (length ts ≡ most-rows) × (length ns ≡ most-names)
+  asked : (p : Descent) (ts ns : List ℤ) (l : Line) (u : Val) (ν₁ ν₂ : ℕ) (δ₁ δ₂ : GName) → Judgeable (now s) p l × (length ts ≡ most-rows) × (length ns ≡ most-names)
       → ent 𝓤 (onEntry 𝓤 H A advance.signature (ν₁ ∷ [], (ν₂ ∷ [], (κ₀, tt))) (fullShare, (fullShare, (q₀, tt))) (aA p ts ns l δ₁ δ₂) (vA p u)) (Advance 𝓤 H A at-mem run .pre (to-advance p ts ns l u ν₁ ν₂ δ₁ δ₂))
   asked p ts ns l u ν₁ ν₂ δ₁ δ₂ h = qed W (Toks ν₁ ν₂ ∷ Passed p ts ns l u ν₁ ν₂ δ₁ δ₂ ∷ []) ∵ says ! h $ frame ! $ done !
 
@@ -271,8 +271,8 @@ module _ {M : Type 1} (𝓤 : URA M) (H : Heap 𝓤) (A : Atoms 𝓤) (W : Given
       split ! $ move ! (6 ∷ 1 ∷ []) $ join ! $ move ! (4 ∷ 0 ∷ []) $ join ! $ move ! (1 ∷ 0 ∷ []) $ join ! $ frame ! $
       nothing ! $ move ! (3 ∷ 0 ∷ []) $ fjoin ! $ move ! (2 ∷ 0 ∷ []) $ fjoin ! $ move ! (1 ∷ 0 ∷ []) $ fjoin ! $ frame ! $ owned ! Y.the-row (Is Y.the-row) (LL.makes Y.the-type Y′.the-plain 𝓤 H A) p _ p-is $ done !
 
-  module _ (𝓣 : Tables 𝓤 H) (known-open : Triple 𝓤 (𝓣 .C #text·lines·open) (Open 𝓤 H A at-mem run)) (known-current : Triple 𝓤 (𝓣 .C #text·lines·current) (Current 𝓤 H A at-mem run)) (known-after : Triple 𝓤 (𝓣 .C #text·lines·place-after) (After 𝓤 H A at-mem run))
-      (known-begun : Triple 𝓤 (𝓣 .C #reader·begun) (Begun 𝓤 H A at-mem run)) (known-advance : Triple 𝓤 (𝓣 .C #reader·advance) (Advance 𝓤 H A at-mem run))
+  module _ (𝓣 : Tables 𝓤 H) (known-open : Triple 𝓤 (𝓣 .C #text·lines·open) (Open 𝓤 H A at-mem run)) (known-current : Triple 𝓤 (𝓣 .C #text·lines·Reader·current) (Current 𝓤 H A at-mem run)) (known-after : Triple 𝓤 (𝓣 .C #text·lines·place-after) (After 𝓤 H A at-mem run))
+      (known-begun : Triple 𝓤 (𝓣 .C #reader·nothing-judged) (Begun 𝓤 H A at-mem run)) (known-advance : Triple 𝓤 (𝓣 .C #reader·advance) (Advance 𝓤 H A at-mem run))
       (p₀ : Is (ShrSlice (named 0) κ₀ u8) s (v₀ ∷ [])) (room₁ : Room i32 (length ys)) (room₂ : Room i32 (length zs)) (size₁ : length ys ≡ most-rows) (size₂ : length zs ≡ most-names) where
     abbrev C : Calls 𝓤 H
     C = 𝓣 .C
@@ -414,7 +414,7 @@ module _ {M : Type 1} (𝓤 : URA M) (H : Heap 𝓤) (A : Atoms 𝓤) (W : Given
       from-loop : (x : State) → Sq W (I x) (runs C Λ E mir.t-3 (atRet E Post))
       from-loop x = first ! $ blocks ! $ by ! (loop-runs x)
 
-    -- the first state, with what `begun` gave
+    -- the first state, with what `nothing_judged` gave
     start : (p : Descent) {u : Val} → Is Y.the-row p (u ∷ []) → p ≡ nothing-judged → State
     start p {u} p-is e = record {
       m = 0;
@@ -460,8 +460,8 @@ module _ {M : Type 1} (𝓤 : URA M) (H : Heap 𝓤) (A : Atoms 𝓤) (W : Given
         -- [what the reader owns; the token; κ₂; κ₁; the names'; the rows'; what s owns; _13; …]
         move ! (0 ∷ 1 ∷ 6 ∷ 5 ∷ 3 ∷ 4 ∷ 2 ∷ []) $ from-loop l₀ l₁ l₂ l₃ l₄ l₅ l₆ l₇ l₈ l₉ l₁₀ l₁₁ l₁₂ l₁₃ (start p p-is ep)))))))))))))))))))))))
 
-module _ {M : Type 1} (𝓤 : URA M) (H : Heap 𝓤) (A : Atoms 𝓤) (W : Given 𝓤 H A) (mem : Memory → SProp 𝓤) (run : Routine → Fun 𝓤) (𝓣 : Tables 𝓤 H) (known-open : Triple 𝓤 (𝓣 .C #text·lines·open) (Open 𝓤 H A mem run)) (known-current : Triple 𝓤 (𝓣 .C #text·lines·current) (Current 𝓤 H A mem run))
-    (known-after : Triple 𝓤 (𝓣 .C #text·lines·place-after) (After 𝓤 H A mem run)) (known-begun : Triple 𝓤 (𝓣 .C #reader·begun) (Begun 𝓤 H A mem run)) (known-advance : Triple 𝓤 (𝓣 .C #reader·advance) (Advance 𝓤 H A mem run)) where
+module _ {M : Type 1} (𝓤 : URA M) (H : Heap 𝓤) (A : Atoms 𝓤) (W : Given 𝓤 H A) (mem : Memory → SProp 𝓤) (run : Routine → Fun 𝓤) (𝓣 : Tables 𝓤 H) (known-open : Triple 𝓤 (𝓣 .C #text·lines·open) (Open 𝓤 H A mem run)) (known-current : Triple 𝓤 (𝓣 .C #text·lines·Reader·current) (Current 𝓤 H A mem run))
+    (known-after : Triple 𝓤 (𝓣 .C #text·lines·place-after) (After 𝓤 H A mem run)) (known-begun : Triple 𝓤 (𝓣 .C #reader·nothing-judged) (Begun 𝓤 H A mem run)) (known-advance : Triple 𝓤 (𝓣 .C #reader·advance) (Advance 𝓤 H A mem run)) where
   go-down-walks : Walks 𝓤 H A go-down.ended stayed (WpFn 𝓤 H (𝓣 .C) (𝓣 .Λ) code.function) (go-down.clauses 𝓤 H A mem run)
   go-down-walks = walked 𝓤 H A go-down.ended stayed (go-down.clauses 𝓤 H A mem run) (WpFn 𝓤 H (𝓣 .C) (𝓣 .Λ) code.function) (λ κs. (slice-vals, (slice-vals, (slice-vals, tt))))
       (λ κs. (shr-slice-tells (named 0) (κs .0) u8, (mut-slice-tells (named 1) (κs .1 .0) i32, (mut-slice-tells (named 2) (κs .1 .1 .0) i32, tt))))
@@ -481,7 +481,7 @@ go-down-spec 𝓤 H 𝓜 𝓖 𝓡 =
     (tables 𝓤 H 𝓜 𝓡 code.env .C) (tables 𝓤 H 𝓜 𝓡 code.env .Λ) #reader·go-down code.function (code.unfolded 𝓤 H 𝓜 𝓡)
     (go-down-meets 𝓤 H (𝓖 .A) (givenOf 𝓤 H 𝓜 𝓖) (𝓜 .mem) (𝓡 .run) (tablesOf 𝓤 H 𝓜 (tables 𝓤 H 𝓜 𝓡 code.env))
     (cited 𝓤 H (Open 𝓤 H (𝓖 .A) (𝓜 .mem) (𝓡 .run)) 𝓜 𝓡 code.env #text·lines·open open-def.routine code.calls-text·lines·open (open-thm.met 𝓤 H 𝓜 𝓖 𝓡))
-    (cited 𝓤 H (Current 𝓤 H (𝓖 .A) (𝓜 .mem) (𝓡 .run)) 𝓜 𝓡 code.env #text·lines·current current-def.routine code.calls-text·lines·current (current-thm.met 𝓤 H 𝓜 𝓖 𝓡))
+    (cited 𝓤 H (Current 𝓤 H (𝓖 .A) (𝓜 .mem) (𝓡 .run)) 𝓜 𝓡 code.env #text·lines·Reader·current current-def.routine code.calls-text·lines·Reader·current (current-thm.met 𝓤 H 𝓜 𝓖 𝓡))
     (cited 𝓤 H (After 𝓤 H (𝓖 .A) (𝓜 .mem) (𝓡 .run)) 𝓜 𝓡 code.env #text·lines·place-after after-def.routine code.calls-text·lines·place-after (after-thm.met 𝓤 H 𝓜 𝓖 𝓡))
-    (cited 𝓤 H (Begun 𝓤 H (𝓖 .A) (𝓜 .mem) (𝓡 .run)) 𝓜 𝓡 code.env #reader·begun begun-def.routine code.calls-reader·begun (begun-thm.met 𝓤 H 𝓜 𝓖 𝓡))
+    (cited 𝓤 H (Begun 𝓤 H (𝓖 .A) (𝓜 .mem) (𝓡 .run)) 𝓜 𝓡 code.env #reader·nothing-judged begun-def.routine code.calls-reader·nothing-judged (begun-thm.met 𝓤 H 𝓜 𝓖 𝓡))
     (cited 𝓤 H (Advance 𝓤 H (𝓖 .A) (𝓜 .mem) (𝓡 .run)) 𝓜 𝓡 code.env #reader·advance advance-def.routine code.calls-reader·advance (advance-thm.met 𝓤 H 𝓜 𝓖 𝓡)))

@@ -11,8 +11,8 @@ text c = now (c .before .before .before .before .args .text)
 through : (c : tie.After-s2) → let d = c .before .before .before .before in Through (text d) (c .s2 .given .0 .0) (d .go-down .last .1 .0)
 through c = rw (c .s2 .given .1) at (c .before .before .before .before .go-down .ensures)
 
-finish-requires : tie.Need-finish-requires
-finish-requires c κs = let k = c .before .before .before in (through k .few, k .before .before .before .before .go-down .kept .1 .0)
+at-end-requires : tie.Need-at-end-requires
+at-end-requires c κs = let k = c .before .before .before in (through k .few, k .before .before .before .before .go-down .kept .1 .0)
 
 returns : tie.Need-returns
 returns c = let k = c .before .before in
@@ -22,7 +22,7 @@ returns c = let k = c .before .before in
 
 returns-2 : tie.Need-returns-2
 returns-2 c = let h = through (c .before .before .before .before .before) in
-    let f = c .before .finish .ensures in
+    let f = c .before .at-end .ensures in
     (rw (h .is) (f .0 (h .chart) (h .held)), rw (h .is) (f .1 (h .chart) (h .held)))
 
 pub read-lines-spec : {M : Type 1} → statement M
@@ -31,7 +31,7 @@ read-lines-spec =
     (tie.spec
     (λ c. search needs) (λ c. search needs) (λ c κs. search needs) (λ c. search needs) (λ c κs. search needs)
     (λ c. search needs) (λ c. search needs)
-    finish-requires
+    at-end-requires
     returns
     (λ c. search needs)
     returns-2)

@@ -4,7 +4,7 @@ use Rattle.semantics.proofs.Prelude.{_≡_, sym, refl, _∙_, _&&_, _++_, _-_, 
 use Rattle.semantics.specs.Encoding.{word-at}
 use Rattle.words.proofs.Words.{bits-eqb}
 use Rattle.state.specs.Rows.{head-size, word-join, words-join, same-words, row-join}
-use Rattle.state.proofs.RowLoops.{join-turn, join-end, same-start, same-turn, same-end}
+use Rattle.state.proofs.RowLoops.{join-turn, join-end, same-start, same-turn, joined-end}
 use Rattle.state.proofs.join_row.Statement.{statement}
 use Rattle.state.proofs.join_row.Tie as tie
 
@@ -48,7 +48,7 @@ returns c =
     let e = b .before .args .e .now in
     let he : length e ≤ b .loop .i = omega arith in
     let hs : length (b .loop .s) ≤ b .loop .i = omega arith in (
-      sym (b .loop .inv .4 ∙ same-end e (b .loop .s) (b .loop .i) he hs (b .loop .same)),
+      sym (b .loop .inv .4 ∙ joined-end e (b .loop .s) (b .loop .i) he hs (b .loop .same)),
       sym (b .loop .inv .3 ∙ join-end e (b .loop .s) (b .loop .i) he hs),
     )
 

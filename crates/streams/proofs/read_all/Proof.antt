@@ -1,12 +1,12 @@
 -- `streams::read_all` meets its contract, and ends: the bytes that are left become fewer. Assumes nothing.
 use Rattle.semantics.proofs.Prelude.{_≡_, refl, _∙_, _-_, _≤_, arith, needs, sfits-of, length, w64, toZ, ofZ}
 use borrow.Rule.Slice.PartMut.{putMid, same-len-mid}
-use Rattle.streams.proofs.Answers.{Onward, Counted, moves-on, counted-more, all-moved, ended-short}
+use Rattle.streams.proofs.Answers.{Onward, CountedBy, moves-on, counted-more, all-moved, ended-short}
 use Rattle.streams.proofs.read_all.Statement.{statement}
 use Rattle.streams.proofs.read_all.Tie as tie
 
 abbrev Inv-loop : tie.InvT-loop
-Inv-loop buf₀ count₀ last₀ buf count last = (length buf ≡ length buf₀) × ((count ≤ length buf₀) × Counted count (toZ w64 last))
+Inv-loop buf₀ count₀ last₀ buf count last = (length buf ≡ length buf₀) × ((count ≤ length buf₀) × CountedBy count (toZ w64 last))
 
 abbrev μ-loop : tie.MeasureT-loop
 μ-loop buf₀ count₀ last₀ buf count last = length buf₀ - count

@@ -1,11 +1,11 @@
 -- `streams::write_all` meets its contract, and ends: the bytes that are left become fewer. Assumes nothing.
 use Rattle.semantics.proofs.Prelude.{refl, _-_, _≤_, arith, needs, sfits-of, length, w64, toZ, ofZ}
-use Rattle.streams.proofs.Answers.{Onward, Counted, moves-on, counted-more, all-moved, ended-short}
+use Rattle.streams.proofs.Answers.{Onward, CountedBy, moves-on, counted-more, all-moved, ended-short}
 use Rattle.streams.proofs.write_all.Statement.{statement}
 use Rattle.streams.proofs.write_all.Tie as tie
 
 abbrev Inv-loop : tie.InvT-loop
-Inv-loop buf count₀ last₀ count last = (count ≤ length buf) × Counted count (toZ w64 last)
+Inv-loop buf count₀ last₀ count last = (count ≤ length buf) × CountedBy count (toZ w64 last)
 
 abbrev μ-loop : tie.MeasureT-loop
 μ-loop buf count₀ last₀ count last = length buf - count

@@ -3,7 +3,7 @@ use Rattle.semantics.proofs.Prelude.{needs, arith, _≡_, refl, sym, ap, _∙_,
 use Rattle.semantics.specs.Text.{digits}
 use Rattle.text.specs.Fields.{natural-read}
 use Rattle.text.specs.declared.Natural.the-variants as natural
-use Rattle.text.proofs.Digits.{digits-end, digits-step, digits-low, digits-high, cut-same}
+use Rattle.text.proofs.Digits.{digits-end, digits-step, digits-low, digits-high, capped-same}
 use Rattle.text.proofs.digits_in.Statement.{statement}
 use Rattle.text.proofs.digits_in.Tie as tie
 
@@ -33,7 +33,7 @@ loop-again c =
     let k = c .before .before .before .before .before in (
       omega arith,
       omega arith,
-      k .before .loop .inv .2 ∙ ap natural-read (digits-step _ _ _ (k .loop-test .taken) (omega arith) (omega arith)) ∙ cut-same _ _ _ (omega arith),
+      k .before .loop .inv .2 ∙ ap natural-read (digits-step _ _ _ (k .loop-test .taken) (omega arith) (omega arith)) ∙ capped-same _ _ _ (omega arith),
     )
 
 returns-3 : tie.Need-returns-3 Inv-loop μ-loop

@@ -13,7 +13,7 @@ returns c =
     let a = o .first-operand .result in
     let fa = sfits-of {z = a} (o .first-operand .ok) in
     let w = c .before .before .before .wide .result in
-    c .before .put-value .ensures
+    c .before .assign-or-top .ensures
     ∙ rw (
       bits-eqb w32 {a = a} {b = top-word} fa (sfits-lit tt),
       toZ-ofZ w64 w (sfits-of {z = w} (c .before .before .before .wide .ok)),

@@ -12,7 +12,7 @@ returns c =
     let q = s .before .second-operand in
     let p = s .before .before .before .first-operand in
     let z = s .result .result in
-    c .before .put-result .ensures
+    c .before .assign-result .ensures
     ∙ rw (
       toZ-ofZ w64 z (sfits-of {z = z} (s .result .ok)),
       s .result .ensures,

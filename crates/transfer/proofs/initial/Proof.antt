@@ -15,13 +15,13 @@ abbrev μ-loop : tie.MeasureT-loop
 μ-loop chart out₀ n k₀ out k = n - k
 
 -- the number of variables, seen from the loop
-abbrev counted : tie.At-loop Inv-loop μ-loop → tie.After-var-count Inv-loop μ-loop
+abbrev counted : tie.At-loop Inv-loop μ-loop → tie.After-variable-count Inv-loop μ-loop
 counted b = b .before .before .before .before
 
 loop-holds : tie.Need-loop-holds Inv-loop μ-loop
 loop-holds c =
     let l = c .before in
-    let v = l .before .before .var-count in
+    let v = l .before .before .variable-count in
     let a = l .before .before .before .args in
     let o = a .out .now in
     let h : 0 < length o = omega arith in
@@ -36,7 +36,7 @@ loop-again c =
     let ws = p .before .args .chart .now in
     let o = b .loop .out in
     let k = b .loop .k in
-    let n = p .var-count .result in
+    let n = p .variable-count .result in
     let x = i .result in
     let h : k + 1 < length o = omega arith in
     let l : k + 1 ≤ n = omega arith in
@@ -50,14 +50,14 @@ loop-again c =
 same-length : tie.Need-same-length Inv-loop μ-loop
 same-length c =
     let b = c .before in
-    omega (arith, b .loop .inv .1, counted b .var-count .ensures .0)
+    omega (arith, b .loop .inv .1, counted b .variable-count .ensures .0)
 
 returns : tie.Need-returns Inv-loop μ-loop
 returns c =
     let b = c .before in
     let p = counted b in
     let k = b .loop .k in
-    let n = p .var-count .result in
+    let n = p .variable-count .result in
     let h : length (b .loop .out) ≤ k + 1 = omega arith in
     let l : n < k + 1 = omega arith in
     sym (b .loop .inv .2 ∙ initial-end (p .before .args .chart .now) (b .loop .out) (k + 1) (variable-at k + init-place) n h l)
@@ -71,9 +71,9 @@ initial-spec =
     (λ c κs. search needs)
     (λ c κs. omega arith)
     loop-holds
-    (λ c κs. omega (arith, counted (c .before) .var-count .ensures .1))
-    (λ c κs. omega (arith, counted (c .before .before .before) .var-count .ensures .1))
-    (λ c. omega (arith, counted (c .before .before .before .before .before) .var-count .ensures .1))
+    (λ c κs. omega (arith, counted (c .before) .variable-count .ensures .1))
+    (λ c κs. omega (arith, counted (c .before .before .before) .variable-count .ensures .1))
+    (λ c. omega (arith, counted (c .before .before .before .before .before) .variable-count .ensures .1))
     (λ c. omega arith)
     loop-again
     same-length

@@ -18,7 +18,7 @@ returns c =
     let s = w .before .before in
     let x = w .wide .result in
     rw (test-is s ∙ w .before .if1 .taken)
-    (c .before .put-ranged .ensures ∙ rw (toZ-ofZ w64 x (sfits-of {z = x} (w .wide .ok)), w .wide .ensures, toZ-ofZ w32 (s .args .x) (s .fits .x)))
+    (c .before .assign-ranged .ensures ∙ rw (toZ-ofZ w64 x (sfits-of {z = x} (w .wide .ok)), w .wide .ensures, toZ-ofZ w32 (s .args .x) (s .fits .x)))
 
 returns-2 : tie.Need-returns-2
 unfolding refine-by

@@ -7,9 +7,9 @@ use Rattle.transfer.proofs.successor.Statement.{statement}
 use Rattle.transfer.proofs.successor.Tie as tie
 
 -- the test that the edge leaves the row's location
-module _ (c : tie.After-same-location) where
-  leaves : c .same-location .result ≡ eqb (count (c .before .before .before .args .chart .now) (c .before .before .before .args .edge .at)) (location-in (c .before .before .before .args .row .now))
-  leaves = c .same-location .ensures ∙ rw (c .before .before .edge-from .ensures .0, c .before .location-of .ensures .0)
+module _ (c : tie.After-equals) where
+  leaves : c .equals .result ≡ eqb (count (c .before .before .before .args .chart .now) (c .before .before .before .args .edge .at)) (location-in (c .before .before .before .args .row .now))
+  leaves = c .equals .ensures ∙ rw (c .before .before .edge-from .ensures .0, c .before .location-of .ensures .0)
 
 same-length : tie.Need-same-length
 same-length c =

@@ -10,13 +10,13 @@ returns-2 c =
     let n = c .before .number-at in
     let t = c .before .before .before .before in
     let f = t .before .edge-from in
-    let after = t .before .before .edge-after in
+    let after = t .before .before .after in
     let s = t .before .before .before .before .before in
     let same : from-at (s .args .chart .now) (s .args .edge .id .0 - 1) ≡ s .args .l .0 =
     ap (count (s .args .chart .now)) (sym (s .pre .1)) ∙ sym (f .ensures .0)
-    ∙ eqb-true (f .result .0) (s .args .l .0) (sym (t .same-location .ensures) ∙ not-false (t .same-location .result) (c .before .before .before .if1 .left)) in (
-      omega (arith, c .later-edge .ensures, after .ensures),
-      λ j lo hi e. s .pre .0 j lo (omega (arith, lo, hi, c .later-edge .ensures, after .ensures, n .ensures)) (e ∙ sym same),
+    ∙ eqb-true (f .result .0) (s .args .l .0) (sym (t .equals .ensures) ∙ not-false (t .equals .result) (c .before .before .before .if1 .left)) in (
+      omega (arith, c .or-later .ensures, after .ensures),
+      λ j lo hi e. s .pre .0 j lo (omega (arith, lo, hi, c .or-later .ensures, after .ensures, n .ensures)) (e ∙ sym same),
     )
 
 pub next-spec : {M : Type 1} → statement M

@@ -3,7 +3,7 @@ use Rattle.semantics.proofs.Prelude.{sym, _∙_, arith, not-true, not-false, ne
 use Rattle.semantics.specs.Reading.{op-word-field}
 use Rattle.text.specs.Fields.{op-word-res}
 use Rattle.text.proofs.FieldTests.{field-said}
-use Rattle.reader.proofs.Reading.{edge-full, edge-few-fields, edge-no-word, edge-word}
+use Rattle.reader.proofs.Reading.{edge-full, edge-few-fields, edge-no-word, edge-by-word}
 use Rattle.reader.proofs.edge.read_line.Statement.{statement}
 use Rattle.reader.proofs.edge.read_line.Tie as tie
 
@@ -27,7 +27,7 @@ returns-4 c = λ s names h g.
     let w = c .before .before .before .before .before .before in
     let k = w .before .before in
     let e = field-said op-word-field op-word-res (w .before .field .ensures) (w .op-word-field .ensures) (c .before .before .before .before .w .given .1) in
-    rw (edge-word s _ (omega (arith, h .edges)) (sym (k .before .enough .ensures) ∙ not-false _ (k .if2 .left)) e) (c .before .worded .ensures s names h g)
+    rw (edge-by-word s _ (omega (arith, h .edges)) (sym (k .before .enough .ensures) ∙ not-false _ (k .if2 .left)) e) (c .before .worded .ensures s names h g)
 
 pub read-line-spec : {M : Type 1} → statement M
 read-line-spec =

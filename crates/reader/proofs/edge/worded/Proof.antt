@@ -27,7 +27,7 @@ module _ (c : tie.After-judged) where
   word = start .args .w
 
   counted : eqb (length fs) (field-count (the-word word)) ≡ true
-  counted = let k = c .before .before in eq-eqb _ _ (sym (k .before .before .field-count .ensures) ∙ k .if1 .left ∙ k .before .field-count2 .ensures)
+  counted = let k = c .before .before in eq-eqb _ _ (sym (k .before .before .count-fields .ensures) ∙ k .if1 .left ∙ k .before .field-count .ensures)
 
 -- to an edge
 module _ (c : tie.After-g) where
@@ -47,7 +47,7 @@ put-edge-requires c κs = let g = c .before .before .before in
     (omega (arith, n .0, p), omega (arith, n .1, p), omega (arith, c .used-words .ensures, p))
 
 returns : tie.Need-returns
-returns c = λ s names h g. check-no _ _ (ne-eqb _ _ (λ e. c .if1 .taken (c .before .before .field-count .ensures ∙ e ∙ sym (c .before .field-count2 .ensures))))
+returns c = λ s names h g. check-no _ _ (ne-eqb _ _ (λ e. c .if1 .taken (c .before .before .count-fields .ensures ∙ e ∙ sym (c .before .field-count .ensures))))
 
 returns-2 : tie.Need-returns-2
 returns-2 c = λ s names h g.

@@ -1,8 +1,8 @@
--- `chart::put_bytes` meets its contract. Assumes nothing.
+-- `chart::bytes_as_words` meets its contract. Assumes nothing.
 use Rattle.semantics.proofs.Prelude.{_++_, map, append-nil, _≡_, refl, sym, _∙_, _-_, _≤_, arith, pos, length, getD, take, drop, length-set, drop-of-length-le, take-all, now, toZ, ofZ, w32, needs}
 use Rattle.chart.proofs.Storing.{bytes-turn}
-use Rattle.chart.proofs.put_bytes.Statement.{statement}
-use Rattle.chart.proofs.put_bytes.Tie as tie
+use Rattle.chart.proofs.bytes_as_words.Statement.{statement}
+use Rattle.chart.proofs.bytes_as_words.Tie as tie
 
 abbrev Inv-loop : tie.InvT-loop
 Inv-loop row₀ name i₀ row i = (i ≤ length name) × (length row ≡ length name) × (take i row ++ map pos (drop i name) ≡ map pos name)
@@ -22,8 +22,8 @@ returns c =
     let l = c .before .loop in
     sym (take-all (l .i) (l .row) (omega arith)) ∙ rw (drop-of-length-le (now (c .before .before .before .args .name)) (c .loop-test .left), append-nil) at (l .inv .2)
 
-pub put-bytes-spec : {M : Type 1} → statement M
-put-bytes-spec =
+pub bytes-as-words-spec : {M : Type 1} → statement M
+bytes-as-words-spec =
     tie.close
     (tie.spec
     Inv-loop

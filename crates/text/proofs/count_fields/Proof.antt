@@ -1,10 +1,10 @@
--- `text::field_count` meets its contract: the fields passed and those that are left are as many as all. Assumes
+-- `text::count_fields` meets its contract: the fields passed and those that are left are as many as all. Assumes
 -- nothing.
 use Rattle.semantics.proofs.Prelude.{needs, _≡_, _+_, _-_, _≤_, eqb, length, drop, getD, now, arith}
 use Rattle.semantics.specs.Text.{fields}
 use Rattle.text.proofs.LineFields.{count-next, count-last, tab-few}
-use Rattle.text.proofs.field_count.Statement.{statement}
-use Rattle.text.proofs.field_count.Tie as tie
+use Rattle.text.proofs.count_fields.Statement.{statement}
+use Rattle.text.proofs.count_fields.Tie as tie
 
 abbrev Inv-loop : tie.InvT-loop
 Inv-loop line n₀ i₀ n i = (i ≤ length line) × (n ≤ i + 1) × (n + length (fields (drop i line)) ≡ length (fields line) + 1)
@@ -30,8 +30,8 @@ loop-again c =
 returns : tie.Need-returns Inv-loop μ-loop
 returns c = omega (arith, count-last (now (c .before .before .before .args .line)) (c .before .loop .i) (c .loop-test .left))
 
-pub field-count-spec : {M : Type 1} → statement M
-field-count-spec =
+pub count-fields-spec : {M : Type 1} → statement M
+count-fields-spec =
     tie.close
     (tie.spec
     Inv-loop

@@ -1,12 +1,12 @@
--- `transfer::put_ranged` meets its contract. Assumes nothing.
+-- `transfer::assign_ranged` meets its contract. Assumes nothing.
 use Rattle.semantics.proofs.Prelude.{_≡_, sym, _∙_, _+_, needs, sfits-of, not-true, not-false, ℤ, w32, w64, SFits, toZ-ofZ}
 use Rattle.semantics.specs.Layout.{variable-at, high-place}
 use Rattle.semantics.specs.Chart.{within}
 use Rattle.semantics.specs.Encoding.{word-at}
-use Rattle.transfer.specs.Transfer.{set-ranged}
+use Rattle.transfer.specs.Transfer.{assign-ranged}
 use Rattle.transfer.proofs.TransferTests.{within-fits}
-use Rattle.transfer.proofs.put_ranged.Statement.{statement}
-use Rattle.transfer.proofs.put_ranged.Tie as tie
+use Rattle.transfer.proofs.assign_ranged.Statement.{statement}
+use Rattle.transfer.proofs.assign_ranged.Tie as tie
 
 module _ (c : tie.After-lies-within) where
   abbrev lo : ℤ
@@ -34,7 +34,7 @@ module _ (c : tie.After-lies-within) where
       told ∙ λ i. within (p i) (q i) (start .args .z)
 
 returns : tie.Need-returns
-unfolding set-ranged
+unfolding assign-ranged
 returns c = rw (sym (in-range (c .before)) ∙ not-true _ (c .if1 .taken))
 
 fits : (c : tie.Else1) → SFits w32 (c .before .before .before .before .args .z)
@@ -48,15 +48,15 @@ cast-x c =
     rw (toZ-ofZ w64 (s .args .z) (s .fits .z)) (fits c)
 
 returns-2 : tie.Need-returns-2
-unfolding set-ranged
+unfolding assign-ranged
 returns-2 c =
     let h = c .before .before .before in
     let s = h .before .before .before .before in
     let z = s .args .z in
     rw (sym (in-range (h .before)) ∙ not-false _ (h .if1 .left), c .before .set-value .ensures, toZ-ofZ w64 z (s .fits .z), toZ-ofZ w32 z (fits h))
 
-pub put-ranged-spec : {M : Type 1} → statement M
-put-ranged-spec =
+pub assign-ranged-spec : {M : Type 1} → statement M
+assign-ranged-spec =
     tie.close
     (tie.spec
     (λ c κs. search needs) (λ c κs. search needs) (λ c κs. search needs)

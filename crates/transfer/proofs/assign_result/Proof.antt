@@ -1,17 +1,17 @@
--- `transfer::put_result` meets its contract. Assumes nothing.
+-- `transfer::assign_result` meets its contract. Assumes nothing.
 use Rattle.semantics.proofs.Prelude.{_∙_, needs, w32, w64, sfits-lit, toZ-ofZ}
 use Rattle.semantics.specs.Layout.{top-word}
 use Rattle.words.proofs.Words.{bits-eqb}
-use Rattle.transfer.specs.Transfer.{set-result}
-use Rattle.transfer.proofs.put_result.Statement.{statement}
-use Rattle.transfer.proofs.put_result.Tie as tie
+use Rattle.transfer.specs.Transfer.{assign-result}
+use Rattle.transfer.proofs.assign_result.Statement.{statement}
+use Rattle.transfer.proofs.assign_result.Tie as tie
 
 returns : tie.Need-returns
-unfolding set-result
+unfolding assign-result
 returns c =
     let t = c .before .before .before in
     let s = t .before in
-    c .before .put-value .ensures
+    c .before .assign-or-top .ensures
     ∙ rw (
       bits-eqb w32 {b = top-word} (s .fits .a) (sfits-lit tt),
       bits-eqb w32 {b = top-word} (s .fits .b) (sfits-lit tt),
@@ -19,5 +19,5 @@ returns c =
       t .edge-target .ensures .0,
     )
 
-pub put-result-spec : {M : Type 1} → statement M
-put-result-spec = tie.close (tie.spec (λ c κs. search needs) (λ c κs. search needs) (λ c. search needs) returns)
+pub assign-result-spec : {M : Type 1} → statement M
+assign-result-spec = tie.close (tie.spec (λ c κs. search needs) (λ c κs. search needs) (λ c. search needs) returns)

@@ -1,4 +1,4 @@
--- `text::lines::current` meets its contract: a walk of its MIR, by hand. The reader is taken apart, and `line_at` is called
+-- `text::lines::Reader::current` meets its contract: a walk of its MIR, by hand. The reader is taken apart, and `line_at` is called
 -- with the slice and the place. All that the proof knows of `line_at` is that it meets its contract. The reader is
 -- Copy: what it owns is had twice, one copy is kept whole for the exit, and of the other what text owns goes to the
 -- callee, beside the lifetime's token, which comes back. Assumes nothing.
@@ -48,10 +48,10 @@ use Rattle.text.proofs.lines.line_at as line-at
 use Rattle.text.proofs.lines.line_at.Symbol as line-at-def
 use Rattle.text.proofs.lines.line_at.Symbol.{name as #text·lines·line-at}
 use Rattle.text.proofs.lines.line_at.Met as line-at-thm
-use Rattle.text.proofs.lines.current.Key.{name as #text·lines·current}
-use Rattle.text.proofs.lines.current as current
-use Rattle.text.proofs.lines.current.Statement as stated
-use Rattle.text.proofs.lines.current.Code as code
+use Rattle.text.proofs.lines.Reader.current.Key.{name as #text·lines·Reader·current}
+use Rattle.text.proofs.lines.Reader.current as current
+use Rattle.text.proofs.lines.Reader.current.Statement as stated
+use Rattle.text.proofs.lines.Reader.current.Code as code
 
 -- the struct's type, over the signature's lifetimes
 abbrev B : Lfts 1 → RattleType
@@ -155,6 +155,6 @@ pub current-spec : {M : Type 1} → stated.statement M
 unfolding code.routine tablesOf
 current-spec 𝓤 H 𝓜 𝓖 𝓡 =
     entered 𝓤 H (tripleOf 𝓤 H (𝓖 .A) current.signature (current.spec 𝓤 H (𝓖 .A) (𝓜 .mem) (𝓡 .run)))
-    (tables 𝓤 H 𝓜 𝓡 code.env .C) (tables 𝓤 H 𝓜 𝓡 code.env .Λ) #text·lines·current code.function (code.unfolded 𝓤 H 𝓜 𝓡)
+    (tables 𝓤 H 𝓜 𝓡 code.env .C) (tables 𝓤 H 𝓜 𝓡 code.env .Λ) #text·lines·Reader·current code.function (code.unfolded 𝓤 H 𝓜 𝓡)
     (current-meets 𝓤 H (𝓖 .A) (givenOf 𝓤 H 𝓜 𝓖) (𝓜 .mem) (𝓡 .run) (tablesOf 𝓤 H 𝓜 (tables 𝓤 H 𝓜 𝓡 code.env))
     (cited 𝓤 H (LineAt 𝓤 H (𝓖 .A) (𝓜 .mem) (𝓡 .run)) 𝓜 𝓡 code.env #text·lines·line-at line-at-def.routine code.calls-text·lines·line-at (line-at-thm.met 𝓤 H 𝓜 𝓖 𝓡)))
