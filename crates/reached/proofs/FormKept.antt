@@ -2,7 +2,7 @@
 use Rattle.semantics.proofs.Prelude.{_≡_, refl, _∙_, List, [], _∷_, _++_, ℕ, _+_, _-_, _*_, _≤_, _<_, mul-le-mul-right, arith, ℤ, pos, length, drop, replicate}
 use Rattle.semantics.specs.Layout.{index-limit}
 use Rattle.semantics.specs.Tidy.{Queue}
-use Rattle.semantics.proofs.Tidy.{more, join-queue}
+use Rattle.semantics.proofs.Tidy.{queue-in-more, join-queue}
 use Rattle.words.proofs.Rows.{row-in, length-put}
 use Rattle.state.specs.declared.Layout.{Layout}
 use Rattle.state.specs.Rows.{width-of, Laid}
@@ -67,7 +67,7 @@ module _ {y : Layout} {t l : List ℤ} {used waiting : ℕ} (k : Kept y t l used
       rest = rw size (rest-stored y used t e next-slot-in (k .apart) len (k .rest));
       slots = kept p;
       queue = rw (waits-are p) (join-queue (used + 1) used (waits waiting l) (omega arith) (λ i. let b = k .queue .used used i in omega arith)
-          (more used (used + 1) (waits waiting l) (omega arith) (k .queue)));
+          (queue-in-more used (used + 1) (waits waiting l) (omega arith) (k .queue)));
     }
       where
         size : length (stored-next y used t e next-slot-in (k .apart) len) ≡ length t

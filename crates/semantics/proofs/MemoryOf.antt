@@ -169,23 +169,23 @@ module _ (c : Chart) where
 
     module _ (more-table more-list : List ℤ) where
       -- the stored exploration, with words after it
-      abbrev pub lent : Memory
-      lent = record { table = table-of c w ++ more-table; waitlist = waitlist-of w ++ more-list; analysis = analysis-of w }
+      abbrev pub with-words-after : Memory
+      with-words-after = record { table = table-of c w ++ more-table; waitlist = waitlist-of w ++ more-list; analysis = analysis-of w }
 
-      waiting-words : take (length (w .waitlist)) (lent .waitlist) ≡ map pos (w .waitlist)
+      waiting-words : take (length (w .waitlist)) (with-words-after .waitlist) ≡ map pos (w .waitlist)
       waiting-words = rw (append-assoc (map pos (w .waitlist)) (replicate (w .capacity - length (map pos (w .waitlist))) (pos 0)) more-list) (take-at (map pos (w .waitlist)) _ (length (w .waitlist)) (length-map (w .waitlist) pos))
 
-      pub load-back : load c lent ≡ w
+      pub load-back : load c with-words-after ≡ w
       unfolding load
       load-back =
-          let p : states-in (width c) (length (w .reached)) (lent .table) ≡ w .reached = rw (append-assoc (each row (w .reached)) (replicate (w .capacity * width c - length (each row (w .reached))) (pos 0)) more-table) (states-back b (w .reached) _ (g .tidy .every)) in
-          let q : map natAbs (take (length (w .waitlist)) (lent .waitlist)) ≡ w .waitlist = ap (map natAbs) waiting-words ∙ map-back (w .waitlist) in
+          let p : states-in (width c) (length (w .reached)) (with-words-after .table) ≡ w .reached = rw (append-assoc (each row (w .reached)) (replicate (w .capacity * width c - length (each row (w .reached))) (pos 0)) more-table) (states-back b (w .reached) _ (g .tidy .every)) in
+          let q : map natAbs (take (length (w .waitlist)) (with-words-after .waitlist)) ≡ w .waitlist = ap (map natAbs) waiting-words ∙ map-back (w .waitlist) in
           λ i. record { settings = w .settings; capacity = w .capacity; iterations = w .iterations; reached = p i; waitlist = q i; verdict = w .verdict; edge = w .edge }
 
-      pub table-part : take (w .capacity * width c) (lent .table) ≡ table-of c w
+      pub table-part : take (w .capacity * width c) (with-words-after .table) ≡ table-of c w
       table-part = take-at (table-of c w) more-table (w .capacity * width c) table-length
 
-      pub list-part : take (w .capacity) (lent .waitlist) ≡ waitlist-of w
+      pub list-part : take (w .capacity) (with-words-after .waitlist) ≡ waitlist-of w
       list-part = take-at (waitlist-of w) more-list (w .capacity) list-length
 
       -- without safe, some slot waits
@@ -212,21 +212,21 @@ module _ (c : Chart) where
       alarm-edge Alarm e = or-right (eqb (w .edge) 0) true tt
       alarm-edge Full e = edge-0 (λ p. clash cc)
 
-      pub formed-back : T (analysis-ok c lent)
+      pub formed-back : T (analysis-ok c with-words-after)
       unfolding analysis-ok
       formed-back =
           let q = g .tidy .queue in
           let t₁ = le→leb (length (w .reached)) (w .capacity) (g .tidy .within) in
           let t₂ = le→leb (length (w .waitlist)) (length (w .reached)) (queue-few (length (w .reached)) (w .waitlist) q) in
-          let t₃ : T (rows-ok c (length (w .reached)) (lent .table)) = rw (append-assoc (each row (w .reached)) (replicate (w .capacity * width c - length (each row (w .reached))) (pos 0)) more-table) (rows-formed (w .reached) _ (g .tidy .every)) in
-          let t₄ : T (all (below (length (w .reached))) (take (length (w .waitlist)) (lent .waitlist))) = rw waiting-words (below-all (length (w .reached)) (w .waitlist) (q .used)) in
-          let t₅ : T (each-once (take (length (w .waitlist)) (lent .waitlist))) = rw waiting-words (once-all (w .waitlist) (q .once)) in
-          let t₆ : T (zeros (drop (length (w .reached) * width c) (take (w .capacity * width c) (lent .table)))) = rw table-part (padded-zeros (w .capacity * width c) (each row (w .reached)) (length (w .reached) * width c) (rows-length (w .reached) (g .tidy .every))) in
-          let t₇ : T (zeros (drop (length (w .waitlist)) (take (w .capacity) (lent .waitlist)))) = rw list-part (padded-zeros (w .capacity) (map pos (w .waitlist)) (length (w .waitlist)) (length-map (w .waitlist) pos)) in
+          let t₃ : T (rows-ok c (length (w .reached)) (with-words-after .table)) = rw (append-assoc (each row (w .reached)) (replicate (w .capacity * width c - length (each row (w .reached))) (pos 0)) more-table) (rows-formed (w .reached) _ (g .tidy .every)) in
+          let t₄ : T (all (below (length (w .reached))) (take (length (w .waitlist)) (with-words-after .waitlist))) = rw waiting-words (below-all (length (w .reached)) (w .waitlist) (q .used)) in
+          let t₅ : T (each-once (take (length (w .waitlist)) (with-words-after .waitlist))) = rw waiting-words (once-all (w .waitlist) (q .once)) in
+          let t₆ : T (zeros (drop (length (w .reached) * width c) (take (w .capacity * width c) (with-words-after .table)))) = rw table-part (padded-zeros (w .capacity * width c) (each row (w .reached)) (length (w .reached) * width c) (rows-length (w .reached) (g .tidy .every))) in
+          let t₇ : T (zeros (drop (length (w .waitlist)) (take (w .capacity) (with-words-after .waitlist)))) = rw list-part (padded-zeros (w .capacity) (map pos (w .waitlist)) (length (w .waitlist)) (length-map (w .waitlist) pos)) in
           let t₈ = le→leb (w .iterations) most-iterations (g .iterations) in
           let t₉ = le→leb (w .edge) (length (c .edges)) (g .tidy .edge-in) in
           let t₁₀ = alarm-edge (w .verdict) refl in
           let t₁₁ = g .capacity in
           let t₁₂ = g .held .allowed in
           let t₁₃ = verdict-listed (w .verdict) refl in
-          all-true (form-tests c lent) (t₁, (t₂, (t₃, (t₄, (t₅, (t₆, (t₇, (t₈, (t₉, (t₁₀, (t₁₁, (t₁₂, (t₁₃, tt)))))))))))))
+          all-true (form-tests c with-words-after) (t₁, (t₂, (t₃, (t₄, (t₅, (t₆, (t₇, (t₈, (t₉, (t₁₀, (t₁₁, (t₁₂, (t₁₃, tt)))))))))))))

@@ -6,7 +6,7 @@ use Rattle.semantics.specs.Algorithm.{without, take-last}
 use Rattle.words.proofs.Words.{eqZ-sym}
 use Rattle.semantics.proofs.Waitlist.{take-last-snoc}
 use Rattle.waitlist.specs.Waits.{Stored, pushed, shifted, others, next-place, kept-at, TakenFrom}
-use Rattle.waitlist.proofs.WaitWords.{waits-are, kept, front, back}
+use Rattle.waitlist.proofs.WaitWords.{waits-are, kept, front, zeros-after}
 use Rattle.semantics.specs.Lists.{pick}
 
 -- ---- the loops' turns
@@ -73,7 +73,7 @@ take-first-held {l} {n} (k ∷ ws) p h =
     (k, ap (λ (x : List ℤ). getD x 0 (pos 0)) (p .words), record { taken = ap (λ (x : List ℕ). some (record { slot = k; rest = x })) (sym (waits-are put)); kept = kept put })
   where
     form : shifted (take n l) ++ drop n l ≡ map pos ws ++ replicate (suc (length l - n)) (pos 0)
-    form = rw (front p, back p) (ap (λ (x : List ℤ). x ++ replicate (length l - n) (pos 0)) (shift-held (pos k) ws) ∙ append-assoc (map pos ws) (pos 0 ∷ []) (replicate (length l - n) (pos 0)))
+    form = rw (front p, zeros-after p) (ap (λ (x : List ℤ). x ++ replicate (length l - n) (pos 0)) (shift-held (pos k) ws) ∙ append-assoc (map pos ws) (pos 0 ∷ []) (replicate (length l - n) (pos 0)))
 
     len : length (shifted (take n l) ++ drop n l) ≡ length l
     len = ap length form ∙ simp (length-append, length-map, length-replicate) (omega (arith, p .count, p .fits))
@@ -154,7 +154,7 @@ put-others {l} {n} {wa} k l′ r p len h t d = record { count = sym count; fits 
     sum = omega (arith, len, p .fits)
 
     words : l′ ≡ map pos (without k wa) ++ replicate (length l′ - r) (pos 0)
-    words = sym (take-append-drop r l′) ∙ rw (is-front, d, back p, replicate-append-replicate, sum)
+    words = sym (take-append-drop r l′) ∙ rw (is-front, d, zeros-after p, replicate-append-replicate, sum)
 
 -- the loop: A the words kept, then d zeros, then the words from i on
 module _ (k : ℤ) (A R : List ℤ) (d j i : ℕ) (x : ℤ) (la : length A ≡ j) (li : j + d ≡ i) where

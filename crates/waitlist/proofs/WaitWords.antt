@@ -16,8 +16,8 @@ module _ {l : List ℤ} {n : ℕ} {wa : List ℕ} (p : Stored l n wa) where
   pub front : take n l ≡ map pos wa
   front = ap (λ (x : List ℤ). take n x) (p .words) ∙ take-at (map pos wa) (replicate (length l - n) (pos 0)) n count-words
 
-  pub back : drop n l ≡ replicate (length l - n) (pos 0)
-  back = ap (drop n) (p .words) ∙ drop-at (map pos wa) (replicate (length l - n) (pos 0)) n count-words
+  pub zeros-after : drop n l ≡ replicate (length l - n) (pos 0)
+  zeros-after = ap (drop n) (p .words) ∙ drop-at (map pos wa) (replicate (length l - n) (pos 0)) n count-words
 
   -- the slots that are stored are those that are read
   pub waits-are : waits n l ≡ wa

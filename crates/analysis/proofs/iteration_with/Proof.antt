@@ -3,7 +3,7 @@ use Rattle.semantics.proofs.Prelude.{_≡_, ap, _∙_, List, ℕ, _-_, _*_, _<_
 use Rattle.semantics.specs.declared.Analysis.{Analysis}
 use Rattle.semantics.specs.Algorithm.{visit-all}
 use Rattle.semantics.specs.Tidy.{Queue}
-use Rattle.semantics.proofs.Tidy.{more}
+use Rattle.semantics.proofs.Tidy.{queue-in-more}
 use Rattle.words.proofs.Rows.{row-in}
 use Rattle.state.specs.declared.Layout.{Layout}
 use Rattle.state.specs.Rows.{width-of, rows-of}
@@ -90,7 +90,7 @@ finish-requires c κs =
     let v = c .before .before .before in
     let d = d (p v) in
     let k = played v .kept in
-    (record { stored = k .slots; slot = omega (arith, taken d .1, start d .pre .0 .kept .capacity, size v); small = k .small; queue = more (v .visit-all .result .used) (length (list v)) _ (k .capacity) (k .queue) }, start d .pre .1)
+    (record { stored = k .slots; slot = omega (arith, taken d .1, start d .pre .0 .kept .capacity, size v); small = k .small; queue = queue-in-more (v .visit-all .result .used) (length (list v)) _ (k .capacity) (k .queue) }, start d .pre .1)
 
 same-length-3 : tie.Need-same-length-3
 same-length-3 c = c .before .finish .kept .1 .1 .1 .0 ∙ size (c .before .before .before .before .before)

@@ -1,7 +1,7 @@
 -- `reached::merge_slots` meets its contract. Assumes nothing.
 use Rattle.semantics.proofs.Prelude.{_≡_, refl, sym, _∙_, _++_, suc, _+_, _-_, _≤_, add-one, arith, length, take, drop, take-append-drop}
 use Rattle.semantics.specs.Tidy.{Queue}
-use Rattle.semantics.proofs.Tidy.{more}
+use Rattle.semantics.proofs.Tidy.{queue-in-more}
 use Rattle.words.proofs.Rows.{span, part-length, length-put, drop-put}
 use Rattle.state.specs.Rows.{width-of, row-merge, same-words, rows-merge, rows-of}
 use Rattle.state.proofs.Slots.{OnSlot, first-slot, next-slot, slot-in, part-in, put-slot, slot-length, slot, merge-turn}
@@ -54,7 +54,7 @@ wait-unless-requires c κs =
     let b = i .before in
     let p = b .before .pre .1 in
     let l = b .loop .inv .3 in
-    record { stored = b .loop .inv .4; slot = omega (arith, i .loop-test .taken, l, p .2); small = omega (arith, l, p .3); queue = more (b .before .args .used) (length (b .loop .list)) (waits (b .loop .count) (b .loop .list)) (omega (arith, l, p .2)) (b .loop .inv .5) }
+    record { stored = b .loop .inv .4; slot = omega (arith, i .loop-test .taken, l, p .2); small = omega (arith, l, p .3); queue = queue-in-more (b .before .args .used) (length (b .loop .list)) (waits (b .loop .count) (b .loop .list)) (omega (arith, l, p .2)) (b .loop .inv .5) }
 
 loop-again : tie.Need-loop-again Inv-loop μ-loop
 loop-again c =
