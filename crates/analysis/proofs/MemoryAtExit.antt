@@ -22,7 +22,7 @@ use Rattle.reached.specs.Reached.{Kept}
 use Rattle.reached.proofs.Table.{rows-length}
 use Rattle.reached.proofs.FormKept.{in-table}
 use Rattle.transfer.specs.Transfer.{edges-from, initial-row}
-use Rattle.transfer.proofs.Agree.{Says, Counts, edges-say, agree, initial-says}
+use Rattle.transfer.proofs.Agree.{Says, SameEdge, edges-say, agree, initial-says}
 use Rattle.progress.specs.Progress.{load-of}
 use Rattle.analysis.specs.Loaded.{domain-of, Loaded}
 use Rattle.analysis.proofs.RunEntry.{entry-says}
@@ -103,17 +103,17 @@ module _ (ws : List ℤ) (ok : T (well-formed ws)) (y : Layout) (o : LayoutOf (d
   abbrev c : Chart
   c = decode ws
 
-  pub run-stores : (x : Exploration (List ℤ)) (v : Exploration AbstractState) → ExplorationR (Says c) x v → (gs : List ℕ) → AllPairs (Counts c) gs (numbered c) → (n : ℕ)
+  pub run-stores : (x : Exploration (List ℤ)) (v : Exploration AbstractState) → ExplorationR (Says c) x v → (gs : List ℕ) → AllPairs (SameEdge c) gs (numbered c) → (n : ℕ)
       → Loaded y last r t l (run (domain-of ws) gs n x) → Stores c r t l (run (constants c) (numbered c) n v)
   run-stores x v s gs z n h =
       stores c y o last r t l (run (domain-of ws) gs n x) (run (constants c) (numbered c) n v) h
-      (run-R (domain-of ws) (constants c) (Says c) (Counts c) (agree ws ok) gs (numbered c) z n x v s)
+      (run-R (domain-of ws) (constants c) (Says c) (SameEdge c) (agree ws ok) gs (numbered c) z n x v s)
 
   pub start-stores : (z : Settings) (capacity : ℕ) → Loaded y last r t l (start (domain-of ws) z capacity (initial-row ws))
       → Stores c r t l (start (constants c) z capacity (initial c))
   start-stores z capacity h =
       stores c y o last r t l (start (domain-of ws) z capacity (initial-row ws)) (start (constants c) z capacity (initial c)) h
-      (start-R (domain-of ws) (constants c) (Says c) (Counts c) (agree ws ok) z capacity (initial-row ws) (initial c) (initial-says ws ok))
+      (start-R (domain-of ws) (constants c) (Says c) (SameEdge c) (agree ws ok) z capacity (initial-row ws) (initial c) (initial-says ws ok))
 
 -- ---- the lent memory at exit: the capacity's words and the record, and the words past them as they were
 

@@ -1,4 +1,4 @@
--- Edges that do not leave the location of the taken state are passed-over over: their play changes nothing. Assumes nothing.
+-- Edges that do not leave the location of the taken state are passed over: their play changes nothing. Assumes nothing.
 use Rattle.semantics.proofs.Prelude.{_≡_, refl, sym, ap, _∙_, Bool, true, false, List, ℕ, zero, suc, _+_, _-_, _≤_, arith, ne-eqb, ltb-true, ltb-false, ltb, ℤ}
 use Rattle.semantics.specs.declared.Settings.{Settings}
 use Rattle.semantics.specs.Algorithm.{Step, halt, Out, then, visit, visit-all}

@@ -14,7 +14,7 @@ ghost use Rattle.transfer.specs.Transfer.{edge-at};
 ghost use Rattle.analysis.specs.Chains.{from-at, Passed, Chained};
 
 // The number at a place; 0 past the end.
-fn number_at(s: &[usize], i: usize) -> usize
+fn number_in(s: &[usize], i: usize) -> usize
     ensures { λ r. ⌜ r ≡ getD (now (s .entry)) i 0 ⌝ }
 {
     if i < s.len() {
@@ -43,7 +43,7 @@ pub fn chain(chart: &[i32], edges: usize, heads: &mut [usize], nexts: &mut [usiz
         let edge = chart::edge_of(first, EdgeId(number));
         let from = chart::edge_from(chart, edge);
         let l = from.0;
-        let head = number_at(heads, l);
+        let head = number_in(heads, l);
         put(nexts, number - 1, head);
         put(heads, l, number);
         number -= 1;
@@ -54,7 +54,7 @@ pub fn chain(chart: &[i32], edges: usize, heads: &mut [usize], nexts: &mut [usiz
 pub fn first(heads: &[usize], l: LocationId) -> EdgeId
     ensures { λ r. ⌜ r .0 ≡ max 1 (getD (now (heads .entry)) (l .0) 0) ⌝ }
 {
-    EdgeId(1).or_later(EdgeId(number_at(heads, l.0)))
+    EdgeId(1).or_later(EdgeId(number_in(heads, l.0)))
 }
 
 // The edge to look at next. The chain of this one serves if it leaves the location.
@@ -68,5 +68,5 @@ pub fn next(chart: &[i32], edge: EdgeRow, nexts: &[usize], l: LocationId) -> Edg
     if !from.equals(l) {
         return after;
     }
-    after.or_later(EdgeId(number_at(nexts, id.0 - 1)))
+    after.or_later(EdgeId(number_in(nexts, id.0 - 1)))
 }

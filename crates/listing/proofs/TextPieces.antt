@@ -10,7 +10,7 @@ use Rattle.semantics.specs.declared.Analysis.{Analysis}
 use Rattle.semantics.proofs.MemoryInForm.{form, states-count}
 use Rattle.state.specs.Rows.{location-in, values-of}
 use Rattle.checks.specs.Form.{lent}
-use Rattle.listing.specs.Pieces.{tabbed, values-text, words-text, counts-text, marked}
+use Rattle.listing.specs.Pieces.{tabbed, values-text, words-text, numbers-text, marked}
 
 -- ---- lines
 
@@ -28,8 +28,8 @@ seven : (f m s o v i u e : List ℕ)
 unfolding line-of
 seven f m s o v i u e = flat f (tabbed m) (tabbed s) (tabbed o) (tabbed v) (tabbed i) (tabbed u) (tabbed e) (10 ∷ [])
 
-pub header-is : (a : Analysis) → bytes "walk" ++ (words-text a ++ (counts-text a ++ (10 ∷ []))) ≡ header-text a
-unfolding words-text counts-text
+pub header-is : (a : Analysis) → bytes "walk" ++ (words-text a ++ (numbers-text a ++ (10 ∷ []))) ≡ header-text a
+unfolding words-text numbers-text
 header-is a = seven _ _ _ _ _ _ _ _
 
 -- ---- the turns of the loops

@@ -22,9 +22,9 @@ values-text vs = each tabbed (map val-text (map val vs))
 unfoldable pub words-text : Analysis → List ℕ
 words-text a = tabbed (mode-text (a .settings .merge)) ++ (tabbed (mode-text (a .settings .stop)) ++ (tabbed (order-text (a .settings .order)) ++ tabbed (verdict-text (a .verdict))))
 
--- of the first line, the counts: "rounds, used slots, alarm edge or 0"
-unfoldable pub counts-text : Analysis → List ℕ
-counts-text a = tabbed (decimal (a .iterations)) ++ (tabbed (decimal (a .used)) ++ tabbed (decimal (a .edge .0)))
+-- of the first line, the numbers: "rounds, used slots, alarm edge or 0"
+unfoldable pub numbers-text : Analysis → List ℕ
+numbers-text a = tabbed (decimal (a .iterations)) ++ (tabbed (decimal (a .used)) ++ tabbed (decimal (a .edge .0)))
 
 -- the marks, after those of the slots in a list were set
 unfoldable pub marked : List Bool → List ℕ → List Bool

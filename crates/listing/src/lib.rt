@@ -22,7 +22,7 @@ ghost use Rattle.semantics.specs.Listing.{mode-text, order-text, verdict-text, 
 ghost use Rattle.semantics.specs.Outcomes.{refusal, form-of, text-of, listing-cases, listing-outcome};
 ghost use Rattle.checks.specs.Form.{lent, InForm};
 ghost use Rattle.writer.specs.Writing.{Put, limit};
-ghost use Rattle.listing.specs.Pieces.{tabbed, values-text, words-text, counts-text, marked};
+ghost use Rattle.listing.specs.Pieces.{tabbed, values-text, words-text, numbers-text, marked};
 
 // A field that is not a line's first: a tab, and its bytes.
 fn put_field(out: &mut [u8], at: usize, field: &[u8]) -> usize
@@ -86,8 +86,8 @@ fn put_words(out: &mut [u8], at: usize, a: Analysis) -> usize
 }
 
 // The iterations, the used slots and the edge.
-fn put_counts(out: &mut [u8], at: usize, a: Analysis) -> usize
-    ensures { λ r. ⌜ Put at (counts-text a) (now (out .entry)) (now (out .exit)) r ⌝ }
+fn put_numbers(out: &mut [u8], at: usize, a: Analysis) -> usize
+    ensures { λ r. ⌜ Put at (numbers-text a) (now (out .entry)) (now (out .exit)) r ⌝ }
 {
     let iterations = a.iterations as usize;
     let edge = a.edge.0;
@@ -101,8 +101,8 @@ fn put_header(out: &mut [u8], a: Analysis) -> usize
     ensures { λ r. ⌜ Put 0 (header-text a) (now (out .entry)) (now (out .exit)) r ⌝ }
 {
     let words = writer::put_bytes(out, 0, b"walk");
-    let counts = put_words(out, words, a);
-    let end = put_counts(out, counts, a);
+    let numbers = put_words(out, words, a);
+    let end = put_numbers(out, numbers, a);
     writer::put_byte(out, end, semantics::LF)
 }
 

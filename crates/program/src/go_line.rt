@@ -6,12 +6,12 @@ use text::NumberRead;
 ghost use mathlib.Core.Path.{_≡_};
 ghost use Rattle.semantics.specs.Lists.{all};
 ghost use Rattle.semantics.specs.Text.{fields};
-ghost use Rattle.semantics.specs.Program.{mode-field, order-field, settings-fields, sized, counts, go-fields, line-byte};
+ghost use Rattle.semantics.specs.Program.{mode-field, order-field, settings-fields, sized, amounts, go-fields, line-byte};
 ghost use Rattle.text.specs.Fields.{number-said};
 ghost use Rattle.program.specs.Asked.{mode-res, order-res, settings-res, asked-res, GoRead};
 
 // The most bytes of a go line, with its LF.
-pub const MOST_BYTES: usize = 64;
+pub const GO_LINE_BYTES: usize = 64;
 
 // What the go line asks.
 pub struct Go {
@@ -87,8 +87,8 @@ fn settings_fields(line: &[u8]) -> SettingsRead
     SettingsRead::Is(Settings { merge, stop, order })
 }
 
-// 11, 12, 13, once every field is well formed. All three are asked first, so that a wrong build can change their order
-// and nothing else.
+// 11, 12, 13, once every field is well formed. All three are asked before the first refuses, so that their order stands in
+// the tests below alone.
 fn sized(go: Go) -> Asked
     ensures { λ r. ⌜ asked-res r ≡ sized (go .settings) (go .capacity) (go .budget) ⌝ }
 {
@@ -111,8 +111,8 @@ fn sized(go: Go) -> Asked
 }
 
 // Capacity and budget, numbers in form only, then their sizes.
-fn counts(settings: Settings, capacity: NumberRead, budget: NumberRead) -> Asked
-    ensures { λ r. ⌜ asked-res r ≡ counts settings (number-said capacity) (number-said budget) ⌝ }
+fn amounts(settings: Settings, capacity: NumberRead, budget: NumberRead) -> Asked
+    ensures { λ r. ⌜ asked-res r ≡ amounts settings (number-said capacity) (number-said budget) ⌝ }
 {
     let NumberRead::Is(capacity) = capacity else {
         return Asked::Refused(6);
@@ -142,7 +142,7 @@ fn go_fields(line: &[u8]) -> Asked
     };
     let capacity = text::number(text::field(line, 4));
     let budget = text::number(text::field(line, 5));
-    counts(settings, capacity, budget)
+    amounts(settings, capacity, budget)
 }
 
 // A tab, or 0x21..0x7E: what may stand before the LF.
@@ -170,7 +170,7 @@ pub fn read(input: &[u8]) -> GoLine
     ensures { λ r. ⌜ GoRead (now (input .entry)) r ⌝ }
 {
     let end = text::line_end(input, 0);
-    if (MOST_BYTES < input.len()) & (MOST_BYTES <= end) {
+    if (GO_LINE_BYTES < input.len()) & (GO_LINE_BYTES <= end) {
         return GoLine::Refused(1);
     }
     if !bytes_ok(&input[..end]) {

@@ -32,7 +32,7 @@ const LIST_SIZE: usize = semantics::MOST_SLOTS;
 
 // The most that the program reads of its input: a go line, a chart, and one byte more that tells a chart too long. What
 // stands past these 32,833 bytes changes nothing, which `respond_to` says.
-pub const INPUT: usize = go_line::MOST_BYTES + reader::MOST_BYTES + 1;
+pub const INPUT: usize = go_line::GO_LINE_BYTES + reader::MOST_BYTES + 1;
 
 // The line of a refusal.
 fn put_refusal(out: &mut [u8], number: u32, line: usize) -> usize

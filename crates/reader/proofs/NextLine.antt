@@ -60,7 +60,7 @@ module _ {text : List ℕ} {at line : ℕ} {t : Tally} {rows names : List ℤ} (
   pub line-judged : {start end next : ℕ} → Lies text at start end next → (r : Judgement) (rows′ names′ : List ℤ) → LineJudged r (judge (a .read) (fields (take (end - start) (drop start text)))) rows′ names′
       → Stands-by (goes-on r) text next (line + 1) r rows′ names′
   line-judged l (judgement.Refused k) rows′ names′ h = a .is ∙ judged-stop text at _ (line + 1) (a .read) (l .here) (l .ends) (rw (l .begins) at h)
-  line-judged l (judgement.Go u) rows′ names′ h = record {
+  line-judged l (judgement.Passed u) rows′ names′ h = record {
     read = h .read;
     few = h .few;
     held = h .held;
@@ -82,11 +82,11 @@ at-first text rows names = record {
 module _ (text : List ℕ) (at : ℕ) (rows names : List ℤ) where
   few-now : (line : ℕ) (s : Judgement) → Goes text at line s rows names → Few-of s
   few-now line (judgement.Refused k) h = absurd h
-  few-now line (judgement.Go t) h = h .few
+  few-now line (judgement.Passed t) h = h .few
 
   counted-now : (line : ℕ) (s : Judgement) → Goes text at line s rows names → line ≤ at
   counted-now line (judgement.Refused k) h = absurd h
-  counted-now line (judgement.Go t) h = h .counted
+  counted-now line (judgement.Passed t) h = h .counted
 
   -- what `advance` asks
   pub ready : (p : Descent) (l : Line) → l ≡ line-at text at → p .going ≡ true → Stands text at p rows names → Judgeable text p l

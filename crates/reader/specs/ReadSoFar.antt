@@ -71,7 +71,7 @@ pub record Gone (r : Res So-far) (t : Tally) (rows names : List ℤ) : Type 0 wh
 -- what the code answers to a line that comes to r, and what it leaves
 abbrev pub LineJudged : Judgement → Res So-far → List ℤ → List ℤ → Type 0
 LineJudged (judgement.Refused k) r rows names = r ≡ fail k
-LineJudged (judgement.Go t) r rows names = Gone r t rows names
+LineJudged (judgement.Passed t) r rows names = Gone r t rows names
 
 -- ---- "The reader goes down the chart file line by line" (document 01, The chart file)
 
@@ -82,11 +82,11 @@ lines-judged text = judged 1 nothing-read (map fields (lines text))
 -- the line was not refused
 abbrev pub goes-on : Judgement → Bool
 goes-on (judgement.Refused k) = false
-goes-on (judgement.Go t) = true
+goes-on (judgement.Passed t) = true
 
 -- before the first line
 abbrev pub nothing-judged : Descent
-nothing-judged = record { going = true; line = 0; last = judgement.Go (record { vars = 0; locs = 0; edges = 0 }) }
+nothing-judged = record { going = true; line = 0; last = judgement.Passed (record { vars = 0; locs = 0; edges = 0 }) }
 
 -- so many lines are judged, and the reader is at the place `at`: what was read so far, and what is left
 pub record Along (text : List ℕ) (at line : ℕ) (t : Tally) (rows names : List ℤ) : Type 0 where
@@ -107,12 +107,12 @@ pub record Through (text : List ℕ) (t : Tally) (rows : List ℤ) : Type 0 wher
 -- reading goes on after a line, which was not refused
 abbrev pub Goes : List ℕ → ℕ → ℕ → Judgement → List ℤ → List ℤ → Type 0
 Goes text at line (judgement.Refused k) rows names = ⊥
-Goes text at line (judgement.Go t) rows names = Along text at line t rows names
+Goes text at line (judgement.Passed t) rows names = Along text at line t rows names
 
 -- reading is over: the last line was refused, or there is no other
 abbrev pub Came : List ℕ → ℕ → Judgement → List ℤ → Type 0
 Came text line (judgement.Refused k) rows = lines-judged text ≡ refused k line
-Came text line (judgement.Go t) rows = Through text t rows
+Came text line (judgement.Passed t) rows = Through text t rows
 
 -- where reading stands, by whether it goes on
 abbrev pub Stands-by : Bool → List ℕ → ℕ → ℕ → Judgement → List ℤ → List ℤ → Type 0
@@ -126,7 +126,7 @@ Stands text at p rows names = Stands-by (p .going) text at (p .line) (p .last) r
 -- the counts of a line that went on are no more than a chart has
 abbrev pub Few-of : Judgement → Type 0
 Few-of (judgement.Refused k) = Unit {0}
-Few-of (judgement.Go t) = Few t
+Few-of (judgement.Passed t) = Few t
 
 -- what it takes to judge l: it is a line of the text, and the counts are those of lines before it
 pub record Judgeable (text : List ℕ) (p : Descent) (l : Line) : Type 0 where

@@ -98,7 +98,7 @@ fn worded(w: text::OpWord, t: Tally, rows: &mut [i32], line: &[u8]) -> Judgement
         EdgeRead::Is(g) => {
             let o = g.op;
             chart::put_edge(rows, used_words(t), g.from, g.to, o);
-            Judgement::Go(Tally {
+            Judgement::Passed(Tally {
                 vars: t.vars,
                 locs: t.locs,
                 edges: t.edges + 1,

@@ -85,7 +85,7 @@ fn goes(s: Judgement) -> bool
 {
     match s {
         Judgement::Refused(_) => false,
-        Judgement::Go(_) => true,
+        Judgement::Passed(_) => true,
     }
 }
 
@@ -101,7 +101,7 @@ fn advance(
     ensures { λ r. ⌜ Advanced (now (text .entry)) l p (now (rows .entry)) (now (names .entry)) r (now (rows .exit)) (now (names .exit)) ⌝ }
 {
     let s = p.last;
-    let Judgement::Go(t) = s else {
+    let Judgement::Passed(t) = s else {
         return p;
     };
     let text::lines::Line::Text { start, end, .. } = l else {
@@ -126,7 +126,7 @@ fn nothing_judged() -> Descent
     Descent {
         going: true,
         line: 0,
-        last: Judgement::Go(Tally {
+        last: Judgement::Passed(Tally {
             vars: 0,
             locs: 0,
             edges: 0,
@@ -160,7 +160,7 @@ fn read_lines(text: &[u8], words: &mut [i32]) -> semantics::Answer
     let s = p.last;
     match s {
         Judgement::Refused(k) => semantics::refused(k, p.line),
-        Judgement::Go(t) => at_end(t, &rows, words),
+        Judgement::Passed(t) => at_end(t, &rows, words),
     }
 }
 

@@ -40,7 +40,7 @@ fn named(t: Tally, rows: &mut [i32], error: bool, name: &[u8]) -> Judgement
     if !chart::name_is_new(&rows[at..], &rows[first..], t.locs) {
         return Judgement::Refused(9);
     }
-    Judgement::Go(Tally {
+    Judgement::Passed(Tally {
         vars: t.vars,
         locs: t.locs + 1,
         edges: 0,

@@ -15,7 +15,7 @@ pub struct Tally {
 // What a line comes to: its refusal's number, or the counts with it.
 pub enum Judgement {
     Refused(u32),
-    Go(Tally),
+    Passed(Tally),
 }
 
 // The words of the rows: variables, locations, edges.

@@ -90,7 +90,7 @@ fn named(t: Tally, rows: &mut [i32], names: &mut [i32], v: VarRow, name: &[u8]) 
         return Judgement::Refused(9);
     }
     chart::put_variable(rows, used_words(t), v.lo, v.hi, v.init);
-    Judgement::Go(Tally {
+    Judgement::Passed(Tally {
         vars: t.vars + 1,
         locs: 0,
         edges: 0,

@@ -53,6 +53,10 @@ location-in e = natAbs (location-word e)
 abbrev pub values-of : List ℤ → List ℤ
 values-of e = drop head-size e
 
+-- the row of location l and these values
+abbrev pub row-at : ℕ → List ℤ → List ℤ
+row-at l values = pos l ∷ values
+
 -- where the word of variable k stands
 abbrev pub value-place : ℕ → ℕ
 value-place k = k + head-size

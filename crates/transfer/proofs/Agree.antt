@@ -70,7 +70,7 @@ pub record Says (c : Chart) (e : List ℤ) (f : AbstractState) : Type 0 where
   pub ok : StateOk c f
 
 -- an edge counted from 0 and with its number
-pub record Counts (c : Chart) (g : ℕ) (h : Numbered) : Type 0 where
+pub record SameEdge (c : Chart) (g : ℕ) (h : Numbered) : Type 0 where
   pub number : suc g ≡ h .no
   pub here : At (c .edges) g (h .edge)
   pub ok : T (edge-ok c (h .edge))
@@ -114,11 +114,11 @@ module _ (c : Chart) (ok : T (chart-ok c)) where
   leq-join-R e f (x ∷ xs) (y ∷ ys) r a = leq-R e (join-of x xs) f (join-all y ys) r (join-of-R x y xs ys (a .0) (a .1))
 
   -- the edges counted from 0 are the chart's, with their numbers
-  pub edges-say : AllPairs (Counts c) (edges-from 0 (length (c .edges))) (numbered c)
+  pub edges-say : AllPairs (SameEdge c) (edges-from 0 (length (c .edges))) (numbered c)
   edges-say = go 0 (c .edges) (λ j x a. rw (zero-add j) a) (bounds c ok .edges) (states-kept c (bounds c ok))
     where
       go : (n : ℕ) (gs : List Edge) → ((j : ℕ) (x : Edge) → At gs j x → At (c .edges) (n + j) x) → T (all (edge-ok c) gs)
-          → Every (Keeps (constants c) (StateOk c) (length (c .edges))) (number-from (suc n) gs) → AllPairs (Counts c) (edges-from n (length gs)) (number-from (suc n) gs)
+          → Every (Keeps (constants c) (StateOk c) (length (c .edges))) (number-from (suc n) gs) → AllPairs (SameEdge c) (edges-from n (length gs)) (number-from (suc n) gs)
       go n [] at t k = tt
       go n (g ∷ gs) at t k =
           let z : n + 0 ≡ n = omega arith in (
@@ -162,14 +162,14 @@ module _ (c : Chart) (ok : T (chart-ok c)) (rest : List ℤ) where
       go true = arrive-is (g .to) (effect (c .vars) (g .op) (f .vals))
       go false = refl
 
-  post-R : (n : ℕ) (g : Numbered) (e : List ℤ) (f : AbstractState) → Counts c n g → Says c e f → StepR (Says c) (post-words ws n e) (post c (g .edge) f)
+  post-R : (n : ℕ) (g : Numbered) (e : List ℤ) (f : AbstractState) → SameEdge c n g → Says c e f → StepR (Says c) (post-words ws n e) (post c (g .edge) f)
   post-R n g e f k r =
       rw (r .words, post-is n (g .edge) f (k .here) (k .ok) (r .ok)) (step-R c (post c (g .edge) f) (λ x p. k .keeps .post f x (r .ok) p))
 
   error-R : (e : List ℤ) (f : AbstractState) → Says c e f → error-row ws e ≡ error-location (c .locs) (f .loc)
   error-R e f r = rw (r .words) (error-is c ok rest (row f) (r .ok .loc))
 
-  agree-encoded : Agree (row-domain (post-words ws) (error-row ws)) (constants c) (Says c) (Counts c)
+  agree-encoded : Agree (row-domain (post-words ws) (error-row ws)) (constants c) (Says c) (SameEdge c)
   agree-encoded = record {
     number = λ g h q. q .number;
     post = λ g h e f q r. post-R g h e f q r;
@@ -187,11 +187,11 @@ module _ (c : Chart) (ok : T (chart-ok c)) (rest : List ℤ) where
 -- ---- well-formed words, and the chart that they decode to
 
 module _ (ws : List ℤ) (t : T (well-formed ws)) where
-  pub agree : Agree (row-domain (post-words ws) (error-row ws)) (constants (decode ws)) (Says (decode ws)) (Counts (decode ws))
+  pub agree : Agree (row-domain (post-words ws) (error-row ws)) (constants (decode ws)) (Says (decode ws)) (SameEdge (decode ws))
   agree =
       let s = well-formed-split ws t in
       let c = decode ws in
-      subst (λ (l : List ℤ). Agree (row-domain (post-words l) (error-row l)) (constants c) (Says c) (Counts c)) (sym (s .0)) (agree-encoded c (s .1) (drop (length (encode c)) ws))
+      subst (λ (l : List ℤ). Agree (row-domain (post-words l) (error-row l)) (constants c) (Says c) (SameEdge c)) (sym (s .0)) (agree-encoded c (s .1) (drop (length (encode c)) ws))
 
   pub initial-says : Says (decode ws) (initial-row ws) (initial (decode ws))
   initial-says =

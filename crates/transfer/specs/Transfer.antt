@@ -13,7 +13,7 @@ use Rattle.semantics.specs.Chart.{eqZ, within}
 use Rattle.semantics.specs.Algorithm.{Step, halt, fault, to}
 use Rattle.semantics.specs.Layout.{top-word, variable-size, location-size, edge-size, variable-at, high-place, init-place, to-place, operation-place, target-place, first-tag-place, first-value-place, second-tag-place, second-value-place, skip-code, set-code, add-code, sub-code, in-code, eq-code, ne-code, lt-code, le-code, gt-code, number-tag}
 use Rattle.semantics.specs.Encoding.{word-at, count, kind-word, variable-count}
-use Rattle.state.specs.Rows.{location-in, value-at, with-location, with-value, word-join}
+use Rattle.state.specs.Rows.{location-in, row-at, value-at, with-location, with-value, word-join}
 use Rattle.chart.specs.Encoded.{locations-at, edges-at}
 use Rattle.transfer.specs.declared.Move.{Move}
 use Rattle.transfer.specs.declared.Move.the-variants.{Halt, Fault, Successor}
@@ -131,4 +131,4 @@ initial-words c i (suc n) = word-at c i ∷ initial-words c (i + variable-size) 
 
 -- "start location, each init"
 unfoldable pub initial-row : List ℤ → List ℤ
-initial-row c = pos 0 ∷ initial-words c (variable-at 0 + init-place) (variable-count c)
+initial-row c = row-at 0 (initial-words c (variable-at 0 + init-place) (variable-count c))

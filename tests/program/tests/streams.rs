@@ -124,7 +124,7 @@ fn an_output_cut_short_is_told() {
     assert!(size < 20_000 && printed == respond(&longest())[..size]);
 }
 
-/// As many interruptions as are borne before each read and write, which then move a few bytes.
+/// Some interruptions before each read and write, which then move a few bytes; and as many as are borne before whole ones.
 #[test]
 fn interrupted_calls_are_made_again() {
     let set =

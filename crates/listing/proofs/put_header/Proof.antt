@@ -10,7 +10,7 @@ returns c =
     let end = c .before .before in
     let counts = end .before .before .before .before in
     let words = counts .before .before .before .before in
-    put-same (header-is _) (put-then (words .before .before .before .before .put-bytes .ensures) (put-then (words .put-words .ensures) (put-then (counts .put-counts .ensures) (end .put-byte .ensures))))
+    put-same (header-is _) (put-then (words .before .before .before .before .put-bytes .ensures) (put-then (words .put-words .ensures) (put-then (counts .put-numbers .ensures) (end .put-byte .ensures))))
 
 pub put-header-spec : {M : Type 1} → statement M
 put-header-spec =

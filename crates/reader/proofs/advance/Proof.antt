@@ -16,7 +16,7 @@ module _ (c : tie.After-l) where
   abbrev tally : Tally
   tally = c .before .before .before .s .given .0 .0
 
-  went-on : start .args .p .last ≡ judgement.Go tally
+  went-on : start .args .p .last ≡ judgement.Passed tally
   went-on = c .before .before .before .s .given .1
 
   -- where the line lies

@@ -1,7 +1,7 @@
 -- `waitlist::prepend` meets its contract. Assumes nothing.
 use Rattle.semantics.proofs.Prelude.{needs, sfits-of}
 use Rattle.words.proofs.Words.{told}
-use Rattle.waitlist.proofs.Moves.{put-first}
+use Rattle.waitlist.proofs.ShiftedWords.{put-first}
 use Rattle.waitlist.proofs.prepend.Statement.{statement}
 use Rattle.waitlist.proofs.prepend.Tie as tie
 

@@ -1,7 +1,7 @@
 -- `waitlist::push_front` meets its contract. Assumes nothing.
 use Rattle.semantics.proofs.Prelude.{_≡_, refl, sym, _∙_, _++_, _-_, _≤_, arith, pos, length, take, drop, getD, length-set, w32, toZ, toZ-ofZ, needs, sfits-of}
 use Rattle.waitlist.specs.Waits.{pushed}
-use Rattle.waitlist.proofs.Moves.{push-turn, push-end}
+use Rattle.waitlist.proofs.ShiftedWords.{push-turn, push-end}
 use Rattle.waitlist.proofs.push_front.Statement.{statement}
 use Rattle.waitlist.proofs.push_front.Tie as tie
 

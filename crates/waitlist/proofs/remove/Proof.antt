@@ -1,7 +1,7 @@
 -- `waitlist::remove` meets its contract. Assumes nothing.
 use Rattle.semantics.proofs.Prelude.{needs, sfits-of}
 use Rattle.words.proofs.Words.{told}
-use Rattle.waitlist.proofs.Moves.{put-others}
+use Rattle.waitlist.proofs.ShiftedWords.{put-others}
 use Rattle.waitlist.proofs.remove.Statement.{statement}
 use Rattle.waitlist.proofs.remove.Tie as tie
 

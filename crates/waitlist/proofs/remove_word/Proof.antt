@@ -2,7 +2,7 @@
 use Rattle.semantics.proofs.Prelude.{_≡_, _-_, arith, pos, getD, set, length-set, w32, toZ, ofZ, toZ-ofZ, needs, sfits-of}
 use Rattle.semantics.specs.Chart.{eqZ}
 use Rattle.waitlist.specs.Waits.{next-place, kept-at}
-use Rattle.waitlist.proofs.Moves.{Removing, word-here, remove-turn, removing-start, removing-end}
+use Rattle.waitlist.proofs.ShiftedWords.{Removing, word-here, remove-turn, removing-start, removing-end}
 use Rattle.waitlist.proofs.remove_word.Statement.{statement}
 use Rattle.waitlist.proofs.remove_word.Tie as tie
 

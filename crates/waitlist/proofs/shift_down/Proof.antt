@@ -1,7 +1,7 @@
 -- `waitlist::shift_down` meets its contract. Assumes nothing.
 use Rattle.semantics.proofs.Prelude.{_≡_, refl, sym, ap, _∙_, _++_, ℕ, _+_, _-_, _≤_, arith, pos, length, take, drop, getD, set, length-set, w32, toZ-ofZ, needs, sfits-of}
 use Rattle.waitlist.specs.Waits.{shifted}
-use Rattle.waitlist.proofs.Moves.{shift-turn, shift-end}
+use Rattle.waitlist.proofs.ShiftedWords.{shift-turn, shift-end}
 use Rattle.waitlist.proofs.shift_down.Statement.{statement}
 use Rattle.waitlist.proofs.shift_down.Tie as tie
 

@@ -1,7 +1,7 @@
 -- `waitlist::take_new` meets its contract. Assumes nothing.
 use Rattle.semantics.proofs.Prelude.{needs}
 use Rattle.waitlist.specs.Waits.{waits}
-use Rattle.waitlist.proofs.Moves.{take-last-held}
+use Rattle.waitlist.proofs.ShiftedWords.{take-last-held}
 use Rattle.waitlist.proofs.take_new.Statement.{statement}
 use Rattle.waitlist.proofs.take_new.Tie as tie
 

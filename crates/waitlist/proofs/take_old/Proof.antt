@@ -1,7 +1,7 @@
 -- `waitlist::take_old` meets its contract. Assumes nothing.
 use Rattle.semantics.proofs.Prelude.{sym, arith, length-take-le, needs}
 use Rattle.waitlist.specs.Waits.{waits}
-use Rattle.waitlist.proofs.Moves.{take-first-held}
+use Rattle.waitlist.proofs.ShiftedWords.{take-first-held}
 use Rattle.waitlist.proofs.take_old.Statement.{statement}
 use Rattle.waitlist.proofs.take_old.Tie as tie
 

@@ -26,7 +26,7 @@ loop-again c =
     let at : e .before .edge-of .result .at ≡ edge-at (s .args .chart .now) (b .loop .number - 1) = omega (arith, e .before .edge-of .ensures .1, b .before .first-edge .ensures .1) in
     let from : e .edge-from .result .0 ≡ from-at (s .args .chart .now) (b .loop .number - 1) = e .edge-from .ensures .0 ∙ ap (count (s .args .chart .now)) at in
     let more = linked (s .args .chart .now) (b .loop .number - 1) (e .edge-from .result .0) (b .loop .heads) (b .loop .nexts) from (rw k (b .loop .inv .0)) in (
-      rw (two .ensures, one .ensures, d .number-at .ensures) (rw k at more),
+      rw (two .ensures, one .ensures, d .number-in .ensures) (rw k at more),
       omega (arith, b .loop .inv .1),
       two .kept .0 ∙ b .loop .inv .2,
       one .kept .0 ∙ b .loop .inv .3,

@@ -7,7 +7,7 @@ use Rattle.analysis.proofs.outgoing.next.Tie as tie
 
 returns-2 : tie.Need-returns-2
 returns-2 c =
-    let n = c .before .number-at in
+    let n = c .before .number-in in
     let t = c .before .before .before .before in
     let f = t .before .edge-from in
     let after = t .before .before .after in

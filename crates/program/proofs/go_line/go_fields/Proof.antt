@@ -3,7 +3,7 @@ use Rattle.semantics.proofs.Prelude.{needs, _≡_, sym, ap, _∙_, List, true, 
 use Rattle.semantics.specs.Text.{bytes, same-bytes, fields}
 use Rattle.semantics.specs.Reading.{check, if-ok, nth, filled}
 use Rattle.program.specs.Asked.{settings-res, asked-res}
-use Rattle.program.proofs.CutCounts.{counts-cut}
+use Rattle.program.proofs.CutAmounts.{amounts-cut}
 use Rattle.program.proofs.go_line.go_fields.Statement.{statement}
 use Rattle.program.proofs.go_line.go_fields.Tie as tie
 
@@ -38,7 +38,7 @@ returns-4 c =
     let g = n .before .before .before in
     let s = g .before .before in
     rw (fields-passed (s .before .before .before .before .before), word-passed (s .before), sym (s .settings-fields .ensures) ∙ ap settings-res (g .settings .given .1))
-    (c .counts .ensures ∙ rw (c .before .number2 .ensures, n .number .ensures, c .before .before .field3 .ensures, n .before .field2 .ensures) (counts-cut (g .settings .given .0 .0) _ _))
+    (c .amounts .ensures ∙ rw (c .before .number2 .ensures, n .number .ensures, c .before .before .field3 .ensures, n .before .field2 .ensures) (amounts-cut (g .settings .given .0 .0) _ _))
 
 pub go-fields-spec : {M : Type 1} → statement M
 go-fields-spec =

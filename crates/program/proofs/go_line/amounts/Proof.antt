@@ -1,10 +1,10 @@
--- `program::go_line::counts` meets its contract. Assumes nothing.
+-- `program::go_line::amounts` meets its contract. Assumes nothing.
 use Rattle.semantics.proofs.Prelude.{needs, _≡_, _∙_, w32, toZ, ofZ}
 use Rattle.semantics.specs.Reading.{if-ok}
 use Rattle.text.specs.Fields.{number-said}
 use Rattle.program.specs.Asked.{asked-res}
-use Rattle.program.proofs.go_line.counts.Statement.{statement}
-use Rattle.program.proofs.go_line.counts.Tie as tie
+use Rattle.program.proofs.go_line.amounts.Statement.{statement}
+use Rattle.program.proofs.go_line.amounts.Tie as tie
 
 returns : tie.Need-returns
 unfolding asked-res number-said if-ok
@@ -25,7 +25,7 @@ returns-3 c =
     let q : toZ w32 (ofZ w32 z) ≡ z = search needs in
     c .sized .ensures ∙ simp (a .capacity .given .1, b .budget .given .1, p, q)
 
-pub counts-spec : {M : Type 1} → statement M
-counts-spec =
+pub amounts-spec : {M : Type 1} → statement M
+amounts-spec =
     tie.close
     (tie.spec (λ c. search needs) (λ c. search needs) returns (λ c. search needs) (λ c. search needs) returns-2 (λ c κs. search needs) returns-3)

@@ -6,7 +6,7 @@ use Rattle.semantics.specs.Reading.{Res, fail, ok, check, if-ok}
 use Rattle.semantics.specs.Algorithm.{allowed}
 use Rattle.semantics.specs.Memory.{capacity-ok}
 use Rattle.semantics.specs.Outcomes.{budget-ok}
-use Rattle.semantics.specs.Program.{Go, sized, counts}
+use Rattle.semantics.specs.Program.{Go, sized, amounts}
 use Rattle.semantics.specs.declared.Settings.{Settings}
 use Rattle.text.specs.Fields.{clamp, number-read, number-said}
 use Rattle.text.proofs.Digits.{by-size}
@@ -21,8 +21,8 @@ sized-cut s r a =
     range-cut 1 most-slots (omega arith) 11 (λ x. check (allowed (s .merge) (s .stop)) 12 (check (budget-ok (clamp a)) 13 (ok (record { settings = s; capacity = x; budget = clamp a })))) r
     ∙ ap (λ (x : Res Go). check (capacity-ok r) 11 (check (allowed (s .merge) (s .stop)) 12 x)) (range-cut 0 most-iterations (omega arith) 13 (λ x. ok (record { settings = s; capacity = r; budget = x })) a)
 
-pub counts-cut : (s : Settings) (p q : Option ℤ) → counts s (number-said (number-read p)) (number-said (number-read q)) ≡ counts s p q
+pub amounts-cut : (s : Settings) (p q : Option ℤ) → amounts s (number-said (number-read p)) (number-said (number-read q)) ≡ amounts s p q
 unfolding number-said number-read if-ok
-counts-cut s none q = refl
-counts-cut s (some r) none = refl
-counts-cut s (some r) (some a) = sized-cut s r a
+amounts-cut s none q = refl
+amounts-cut s (some r) none = refl
+amounts-cut s (some r) (some a) = sized-cut s r a
