@@ -1,6 +1,6 @@
 -- What a well-formed chart's counts say of a slot's words and of products with them, and which numbers are a budget that
 -- 13 lets pass. Assumes nothing.
-use Rattle.semantics.proofs.Prelude.{List, ℕ, _*_, _≤_, _<_, mul-le-mul, arith, T, leb, leb→le, ℤ, pos, negsuc, natAbs, nonNeg}
+use Rattle.semantics.proofs.Prelude.{List, ℕ, _*_, _^_, _≤_, _<_, mul-le-mul, arith, T, leb, leb→le, ℤ, pos, negsuc, natAbs, nonNeg}
 use Rattle.semantics.specs.Layout.{most-iterations}
 use Rattle.semantics.specs.Encoding.{decode, well-formed}
 use Rattle.semantics.specs.Outcomes.{budget-ok}
@@ -16,11 +16,11 @@ module _ (ws : List ℤ) (ok : T (well-formed ws)) (y : Layout) (o : LayoutOf (d
   thin = omega (arith, o .wide, narrow ws ok)
 
   -- the words of a capacity of 32 bits
-  pub words-fit : (r : ℕ) → r < 4294967296 → r * y .stride < 18446744073709551616
+  pub words-fit : (r : ℕ) → r < 2 ^ 32 → r * y .stride < 2 ^ 64
   words-fit r h =
-      let few : r ≤ 4294967296 = omega arith in
+      let few : r ≤ 2 ^ 32 = omega arith in
       let d : y .stride ≤ most-width = omega (arith, o .stride, narrow ws ok) in
-      let m : r * y .stride ≤ 4294967296 * most-width = mul-le-mul few d in
+      let m : r * y .stride ≤ 2 ^ 32 * most-width = mul-le-mul few d in
       omega arith
 
 -- a budget that 13 lets pass is a number up to 60,000

@@ -1,7 +1,7 @@
 -- The name of a location, as its words have it, and that its numbers are bytes where the words are in form.
 -- Assumes nothing.
 use Rattle.semantics.proofs.Prelude.{_≡_, refl, ap, _∙_, Bool, true, false, List, [], _∷_, map, ℕ, zero, suc, _+_, _*_, _≤_, _<_, arith, lt-ltb, T, ℤ, pos, natAbs, length, getD, take, drop, drop-drop}
-use Rattle.semantics.specs.Layout.{counts-size, variable-size, name-size, location-size, name-place}
+use Rattle.semantics.specs.Layout.{counts-size, variable-size, name-size, location-size, name-place, byte-limit}
 use Rattle.semantics.specs.Lists.{all, pick}
 use Rattle.semantics.specs.Text.{between, name-byte, name-ok}
 use Rattle.semantics.specs.Chart.{Loc, eqZ}
@@ -58,15 +58,15 @@ name-fits (x ∷ xs) h = omega (arith, bytes-in name-size xs .1)
 
 -- ---- in form, the numbers are bytes
 
-small-byte : (b : ℕ) → T (name-byte b) → b < 256
+small-byte : (b : ℕ) → T (name-byte b) → b < byte-limit
 small-byte b t = let r = plain-range b (byte-plain b t) in omega arith
 
-small-bytes : (bs : List ℕ) (i : ℕ) → T (all name-byte bs) → getD bs i 0 < 256
+small-bytes : (bs : List ℕ) (i : ℕ) → T (all name-byte bs) → getD bs i 0 < byte-limit
 small-bytes [] i t = omega arith
 small-bytes (b ∷ bs) zero t = small-byte b (and-left (name-byte b) (all name-byte bs) t)
 small-bytes (b ∷ bs) (suc i) t = small-bytes bs i (and-right (name-byte b) (all name-byte bs) t)
 
-small-names : (ls : List Loc) (k i : ℕ) → T (all (λ l. name-ok (l .name)) ls) → getD (loc-text ls k) i 0 < 256
+small-names : (ls : List Loc) (k i : ℕ) → T (all (λ l. name-ok (l .name)) ls) → getD (loc-text ls k) i 0 < byte-limit
 small-names [] k i t = omega arith
 small-names (l ∷ ls) zero i t = small-bytes (l .name) i (and-right (between 1 name-size (length (l .name))) (all name-byte (l .name)) (and-left (name-ok (l .name)) (all (λ m. name-ok (m .name)) ls) t))
 small-names (l ∷ ls) (suc k) i t = small-names ls k i (and-right (name-ok (l .name)) (all (λ m. name-ok (m .name)) ls) t)
@@ -75,4 +75,4 @@ small-names (l ∷ ls) (suc k) i t = small-names ls k i (and-right (name-ok (l .
 pub names-are-bytes : (ws : List ℤ) → T (well-formed ws) → (k i : ℕ) → byte-of (getD (loc-text (decode ws .locs) k) i 0) ≡ getD (loc-text (decode ws .locs) k) i 0
 names-are-bytes ws t k i =
     let b = formed-bounds ws t in
-    rw (lt-ltb (getD (loc-text (decode ws .locs) k) i 0) 256 (small-names (decode ws .locs) k i (b .names)))
+    rw (lt-ltb (getD (loc-text (decode ws .locs) k) i 0) byte-limit (small-names (decode ws .locs) k i (b .names)))

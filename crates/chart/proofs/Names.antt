@@ -1,6 +1,6 @@
 -- The name in a location's words, byte by byte: the turns of the loops over it. Assumes nothing.
 use Rattle.semantics.proofs.Prelude.{_≡_, refl, sym, ap, _∙_, Bool, true, false, _&&_, not, List, [], _∷_, ℕ, zero, suc, _+_, _-_, _<_, arith, add-one, eq-eqb, ne-eqb, eqb-true, eqb, eqb·suc-zero, ℤ, pos, negsuc, natAbs, length, drop, drop-nil, drop-cons, drop-drop}
-use Rattle.semantics.specs.Layout.{name-size, location-size}
+use Rattle.semantics.specs.Layout.{name-size, location-size, name-place}
 use Rattle.semantics.specs.Lists.{all, pick}
 use Rattle.semantics.specs.Text.{same-bytes}
 use Rattle.semantics.specs.Chart.{Loc, eqZ}
@@ -22,15 +22,15 @@ module _ (ws : List ℤ) (i : ℕ) (more : i < name-size) where
   left : name-size - i ≡ suc (name-size - (i + 1))
   left = omega arith
 
-  pub name-left : name-in (name-size - i) (drop (i + 1) ws) ≡ pick (eqb (count ws (i + 1)) 0) [] (natAbs (word-at ws (i + 1)) ∷ (name-in (name-size - (i + 1)) (drop (i + 1 + 1) ws)))
-  name-left = rw (left, add-one (i + 1), ← abs-zero (word-at ws (i + 1))) (name-step (name-size - (i + 1)) ws (i + 1))
+  pub name-left : name-in (name-size - i) (drop (i + name-place) ws) ≡ pick (eqb (count ws (i + name-place)) 0) [] (natAbs (word-at ws (i + name-place)) ∷ (name-in (name-size - (i + 1)) (drop (i + 1 + name-place) ws)))
+  name-left = rw (left, add-one (i + name-place), ← abs-zero (word-at ws (i + name-place))) (name-step (name-size - (i + 1)) ws (i + name-place))
 
   -- the name ends here; it has one byte more
-  pub name-ends : (n : ℕ) → n ≡ i + length (name-in (name-size - i) (drop (i + 1) ws)) → eqZ (word-at ws (i + 1)) (pos 0) ≡ true → i ≡ n
-  name-ends n e t = let z : eqb (count ws (i + 1)) 0 ≡ true = sym (abs-zero (word-at ws (i + 1))) ∙ t in omega (arith, rw (name-left, z) at e)
+  pub name-ends : (n : ℕ) → n ≡ i + length (name-in (name-size - i) (drop (i + name-place) ws)) → eqZ (word-at ws (i + name-place)) (pos 0) ≡ true → i ≡ n
+  name-ends n e t = let z : eqb (count ws (i + name-place)) 0 ≡ true = sym (abs-zero (word-at ws (i + name-place))) ∙ t in omega (arith, rw (name-left, z) at e)
 
-  pub name-goes : (n : ℕ) → n ≡ i + length (name-in (name-size - i) (drop (i + 1) ws)) → eqZ (word-at ws (i + 1)) (pos 0) ≡ false → n ≡ i + 1 + length (name-in (name-size - (i + 1)) (drop (i + 1 + 1) ws))
-  name-goes n e t = let z : eqb (count ws (i + 1)) 0 ≡ false = sym (abs-zero (word-at ws (i + 1))) ∙ t in omega (arith, rw (name-left, z) at e)
+  pub name-goes : (n : ℕ) → n ≡ i + length (name-in (name-size - i) (drop (i + name-place) ws)) → eqZ (word-at ws (i + name-place)) (pos 0) ≡ false → n ≡ i + 1 + length (name-in (name-size - (i + 1)) (drop (i + 1 + name-place) ws))
+  name-goes n e t = let z : eqb (count ws (i + name-place)) 0 ≡ false = sym (abs-zero (word-at ws (i + name-place))) ∙ t in omega (arith, rw (name-left, z) at e)
 
 -- words of different numbers begin different names
 apart : (a b : ℤ) (s t : List ℕ) → (natAbs a ≡ natAbs b → ⊥) → same-bytes (pick (eqb (natAbs a) 0) [] (natAbs a ∷ s)) (pick (eqb (natAbs b) 0) [] (natAbs b ∷ t)) ≡ false
@@ -42,26 +42,26 @@ apart a b s t h = go (eqb (natAbs a) 0) (eqb (natAbs b) 0) refl refl where
   go false false p q = rw (ne-eqb (natAbs a) (natAbs b) h)
 
 -- two names, by the numbers x and y of the words looked at
-module _ (us vs : List ℤ) (i : ℕ) (more : i < name-size) (x y : ℕ) (ex : x ≡ count us (i + 1)) (ey : y ≡ count vs (i + 1)) where
+module _ (us vs : List ℤ) (i : ℕ) (more : i < name-size) (x y : ℕ) (ex : x ≡ count us (i + name-place)) (ey : y ≡ count vs (i + name-place)) where
   abbrev now-left : Bool
-  now-left = same-bytes (name-in (name-size - i) (drop (i + 1) us)) (name-in (name-size - i) (drop (i + 1) vs))
+  now-left = same-bytes (name-in (name-size - i) (drop (i + name-place) us)) (name-in (name-size - i) (drop (i + name-place) vs))
 
   pub names-part : (x ≡ y → ⊥) → now-left ≡ false
   names-part h =
       rw (name-left us i more, name-left vs i more)
-      (apart (word-at us (i + 1)) (word-at vs (i + 1)) _ _ (λ e. h (ex ∙ e ∙ sym ey)))
+      (apart (word-at us (i + name-place)) (word-at vs (i + name-place)) _ _ (λ e. h (ex ∙ e ∙ sym ey)))
 
   pub names-end : x ≡ y → x ≡ 0 → now-left ≡ true
   names-end h z =
-      let p : eqb (count us (i + 1)) 0 ≡ true = eq-eqb _ _ (sym ex ∙ z) in
-      let q : eqb (count vs (i + 1)) 0 ≡ true = eq-eqb _ _ (sym ey ∙ sym h ∙ z) in
+      let p : eqb (count us (i + name-place)) 0 ≡ true = eq-eqb _ _ (sym ex ∙ z) in
+      let q : eqb (count vs (i + name-place)) 0 ≡ true = eq-eqb _ _ (sym ey ∙ sym h ∙ z) in
       rw (name-left us i more, name-left vs i more, p, q)
 
-  pub names-go : x ≡ y → (x ≡ 0 → ⊥) → now-left ≡ same-bytes (name-in (name-size - (i + 1)) (drop (i + 1 + 1) us)) (name-in (name-size - (i + 1)) (drop (i + 1 + 1) vs))
+  pub names-go : x ≡ y → (x ≡ 0 → ⊥) → now-left ≡ same-bytes (name-in (name-size - (i + 1)) (drop (i + 1 + name-place) us)) (name-in (name-size - (i + 1)) (drop (i + 1 + name-place) vs))
   names-go h z =
-      let p : eqb (count us (i + 1)) 0 ≡ false = ne-eqb _ _ (λ e. z (ex ∙ e)) in
-      let q : eqb (count vs (i + 1)) 0 ≡ false = ne-eqb _ _ (λ e. z (h ∙ ey ∙ e)) in
-      let s : eqb (count us (i + 1)) (count vs (i + 1)) ≡ true = eq-eqb _ _ (sym ex ∙ h ∙ ey) in
+      let p : eqb (count us (i + name-place)) 0 ≡ false = ne-eqb _ _ (λ e. z (ex ∙ e)) in
+      let q : eqb (count vs (i + name-place)) 0 ≡ false = ne-eqb _ _ (λ e. z (h ∙ ey ∙ e)) in
+      let s : eqb (count us (i + name-place)) (count vs (i + name-place)) ≡ true = eq-eqb _ _ (sym ex ∙ h ∙ ey) in
       rw (name-left us i more, name-left vs i more, p, q, s)
 
 -- the words of a name, each tested

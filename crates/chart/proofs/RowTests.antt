@@ -1,7 +1,7 @@
 -- One row: the test of its words is that it is what its decoding encodes to, and that this is what reading can produce.
 -- Assumes nothing.
 use Rattle.semantics.proofs.Prelude.{_≡_, refl, sym, ap, _∙_, Bool, true, false, _&&_, and-true, _||_, List, [], _∷_, _++_, map, ℕ, zero, suc, _-_, _≤_, _<_, sub-zero, suc-sub-suc, add-one, arith, le-leb, ne-eqb, lt-leb, T, leb, ltb, ltb→lt, ℤ, pos, negsuc, natAbs, length, take, drop, replicate, length-map, nonNeg, leZ}
-use Rattle.semantics.specs.Layout.{variable-size, name-size, location-size, edge-size}
+use Rattle.semantics.specs.Layout.{variable-size, name-size, location-size, edge-size, ge-code, ordinary-kind, error-kind, number-tag, variable-tag}
 use Rattle.semantics.specs.Lists.{pick, all}
 use Rattle.semantics.specs.Text.{name-byte, name-ok}
 use Rattle.semantics.specs.Chart.{Var, Chart, eqZ, small, in-range, Operand, Op, assign, add, sub, input, assume, skip, num, var}
@@ -28,13 +28,13 @@ var-row (a ∷ b ∷ c ∷ r) h = rw (word-back c, eqZ-self a, eqZ-self b, eqZ-s
 
 -- ---- a location
 
-kind-row : (k : ℤ) → eqZ (kind-word (eqZ k (pos 1))) k ≡ eqZ k (pos 0) || eqZ k (pos 1)
-kind-row k = go (eqZ k (pos 0)) (eqZ k (pos 1)) refl refl where
-  go : (u v : Bool) → eqZ k (pos 0) ≡ u → eqZ k (pos 1) ≡ v → eqZ (kind-word v) k ≡ u || v
-  go true true p q = eqZ-sym (pos 1) k ∙ q
-  go false true p q = eqZ-sym (pos 1) k ∙ q
-  go true false p q = eqZ-sym (pos 0) k ∙ p
-  go false false p q = eqZ-sym (pos 0) k ∙ p
+kind-row : (k : ℤ) → eqZ (kind-word (eqZ k error-kind)) k ≡ eqZ k ordinary-kind || eqZ k error-kind
+kind-row k = go (eqZ k ordinary-kind) (eqZ k error-kind) refl refl where
+  go : (u v : Bool) → eqZ k ordinary-kind ≡ u → eqZ k error-kind ≡ v → eqZ (kind-word v) k ≡ u || v
+  go true true p q = eqZ-sym error-kind k ∙ q
+  go false true p q = eqZ-sym error-kind k ∙ q
+  go true false p q = eqZ-sym ordinary-kind k ∙ p
+  go false false p q = eqZ-sym ordinary-kind k ∙ p
 
 byte-row : (z : ℤ) → name-word z ≡ eqZ (pos (natAbs z)) z && name-byte (natAbs z)
 unfolding name-word name-byte
@@ -84,9 +84,9 @@ location-row (k ∷ xs) h =
     let few : leb n name-size ≡ true = le-leb n name-size (name-few name-size xs) in
     let l : name-size ≤ length xs = omega arith in
     rw (kind-row k, few, and-true (leb 1 n), length-map bs pos, add-one n)
-    (interchange (eqZ k (pos 0) || eqZ k (pos 1)) (begins-with (map pos bs ++ replicate (name-size - n) (pos 0)) xs) (leb 1 n) (all name-byte bs)
-    ∙ ap (λ (b : Bool). ((eqZ k (pos 0) || eqZ k (pos 1)) && leb 1 n) && b) (name-row name-size xs l)
-    ∙ and-regroup ((eqZ k (pos 0) || eqZ k (pos 1)) && leb 1 n) (all name-word (take n xs)) (zeros (take (name-size - n) (drop n xs))))
+    (interchange (eqZ k ordinary-kind || eqZ k error-kind) (begins-with (map pos bs ++ replicate (name-size - n) (pos 0)) xs) (leb 1 n) (all name-byte bs)
+    ∙ ap (λ (b : Bool). ((eqZ k ordinary-kind || eqZ k error-kind) && leb 1 n) && b) (name-row name-size xs l)
+    ∙ and-regroup ((eqZ k ordinary-kind || eqZ k error-kind) && leb 1 n) (all name-word (take n xs)) (zeros (take (name-size - n) (drop n xs))))
 
 -- ---- an edge: what is tested of each word and of what it says, in the order of the code's tests
 
@@ -111,6 +111,22 @@ guarded true true p q h = h tt
 guarded true false p q h = refl
 guarded false l p q h = refl
 
+-- P of the first n numbers
+abbrev First : (ℕ → Type 0) → ℕ → Type 0
+First P zero = Unit {0}
+First P (suc n) = P zero × First (λ k. P (suc k)) n
+
+-- k more than n, in the form that a look-up computes by
+abbrev beyond : ℕ → ℕ → ℕ
+beyond zero k = k
+beyond (suc n) k = suc (beyond n k)
+
+-- P of every number, the first n of them looked up
+looked-up : (P : ℕ → Type 0) (n : ℕ) → First P n → ((k : ℕ) → P (beyond n k)) → (m : ℕ) → P m
+looked-up P zero h more m = more m
+looked-up P (suc n) h more zero = h .0
+looked-up P (suc n) h more (suc m) = looked-up (λ k. P (suc k)) n (h .1) more m
+
 not-first : (o : Op) (m : ℕ) (ws : List ℤ) → begins-with (op-words o) (negsuc m ∷ ws) ≡ false
 not-first (assign v a) m ws = refl
 not-first (add v a b) m ws = refl
@@ -123,10 +139,10 @@ not-first skip m ws = refl
 module _ (vars : List Var) (vw : List ℤ) (in-words : (k : ℕ) (z : ℤ) → k < length vars → in-range vars k z ≡ ranged vw k z) where
   operand-row : (a x : ℤ) → eqZ (tag (operand a x)) a && eqZ (operand-word (operand a x)) x && operand-ok vars (operand a x) ≡ operand-fine (length vars) a x
   unfolding operand-fine
-  operand-row a x = go (eqZ a (pos 0)) refl where
-    go : (u : Bool) → eqZ a (pos 0) ≡ u → eqZ (tag (pick u (num x) (var (natAbs x)))) a && eqZ (operand-word (pick u (num x) (var (natAbs x)))) x && operand-ok vars (pick u (num x) (var (natAbs x))) ≡ pick u (small x) (eqZ a (pos 1) && below (length vars) x)
-    go true e = rw (eqZ-sym (pos 0) a, e, eqZ-self x)
-    go false e = rw (eqZ-sym (pos 1) a, said x) (sym (and-regroup (eqZ a (pos 1)) (nonNeg x) (ltb (natAbs x) (length vars))))
+  operand-row a x = go (eqZ a number-tag) refl where
+    go : (u : Bool) → eqZ a number-tag ≡ u → eqZ (tag (pick u (num x) (var (natAbs x)))) a && eqZ (operand-word (pick u (num x) (var (natAbs x)))) x && operand-ok vars (pick u (num x) (var (natAbs x))) ≡ pick u (small x) (eqZ a variable-tag && below (length vars) x)
+    go true e = rw (eqZ-sym number-tag a, e, eqZ-self x)
+    go false e = rw (eqZ-sym variable-tag a, said x) (sym (and-regroup (eqZ a variable-tag) (nonNeg x) (ltb (natAbs x) (length vars))))
 
   module _ (t a x b y : ℤ) (ws : List ℤ) where
     abbrev A : Operand
@@ -147,33 +163,28 @@ module _ (vars : List Var) (vw : List ℤ) (in-words : (k : ℕ) (z : ℤ) → k
         shuffle-two (eqZ (pos (natAbs t)) t) (eqZ (tag A) a) (eqZ (operand-word A) x) (eqZ (tag B) b) (eqZ (operand-word B) y) (ltb (natAbs t) (length vars)) (operand-ok vars A) (operand-ok vars B)
         ∙ rw (said t, operand-row a x, operand-row b y)
 
-    input-row : (eqZ (pos (natAbs t)) t && (eqZ (pos 0) a && (eqZ x x && (eqZ (pos 0) b && (eqZ y y && true))))) && op-ok vars (input (natAbs t) x y)
-        ≡ below (length vars) t && (eqZ a (pos 0) && eqZ b (pos 0) && small x && ranged vw (natAbs t) x && small y && ranged vw (natAbs t) y && leZ x y)
+    input-row : (eqZ (pos (natAbs t)) t && (eqZ number-tag a && (eqZ x x && (eqZ number-tag b && (eqZ y y && true))))) && op-ok vars (input (natAbs t) x y)
+        ≡ below (length vars) t && (eqZ a number-tag && eqZ b number-tag && small x && ranged vw (natAbs t) x && small y && ranged vw (natAbs t) y && leZ x y)
     input-row =
-        rw (eqZ-self x, eqZ-self y, eqZ-sym (pos 0) a, eqZ-sym (pos 0) b, said t)
-        (shuffle-input (nonNeg t) (eqZ a (pos 0)) (eqZ b (pos 0)) (ltb (natAbs t) (length vars)) (small x) (in-range vars (natAbs t) x) (small y) (in-range vars (natAbs t) y) (leZ x y)
+        rw (eqZ-self x, eqZ-self y, eqZ-sym number-tag a, eqZ-sym number-tag b, said t)
+        (shuffle-input (nonNeg t) (eqZ a number-tag) (eqZ b number-tag) (ltb (natAbs t) (length vars)) (small x) (in-range vars (natAbs t) x) (small y) (in-range vars (natAbs t) y) (leZ x y)
         ∙ guarded (nonNeg t) (ltb (natAbs t) (length vars)) _ _ (λ h. rw (in-words (natAbs t) x (ltb→lt (natAbs t) (length vars) h), in-words (natAbs t) y (ltb→lt (natAbs t) (length vars) h))))
 
     abbrev op : ℕ → Op
     op n = op-of n (natAbs t) A B x y
 
-    operation-row : (f g o : ℤ) → begins-with (op-words (op (natAbs o))) (o ∷ t ∷ a ∷ x ∷ b ∷ y ∷ ws) && op-ok vars (op (natAbs o))
-        ≡ at-most 10 o && operation-fine vw (length vars) (f ∷ g ∷ o ∷ t ∷ a ∷ x ∷ b ∷ y ∷ ws)
+    abbrev Judged : ℤ → ℤ → ℤ → Type 0
+    Judged f g o = begins-with (op-words (op (natAbs o))) (o ∷ t ∷ a ∷ x ∷ b ∷ y ∷ ws) && op-ok vars (op (natAbs o))
+        ≡ at-most ge-code o && operation-fine vw (length vars) (f ∷ g ∷ o ∷ t ∷ a ∷ x ∷ b ∷ y ∷ ws)
+
+    -- by the code: `skip`, `set`, `add`, `sub`, `in`, and the six of `if`
+    operation-row : (f g o : ℤ) → Judged f g o
     unfolding operation-fine operands-fine one-fine two-fine input-fine
-    operation-row f g (pos zero) = and-true _
-    operation-row f g (pos (suc zero)) = one-row
-    operation-row f g (pos (suc (suc zero))) = two-row
-    operation-row f g (pos (suc (suc (suc zero)))) = two-row
-    operation-row f g (pos (suc (suc (suc (suc zero))))) = input-row
-    operation-row f g (pos (suc (suc (suc (suc (suc zero)))))) = one-row
-    operation-row f g (pos (suc (suc (suc (suc (suc (suc zero))))))) = one-row
-    operation-row f g (pos (suc (suc (suc (suc (suc (suc (suc zero)))))))) = one-row
-    operation-row f g (pos (suc (suc (suc (suc (suc (suc (suc (suc zero))))))))) = one-row
-    operation-row f g (pos (suc (suc (suc (suc (suc (suc (suc (suc (suc zero)))))))))) = one-row
-    operation-row f g (pos (suc (suc (suc (suc (suc (suc (suc (suc (suc (suc zero))))))))))) = one-row
-    operation-row f g (pos (suc (suc (suc (suc (suc (suc (suc (suc (suc (suc (suc n)))))))))))) =
-        let m = suc (suc (suc (suc (suc (suc (suc (suc (suc (suc (suc n)))))))))) in
-        rw (ne-eqb 10 m (λ e. omega arith), lt-leb m 10 (omega arith))
+    operation-row f g (pos n) =
+        looked-up (λ (k : ℕ). Judged f g (pos k)) (suc ge-code)
+        (and-true _, (one-row, (two-row, (two-row, (input-row, (one-row, (one-row, (one-row, (one-row, (one-row, (one-row, tt)))))))))))
+        (λ k. rw (ne-eqb ge-code (beyond (suc ge-code) k) (λ e. omega arith), lt-leb (beyond (suc ge-code) k) ge-code (omega arith)))
+        n
     operation-row f g (negsuc n) = rw (not-first (op (suc n)) n (t ∷ a ∷ x ∷ b ∷ y ∷ ws))
 
 module _ (c : Chart) (vw : List ℤ) (in-words : (k : ℕ) (z : ℤ) → k < length (c .vars) → in-range (c .vars) k z ≡ ranged vw k z) where
@@ -194,4 +205,4 @@ module _ (c : Chart) (vw : List ℤ) (in-words : (k : ℕ) (z : ℤ) → k < len
       rw (said f, said g)
       (shuffle-edge (nonNeg f) (nonNeg g) (begins-with (op-words q) w) (ltb (natAbs f) l) (ltb (natAbs g) l) (op-ok (c .vars) q)
       ∙ ap (λ (u : Bool). (below l f && below l g) && u) (operation-row (c .vars) vw in-words t a x b y ws f g o)
-      ∙ and-regroup (below l f && below l g) (at-most 10 o) (operation-fine vw (length (c .vars)) (f ∷ g ∷ w)))
+      ∙ and-regroup (below l f && below l g) (at-most ge-code o) (operation-fine vw (length (c .vars)) (f ∷ g ∷ w)))

@@ -1,6 +1,6 @@
 -- The tests of the words are the form check: counts first, then room for all rows, then the rows. Assumes nothing.
 use Rattle.semantics.proofs.Prelude.{_≡_, refl, sym, ap, _∙_, Bool, true, false, _&&_, and-true, List, [], _∷_, _++_, map, append-nil, ℕ, zero, suc, _+_, _*_, _≤_, _<_, arith, leb-true, leb-false, T, leb, ℤ, pos, length, drop, length-append, length-map, length-drop, drop-drop, getD-drop, nonNeg}
-use Rattle.semantics.specs.Layout.{most-variables, most-locations, most-edges, counts-size, variable-size, name-size, location-size, edge-size, variables-place, locations-place, edges-place, high-place}
+use Rattle.semantics.specs.Layout.{most-variables, most-locations, most-edges, counts-size, variable-size, name-size, location-size, edge-size, variables-place, locations-place, edges-place, high-place, name-place}
 use Rattle.semantics.specs.Lists.{all, each}
 use Rattle.semantics.specs.Text.{name-ok}
 use Rattle.semantics.specs.Chart.{eqZ, in-range}
@@ -14,7 +14,7 @@ use Rattle.chart.proofs.Rows.{iff, all-and, past-drop, rows-same, all-r
 use Rattle.chart.proofs.RowTests.{said, var-row, name-few, location-row, edge-row}
 
 loc-wide : (ws : List ℤ) → length (loc-words (loc-in ws)) ≡ location-size
-loc-wide ws = ap suc (padded-length name-size (map pos (name-in name-size (drop 1 ws))) (omega (arith, length-map (name-in name-size (drop 1 ws)) pos, name-few name-size (drop 1 ws))))
+loc-wide ws = ap suc (padded-length name-size (map pos (name-in name-size (drop name-place ws))) (omega (arith, length-map (name-in name-size (drop name-place ws)) pos, name-few name-size (drop name-place ws))))
 
 -- ---- room for all rows
 

@@ -10,7 +10,7 @@ use lib.IntN.{ℤ, pos, natAbs}
 use lib.Signed.{nonNeg, leZ}
 use Rattle.semantics.specs.Lists.{pick, all}
 use Rattle.semantics.specs.Chart.{eqZ, within, small}
-use Rattle.semantics.specs.Layout.{most-variables, most-locations, most-edges, counts-size, variable-size, name-size, location-size, edge-size, variables-place, locations-place, edges-place, variable-at, high-place, kind-place, name-place, from-place, to-place, operation-place, target-place, first-tag-place, first-value-place, second-tag-place, second-value-place, skip-code, add-code, sub-code, in-code, ge-code, number-tag, variable-tag}
+use Rattle.semantics.specs.Layout.{most-variables, most-locations, most-edges, counts-size, variable-size, name-size, location-size, edge-size, variables-place, locations-place, edges-place, variable-at, high-place, kind-place, name-place, from-place, to-place, operation-place, target-place, first-tag-place, first-value-place, second-tag-place, second-value-place, skip-code, add-code, sub-code, in-code, ge-code, number-tag, variable-tag, byte-limit}
 use Rattle.semantics.specs.Encoding.{word-at, count, kind-word, var-in, var-ok, loc-in, distinct-names, several, variable-count, location-count, edge-count}
 use Rattle.semantics.specs.Memory.{below, zeros}
 
@@ -109,4 +109,4 @@ rows-fine ws =
 
 -- the number as a byte; bytes of a name in form are as they were
 abbrev pub byte-of : ℕ → ℕ
-byte-of n = pick (ltb n 256) n 0
+byte-of n = pick (ltb n byte-limit) n 0

@@ -375,12 +375,15 @@ pub fn name(chart: &[i32], l: LocationId) -> &[i32]
     &chart[0..0]
 }
 
+// The least number that no byte holds.
+const BYTE_LIMIT: usize = 256;
+
 // The byte in a word of a name; 0 where the word is no byte.
 pub fn byte_of(w: i32) -> u8
     ensures { λ r. ⌜ r ≡ byte-of (natAbs w) ⌝ }
 {
     let n = words::magnitude(w);
-    if n < 256 {
+    if n < BYTE_LIMIT {
         return n as u8;
     }
     0

@@ -1,5 +1,6 @@
 -- The first line and the rest of an input by the place of the first LF, and the go line judged by it. Assumes nothing.
 use Rattle.semantics.proofs.Prelude.{_≡_, refl, sym, ap, _∙_, Bool, true, false, _&&_, _||_, not, List, [], _∷_, ℕ, zero, suc, _+_, _≤_, add-one, arith, leb, ltb, eqb, leb·suc-suc, length, take, drop, take-length, ltb-true, ltb-false, lt-leb, le-leb, lt-ltb, le-ltb}
+use Rattle.semantics.specs.Layout.{go-line-bytes}
 use Rattle.semantics.specs.Lists.{pick, all}
 use Rattle.semantics.specs.Text.{fields}
 use Rattle.semantics.specs.Reading.{check}
@@ -59,6 +60,6 @@ late-is n l = by-test (ltb n (length l)) refl
 
 -- the go line by the place e of its LF, which is the input's length where there is none
 pub by-its-end : (l : List ℕ) (e : ℕ) → e ≡ up-to 10 l
-    → go-line l ≡ check (not (ltb 64 (length l) && leb 64 e)) 1 (check (all line-byte (take e l)) 2 (check (ltb e (length l)) 3 (go-fields (fields (take e l)))))
+    → go-line l ≡ check (not (ltb go-line-bytes (length l) && leb go-line-bytes e)) 1 (check (all line-byte (take e l)) 2 (check (ltb e (length l)) 3 (go-fields (fields (take e l)))))
 unfolding go-line
-by-its-end l e p = rw (p, late-is 64 l, first-is l, lf-is l)
+by-its-end l e p = rw (p, late-is go-line-bytes l, first-is l, lf-is l)

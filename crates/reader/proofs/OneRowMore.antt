@@ -1,5 +1,5 @@
 -- The rows and the names after one more variable, location or edge. Assumes nothing.
-use Rattle.semantics.proofs.Prelude.{_≡_, refl, sym, ap, _∙_, false, List, [], _∷_, _++_, append-assoc, append-nil, ℕ, zero, suc, _+_, _*_, _≤_, _<_, arith, T, length, take, drop, length-append, take-append-drop, ℤ}
+use Rattle.semantics.proofs.Prelude.{_≡_, refl, sym, ap, _∙_, false, List, [], _∷_, _++_, append-assoc, append-nil, ℕ, zero, suc, _+_, _*_, _≤_, _<_, arith, T, length, take, drop, length-append, take-append-drop, getD-append-add, ℤ, pos}
 use Rattle.semantics.specs.Lists.{all, each}
 use Rattle.semantics.specs.Text.{name-ok}
 use Rattle.semantics.specs.Layout.{variable-size, location-size, edge-size, high-place}
@@ -90,9 +90,10 @@ unfolding ranged
 ranges [] rest k z h = absurd (omega arith)
 ranges (v ∷ vs) rest zero z h = refl
 ranges (v ∷ vs) rest (suc k) z h =
-    let e : variable-size * suc k ≡ suc (suc (suc (variable-size * k))) = omega arith in
-    let d : variable-size * suc k + high-place ≡ suc (suc (suc (variable-size * k + high-place))) = omega arith in
-    rw (d, e) (ranges vs rest k z (omega arith))
+    let e : variable-size * suc k ≡ variable-size + variable-size * k = omega arith in
+    let d : variable-size * suc k + high-place ≡ variable-size + (variable-size * k + high-place) = omega arith in
+    let past = getD-append-add (var-words v) (each var-words vs ++ rest) in
+    rw (d, e, past (variable-size * k) (pos 0), past (variable-size * k + high-place) (pos 0)) (ranges vs rest k z (omega arith))
 
 pub range-held : {t : Tally} {ws : List ℤ} {c : Chart} → Rows t ws c → (k : ℕ) (z : ℤ) → k < t .vars → ranged ws k z ≡ in-range (c .vars) k z
 range-held {t} {ws} {c} h k z l =

@@ -1,6 +1,6 @@
 // What is judged of the file as a whole: its bytes, and the LF of its last line.
 ghost use mathlib.Core.Path.{_≡_};
-ghost use Prim.Native.Nat.{suc, _<_};
+ghost use Prim.Native.Nat.{suc, _<_, _^_};
 ghost use lib.Dec.{eqb};
 ghost use Rattle.semantics.specs.Lists.{pick};
 ghost use Rattle.semantics.specs.Reading.{byte-ok, bad-byte-line, open-line};
@@ -21,7 +21,7 @@ fn byte_ok(b: u8) -> bool
 
 // One line more after an LF. The bound only keeps the sum from wrapping.
 fn line_after(n: usize, b: u8) -> usize
-    requires { ⌜ n < 10000000000000000000 ⌝ }
+    requires { ⌜ suc n < 2 ^ 64 ⌝ }
     ensures { λ r. ⌜ r ≡ pick (eqb b 10) (suc n) n ⌝ }
 {
     if b == semantics::LF {

@@ -1,7 +1,7 @@
 -- The program's input: what an accepted go line says, and how much of the input matters. Assumes nothing.
 use Rattle.semantics.proofs.Prelude.{_≡_, refl, sym, ap, _∙_, subst, Bool, true, false, _||_, List, [], _∷_, _++_, ℕ, zero, suc, _+_, _≤_, _<_, arith, T, eqb, length, take, drop, take-append-drop, length-append, take-all, take-append-le, length-take-le, lt-ltb, decLe}
 use Rattle.semantics.specs.Lists.{pick}
-use Rattle.semantics.specs.Layout.{most-bytes, input-bytes}
+use Rattle.semantics.specs.Layout.{most-bytes, go-line-bytes, input-bytes}
 use Rattle.semantics.specs.Reading.{Res, fail, ok, check, refused, read}
 use Rattle.semantics.specs.Program.{has-lf, first-line, past-line, Go, go-line, print-read, print-go, output}
 use Rattle.semantics.proofs.Bools.{from-true, to-true}
@@ -59,16 +59,16 @@ past-long (suc n) (b ∷ bs) t = go (eqb b 10) t (past-long n bs)
 
 -- ---- the first 32,833 bytes: 64 for the go line, 32,768 for the chart, and one more that tells a chart too long
 
-no-line : (x : List ℕ) → 64 < length x → has-lf (take 64 x) ≡ false → go-line x ≡ fail 1
+no-line : (x : List ℕ) → go-line-bytes < length x → has-lf (take go-line-bytes x) ≡ false → go-line x ≡ fail 1
 unfolding go-line check
-no-line x l e = rw (lt-ltb 64 (length x) l, e)
+no-line x l e = rw (lt-ltb go-line-bytes (length x) l, e)
 
-same-line : (p q : List ℕ) → 64 < length p → T (has-lf (take 64 p)) → go-line (p ++ q) ≡ go-line p
+same-line : (p q : List ℕ) → go-line-bytes < length p → T (has-lf (take go-line-bytes p)) → go-line (p ++ q) ≡ go-line p
 unfolding go-line
 same-line p q l t =
-    let h = past-long 64 p t .0 in
+    let h = past-long go-line-bytes p t .0 in
     let r = after-lf p q h in
-    rw (take-append-le 64 p q (omega arith), to-true (has-lf (take 64 p)) t, lt-ltb 64 (length (p ++ q)) (omega (arith, length-append p q)), lt-ltb 64 (length p) l, r .line, to-true (has-lf (p ++ q)) (r .lf), to-true (has-lf p) h)
+    rw (take-append-le go-line-bytes p q (omega arith), to-true (has-lf (take go-line-bytes p)) t, lt-ltb go-line-bytes (length (p ++ q)) (omega (arith, length-append p q)), lt-ltb go-line-bytes (length p) l, r .line, to-true (has-lf (p ++ q)) (r .lf), to-true (has-lf p) h)
 
 too-long : (text : List ℕ) → most-bytes < length text → read text ≡ refused 1 0
 unfolding read
@@ -80,16 +80,16 @@ same-print (ok g) x y e = ap (print-read g) e
 
 cut : (p q : List ℕ) → length p ≡ input-bytes → output p ≡ output (p ++ q)
 unfolding output
-cut p q l = go (has-lf (take 64 p)) refl
+cut p q l = go (has-lf (take go-line-bytes p)) refl
   where
-    longer : 64 < length (p ++ q)
+    longer : go-line-bytes < length (p ++ q)
     longer = omega (arith, length-append p q)
 
-    go : (x : Bool) → has-lf (take 64 p) ≡ x → print-go (go-line p) (past-line p) ≡ print-go (go-line (p ++ q)) (past-line (p ++ q))
-    go false e = rw (no-line p (omega arith) e, no-line (p ++ q) longer (ap has-lf (take-append-le 64 p q (omega arith)) ∙ e))
+    go : (x : Bool) → has-lf (take go-line-bytes p) ≡ x → print-go (go-line p) (past-line p) ≡ print-go (go-line (p ++ q)) (past-line (p ++ q))
+    go false e = rw (no-line p (omega arith) e, no-line (p ++ q) longer (ap has-lf (take-append-le go-line-bytes p q (omega arith)) ∙ e))
     go true e =
         let t = from-true e in
-        let h = past-long 64 p t in
+        let h = past-long go-line-bytes p t in
         let r = after-lf p q (h .0) in
         rw (same-line p q (omega arith) t, r .rest)
         (same-print (go-line p) (past-line p) (past-line p ++ q) (too-long (past-line p) (omega (arith, h .1)) ∙ sym (too-long (past-line p ++ q) (omega (arith, h .1, length-append (past-line p) q)))))

@@ -2,7 +2,7 @@
 -- Assumes nothing.
 use Rattle.semantics.proofs.Prelude.{_≡_, Bool, true, false, List, [], _∷_, _++_, map, ℕ, zero, suc, _+_, _*_, _≤_, arith, T, eqb, leb→le, le→leb, length, length-append, ℤ, pos, negsuc, leZ}
 use Rattle.semantics.specs.Lists.{some-of, all}
-use Rattle.semantics.specs.Layout.{most-iterations, most-slots, name-size, listing-bytes}
+use Rattle.semantics.specs.Layout.{most-iterations, most-slots, least-number, most-number, name-size, listing-bytes}
 use Rattle.semantics.specs.Text.{bytes, decimal, line-of, name-ok}
 use Rattle.semantics.specs.Chart.{Value, known, top, Var, Loc, Chart}
 use Rattle.semantics.specs.Algorithm.{Mode, Sep, Order, Old, New, Verdict, Open, Safe, Alarm, Full, Exploration, Join}
@@ -35,11 +35,11 @@ leZ-trans (negsuc a) (negsuc b) (negsuc c) s t = le→leb c a (let p = leb→le 
 
 val-short : (v : Var) (x : Value) → T (var-ok v) → ValOk v x → length (val-text x) ≤ 6
 val-short v (known z) t h =
-    let a : T (leZ (negsuc 32767) (v .lo)) = search (and-left, and-right) depth 8 in
-    let b : T (leZ (v .hi) (pos 32767)) = search (and-left, and-right) depth 8 in
-    let p = leZ-trans (negsuc 32767) (v .lo) z a (and-left (leZ (v .lo) z) (leZ z (v .hi)) h) in
-    let q = leZ-trans z (v .hi) (pos 32767) (and-right (leZ (v .lo) z) (leZ z (v .hi)) h) b in
-    decZ-short z (both-true (leZ (negsuc 32767) z) (leZ z (pos 32767)) p q)
+    let a : T (leZ least-number (v .lo)) = search (and-left, and-right) depth 8 in
+    let b : T (leZ (v .hi) most-number) = search (and-left, and-right) depth 8 in
+    let p = leZ-trans least-number (v .lo) z a (and-left (leZ (v .lo) z) (leZ z (v .hi)) h) in
+    let q = leZ-trans z (v .hi) most-number (and-right (leZ (v .lo) z) (leZ z (v .hi)) h) b in
+    decZ-short z (both-true (leZ least-number z) (leZ z most-number) p q)
 val-short v top t h = omega arith
 
 vals-short : (vs : List Var) (xs : List Value) (m : List ℕ) → T (all var-ok vs) → ValsOk vs xs → size (map val-text xs ++ (m ∷ [])) ≤ 7 * length vs + suc (length m)

@@ -1,7 +1,7 @@
 -- An exploration stored in words, with any words after, is read back and is in form. Assumes nothing.
 use Rattle.semantics.proofs.Prelude.{_≡_, refl, sym, ap, _∙_, subst, inl, inr, Bool, true, false, _||_, not, List, [], _∷_, _++_, map, append-assoc, ℕ, zero, suc, _-_, _*_, _≤_, _<_, mul-le-mul-right, arith, T, ltb, eqb, leb→le, le→leb, lt→ltb, eqb-refl, length, take, drop, replicate, length-append, length-map, length-replicate, take-at, drop-at, ℤ, pos, negsuc, natAbs, leZ, ne-eqb, not-T, eqb-true, eqb·suc-zero, nonNeg}
 use Rattle.semantics.specs.Lists.{In, some-of, each, all, all-of, all-pairs, pick}
-use Rattle.semantics.specs.Layout.{most-iterations, most-slots, top-word}
+use Rattle.semantics.specs.Layout.{most-iterations, most-slots, most-number, top-word}
 use Rattle.semantics.specs.Chart.{Value, known, top, Var, Chart, eqZ, within, small}
 use Rattle.semantics.specs.Algorithm.{Verdict, Open, Safe, Alarm, Full, Exploration}
 use Rattle.semantics.specs.Constants.{AbstractState, Covers, constants}
@@ -39,20 +39,20 @@ all-true (b ∷ bs) h = both-true b (all-of bs) (h .0) (all-true bs (h .1))
 
 -- ---- one value and one row
 
-pub not-top : (z hi : ℤ) → T (leZ z hi) → T (leZ hi (pos 32767)) → eqZ z top-word ≡ false
-not-top (pos z) (pos hi) a b = ne-eqb z (natAbs top-word) (λ e. let q = leb→le z hi a in let r = leb→le hi 32767 b in omega arith)
+pub not-top : (z hi : ℤ) → T (leZ z hi) → T (leZ hi most-number) → eqZ z top-word ≡ false
+not-top (pos z) (pos hi) a b = ne-eqb z (natAbs top-word) (λ e. let q = leb→le z hi a in let r = leb→le hi (natAbs most-number) b in omega arith)
 not-top (pos z) (negsuc hi) a b = absurd a
 not-top (negsuc z) hi a b = refl
 
 -- a number that a file can hold is not the word for top
 pub small-not-top : (z : ℤ) → T (small z) → eqZ z top-word ≡ false
-small-not-top z t = not-top z (pos 32767) (search (and-left, and-right)) tt
+small-not-top z t = not-top z most-number (search (and-left, and-right)) tt
 
 -- nor is one in a variable's range
 pub known-not-top : (v : Var) (z : ℤ) → T (var-ok v) → ValOk v (known z) → eqZ z top-word ≡ false
 known-not-top v z t h =
     let p : T (leZ z (v .hi)) = search (and-left, and-right) in
-    let q : T (leZ (v .hi) (pos 32767)) = search (and-left, and-right) depth 8 in
+    let q : T (leZ (v .hi) most-number) = search (and-left, and-right) depth 8 in
     not-top z (v .hi) p q
 
 val-back : (v : Var) (x : Value) → T (var-ok v) → ValOk v x → val (word x) ≡ x

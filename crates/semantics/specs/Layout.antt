@@ -1,6 +1,6 @@
 -- The numbers that several definitions, contracts and proofs need, each under its name: document 01's limits, the bounds of
 -- a number and the word for top, the sizes of the rows of an encoded chart, the place of each word in its row, and the codes
--- of operations. docs/memory.md has the layout in tables. Assumes nothing.
+-- of operations, kinds and operands. docs/memory.md has the layout in tables. Assumes nothing.
 use Prim.Native.Nat.{ℕ, suc, _+_, _*_}
 use lib.IntN.{ℤ, pos, negsuc}
 
@@ -181,6 +181,13 @@ gt-code = 9
 abbrev pub ge-code : ℕ
 ge-code = 10
 
+-- of a location's kind: "`o` ordinary, `e` bad"
+abbrev pub ordinary-kind : ℤ
+ordinary-kind = pos 0
+
+abbrev pub error-kind : ℤ
+error-kind = pos 1
+
 -- of an operand: a number, or a variable
 abbrev pub number-tag : ℤ
 number-tag = pos 0
@@ -193,3 +200,7 @@ variable-tag = pos 1
 -- the magnitude of any word is below it; a count or place below it, times the size of a row and added to, does not wrap
 abbrev pub index-limit : ℕ
 index-limit = 2147483649
+
+-- the least number that no byte holds
+abbrev pub byte-limit : ℕ
+byte-limit = 256

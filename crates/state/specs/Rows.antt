@@ -41,9 +41,13 @@ layout-of ws = record {
   stride = head-size + value-size * variable-count ws;
 }
 
+-- where the location's word stands in a row
+abbrev pub location-place : ℕ
+location-place = 0
+
 -- the word of a row's location
 abbrev pub location-word : List ℤ → ℤ
-location-word e = word-at e 0
+location-word e = word-at e location-place
 
 -- the location, its sign left out
 abbrev pub location-in : List ℤ → ℕ
@@ -75,7 +79,7 @@ id-word n = pick (ltb n word-limit) (pos n) (pos 0)
 
 -- the row at another location
 abbrev pub with-location : List ℤ → ℕ → List ℤ
-with-location e n = set e 0 (id-word n)
+with-location e n = set e location-place (id-word n)
 
 -- the row with another value of variable k
 abbrev pub with-value : List ℤ → ℕ → ℤ → List ℤ

@@ -53,18 +53,21 @@ pub fn layout_of(chart: &[i32]) -> Layout
     }
 }
 
+// Where the location's word stands in a row.
+const LOCATION_PLACE: usize = 0;
+
 // The word of a row's location; 0 in an empty row.
 pub fn location_word(row: &[i32]) -> i32
     ensures { λ r. ⌜ r ≡ location-word (now (row .entry)) ⌝ }
 {
-    words::word_at(row, 0)
+    words::word_at(row, LOCATION_PLACE)
 }
 
 // The location of a row.
 pub fn location_of(row: &[i32]) -> LocationId
     ensures { λ r. ⌜ (r .0 ≡ location-in (now (row .entry))) × (r .0 < index-limit) ⌝ }
 {
-    LocationId(words::number_at(row, 0))
+    LocationId(words::number_at(row, LOCATION_PLACE))
 }
 
 // The values of a row, a word each.
@@ -83,12 +86,15 @@ pub fn value_at(row: &[i32], k: usize) -> i32
     words::word_at(row, k + HEAD)
 }
 
+// The least number that no word holds.
+const WORD_LIMIT: usize = 2147483648;
+
 // The word that a row holds for a location; 0 for one that no word can hold.
 fn id_word(l: LocationId) -> i32
     ensures { λ r. ⌜ r ≡ id-word (l .0) ⌝ }
 {
     let n = l.0;
-    if n < 2147483648 {
+    if n < WORD_LIMIT {
         return n as i32;
     }
     0
@@ -99,7 +105,7 @@ pub fn set_location(row: &mut [i32], l: LocationId)
     requires { ⌜ 0 < length (now row) ⌝ }
     ensures { λ _. ⌜ now (row .exit) ≡ with-location (now (row .entry)) (l .0) ⌝ }
 {
-    row[0] = id_word(l);
+    row[LOCATION_PLACE] = id_word(l);
 }
 
 // Variable k becomes x; nothing where there is none.

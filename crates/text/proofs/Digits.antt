@@ -1,11 +1,12 @@
--- Numbers, digit by digit, and what stays the same where a number is cut at 100,000. Assumes nothing.
-use Rattle.semantics.proofs.Prelude.{_≡_, refl, sym, ap, _∙_, Bool, true, false, _⊎_, inl, inr, ⊎-elim, List, [], _∷_, Option, some, none, ℕ, zero, suc, _+_, _-_, _*_, _≤_, _<_, min, add-one, arith, length, getD, take, drop, drop-of-length-le, drop-cons, ℤ, pos, negsuc, negℤ, _-ℤ_, +ℤ-idl, w32, SFits, toZ, ofZ, toZ-ofZ, eq-eqb, ne-eqb, le-leb, lt-leb, le-ltb, ltb, toZ-pos, and-false, decLt}
+-- Numbers, digit by digit, and what stays the same where a number is cut. Assumes nothing.
+use Rattle.semantics.proofs.Prelude.{_≡_, refl, sym, ap, _∙_, Bool, true, false, _⊎_, inl, inr, ⊎-elim, List, [], _∷_, Option, some, none, ℕ, zero, suc, _+_, _-_, _*_, _≤_, _<_, min, add-one, arith, length, getD, take, drop, drop-of-length-le, drop-cons, ℤ, pos, negsuc, natAbs, negℤ, _-ℤ_, +ℤ-idl, w32, SFits, toZ, ofZ, toZ-ofZ, eq-eqb, ne-eqb, le-leb, lt-leb, le-ltb, ltb, toZ-pos, and-false, decLt}
+use Rattle.semantics.specs.Layout.{least-number, most-number, byte-limit}
 use Rattle.semantics.specs.Lists.{pick}
 use Rattle.semantics.specs.Text.{between, digits, natural-of, nonnegative, negative, number-of}
 use Rattle.semantics.specs.Chart.{small}
 use Rattle.semantics.specs.Reading.{fail, ok, check, small-or, below-or}
 use Rattle.words.proofs.Rows.{tail}
-use Rattle.text.specs.Fields.{clamp, natural-read, IsCut, number-read, natural-said, number-said}
+use Rattle.text.specs.Fields.{number-cut, clamp, natural-read, IsCut, number-read, natural-said, number-said}
 use Rattle.text.specs.declared.Natural.the-variants as natural
 use Rattle.text.specs.declared.NumberRead.the-variants as number
 
@@ -35,7 +36,7 @@ module _ (l : List ℕ) (n i : ℕ) where
   digits-high h hi = rw (drop-cons l i 0) (simp (lt-leb _ _ hi, and-false))
 
 -- numbers that are the same once cut lead to the same answer
-pub capped-same : (l : List ℕ) (n m : ℕ) → min n 100000 ≡ min m 100000 → natural-read (digits n l) ≡ natural-read (digits m l)
+pub capped-same : (l : List ℕ) (n m : ℕ) → min n number-cut ≡ min m number-cut → natural-read (digits n l) ≡ natural-read (digits m l)
 unfolding digits natural-read
 capped-same [] n m h = ap natural.Is h
 capped-same (b ∷ bs) n m h = go (between 48 57 b) (capped-same bs (n * 10 + (b - 48)) (m * 10 + (b - 48)) (omega arith))
@@ -98,7 +99,7 @@ unfolding number-read natural-said natural-read
 plus-cut none = refl
 plus-cut (some n) = ap (λ (k : ℕ). number.Is (pos k)) (omega arith)
 
-min-suc : (n : ℕ) → min (suc n) 100000 ≡ suc (min n 99999)
+min-suc : (n : ℕ) → min (suc n) number-cut ≡ suc (min n (number-cut - 1))
 min-suc n = omega arith
 
 pub minus-cut : (o : Option ℕ) → number-read (negative (natural-said (natural-read o))) ≡ number-read (negative o)
@@ -108,20 +109,20 @@ minus-cut (some zero) = refl
 minus-cut (some (suc n)) = rw (min-suc n) (ap (λ (k : ℕ). number.Is (negsuc k)) (omega arith))
 
 -- the machine's 0 - v for a cut v, and what it reads back
-neg-fits : (v : ℕ) → v ≤ 100000 → SFits w32 (negℤ (pos v))
+neg-fits : (v : ℕ) → v ≤ number-cut → SFits w32 (negℤ (pos v))
 neg-fits zero h = record { sfits = omega arith }
 neg-fits (suc k) h = record { sfits = omega arith }
 
-sub-neg : (v : ℕ) → v ≤ 100000 → pos 0 -ℤ toZ w32 v ≡ negℤ (pos v)
+sub-neg : (v : ℕ) → v ≤ number-cut → pos 0 -ℤ toZ w32 v ≡ negℤ (pos v)
 sub-neg v h = rw (toZ-pos w32 {n = v} (omega arith)) (+ℤ-idl _)
 
-pub sub-fits : (v : ℕ) → v ≤ 100000 → SFits w32 (pos 0 -ℤ toZ w32 v)
+pub sub-fits : (v : ℕ) → v ≤ number-cut → SFits w32 (pos 0 -ℤ toZ w32 v)
 sub-fits v h = rw (sub-neg v h) (neg-fits v h)
 
-pub sub-back : (v : ℕ) → v ≤ 100000 → toZ w32 (ofZ w32 (pos 0 -ℤ toZ w32 v)) ≡ negℤ (pos v)
+pub sub-back : (v : ℕ) → v ≤ number-cut → toZ w32 (ofZ w32 (pos 0 -ℤ toZ w32 v)) ≡ negℤ (pos v)
 sub-back v h = toZ-ofZ w32 _ (sub-fits v h) ∙ sub-neg v h
 
-pub minus-is : (v : ℕ) → v ≤ 100000 → (v ≡ 0 → ⊥) → number.Is (negℤ (pos v)) ≡ number-read (negative (some v))
+pub minus-is : (v : ℕ) → v ≤ number-cut → (v ≡ 0 → ⊥) → number.Is (negℤ (pos v)) ≡ number-read (negative (some v))
 unfolding number-read
 minus-is zero f h = absurd (h refl)
 minus-is (suc n) f h = ap (λ (k : ℕ). number.Is (negsuc k)) (omega arith)
@@ -138,16 +139,16 @@ by-size cut bound h f a past n =
 
 small-cut : (z : ℤ) → check (small (clamp z)) 7 (ok (clamp z)) ≡ check (small z) 7 (ok z)
 unfolding check
-small-cut (pos n) = by-size 100000 32768 (omega arith) (λ k. check (small (pos k)) 7 (ok (pos k))) (fail 7) (λ m h. simp (lt-leb m 32767 (omega arith))) n
-small-cut (negsuc n) = by-size 99999 32768 (omega arith) (λ k. check (small (negsuc k)) 7 (ok (negsuc k))) (fail 7) (λ m h. simp (lt-leb m 32767 (omega arith))) n
+small-cut (pos n) = by-size number-cut (suc (natAbs most-number)) (omega arith) (λ k. check (small (pos k)) 7 (ok (pos k))) (fail 7) (λ m h. simp (lt-leb m (natAbs most-number) (omega arith))) n
+small-cut (negsuc n) = by-size (number-cut - 1) (natAbs least-number) (omega arith) (λ k. check (small (negsuc k)) 7 (ok (negsuc k))) (fail 7) (λ m h. simp (lt-leb m (natAbs least-number - 1) (omega arith))) n
 
 pub small-or-cut : (o : Option ℤ) → small-or (number-said (number-read o)) ≡ small-or o
 unfolding number-said number-read
 small-or-cut none = refl
 small-or-cut (some z) = small-cut z
 
-pub below-or-cut : (count : ℕ) (o : Option ℤ) → count ≤ 256 → below-or count (number-said (number-read o)) ≡ below-or count o
+pub below-or-cut : (count : ℕ) (o : Option ℤ) → count ≤ byte-limit → below-or count (number-said (number-read o)) ≡ below-or count o
 unfolding number-said number-read check
 below-or-cut count none h = refl
 below-or-cut count (some (negsuc n)) h = refl
-below-or-cut count (some (pos n)) h = by-size 100000 256 (omega arith) (λ k. check (ltb k count) 10 (ok k)) (fail 10) (λ m k. simp (le-ltb m count (omega arith))) n
+below-or-cut count (some (pos n)) h = by-size number-cut byte-limit (omega arith) (λ k. check (ltb k count) 10 (ok k)) (fail 10) (λ m k. simp (le-ltb m count (omega arith))) n

@@ -4,7 +4,7 @@ use mathlib.Core.Path.{_≡_}
 use mathlib.Core.Bool.{Bool}
 use mathlib.Core.List.{List, [], _∷_}
 use mathlib.Core.Option.{Option, none, some}
-use Prim.Native.Nat.{ℕ, suc, _+_, _≤_, min, max}
+use Prim.Native.Nat.{ℕ, suc, _+_, _-_, _≤_, min, max}
 use lib.Dec.{eqb}
 use lib.ListN.{length, drop}
 use lib.IntN.{ℤ, pos, negsuc}
@@ -50,22 +50,26 @@ pub record Found (s : ℕ) (l : List ℕ) (from r : ℕ) : Type 0 where
   pub after : from ≤ r
   pub within : r ≤ max from (length l)
 
--- ---- numbers, of any length, with the magnitude cut at 100,000
+-- ---- numbers, of any length, with the magnitude cut
+
+-- the cut, above every bound that document 01 judges numbers by: 60,000, of 13, is the largest
+abbrev pub number-cut : ℕ
+number-cut = 100000
 
 -- a number cut so, on either side of 0
 abbrev pub clamp : ℤ → ℤ
-clamp (pos n) = pos (min n 100000)
-clamp (negsuc n) = negsuc (min n 99999)
+clamp (pos n) = pos (min n number-cut)
+clamp (negsuc n) = negsuc (min n (number-cut - 1))
 
 -- how the code answers a number without sign
 unfoldable pub natural-read : Option ℕ → Natural
 natural-read none = natural.Malformed
-natural-read (some n) = natural.Is (min n 100000)
+natural-read (some n) = natural.Is (min n number-cut)
 
 -- an answer that is no larger than the cut
 abbrev pub IsCut : Natural → Type 0
 IsCut natural.Malformed = Unit {0}
-IsCut (natural.Is n) = n ≤ 100000
+IsCut (natural.Is n) = n ≤ number-cut
 
 -- how it answers a number
 unfoldable pub number-read : Option ℤ → NumberRead

@@ -7,12 +7,13 @@ ghost use mathlib.Core.Path.{_≡_};
 ghost use Prim.Native.Nat.{_≤_, min};
 ghost use lib.Dec.{eqb};
 ghost use lib.ListN.{length, getD};
+ghost use Rattle.semantics.specs.Layout.{byte-limit};
 ghost use Rattle.semantics.specs.Lists.{pick};
 ghost use Rattle.semantics.specs.Text.{same-bytes, fields, name-byte, name-ok, digits, natural-of, nonnegative, negative, number-of};
 ghost use Rattle.semantics.specs.Chart.{within, known, num, var};
 ghost use Rattle.semantics.specs.Reading.{ok, check, if-ok, nth, none-empty, small-or, number-field, below-or, location-field, target-field, operand-field, init-field, kind-field, rel-field, op-word-field};
 ghost use Rattle.semantics.specs.Reading.{filled as filled-with};
-ghost use Rattle.text.specs.Fields.{Found, natural-read, IsCut, number-read, natural-said, number-said, variable-res, location-res, word-res, init-res, operand-res, kind-res, rel-res, op-word-res};
+ghost use Rattle.text.specs.Fields.{Found, number-cut, natural-read, IsCut, number-read, natural-said, number-said, variable-res, location-res, word-res, init-res, operand-res, kind-res, rel-res, op-word-res};
 
 pub mod lines;
 
@@ -152,7 +153,7 @@ pub fn name_ok(f: &[u8]) -> bool
 }
 
 // Beyond this no test tells two numbers apart; cut there, digits of any length never overflow.
-const CUT: u32 = 100_000;
+const NUMBER_CUT: u32 = 100_000;
 
 // A number without sign, cut.
 enum Natural {
@@ -167,9 +168,9 @@ pub enum NumberRead {
 }
 
 fn cut(n: u32) -> u32
-    ensures { λ r. ⌜ r ≡ min n 100000 ⌝ }
+    ensures { λ r. ⌜ r ≡ min n number-cut ⌝ }
 {
-    if n < CUT { n } else { CUT }
+    if n < NUMBER_CUT { n } else { NUMBER_CUT }
 }
 
 // A byte in 32 bits.
@@ -340,10 +341,10 @@ pub fn number_field(f: &[u8]) -> WordRead
     small_word(number(f))
 }
 
-// A number from 0 up to, not including, `count`: 6 where malformed, 10 where it is another. Here and below, `count ≤ 256`
-// keeps what is read to a byte, and under the cut: a number that was cut is refused as the number itself is.
+// A number from 0 up to, not including, `count`: 6 where malformed, 10 where it is another. Here and below, the bound of
+// `count` keeps what is read to a byte, and under the cut: a number that was cut is refused as the number itself is.
 fn below(count: usize, n: NumberRead) -> VariableRead
-    requires { ⌜ count ≤ 256 ⌝ }
+    requires { ⌜ count ≤ byte-limit ⌝ }
     ensures { λ r. ⌜ variable-res r ≡ below-or count (number-said n) ⌝ }
 {
     match n {
@@ -363,7 +364,7 @@ fn below(count: usize, n: NumberRead) -> VariableRead
 
 // One of `count` locations.
 pub fn location_field(count: usize, f: &[u8]) -> LocationRead
-    requires { ⌜ count ≤ 256 ⌝ }
+    requires { ⌜ count ≤ byte-limit ⌝ }
     ensures { λ r. ⌜ location-res r ≡ location-field count (now (f .entry)) ⌝ }
 {
     match below(count, number(f)) {
@@ -374,7 +375,7 @@ pub fn location_field(count: usize, f: &[u8]) -> LocationRead
 
 // One of `count` variables, as `$k`.
 pub fn target_field(count: usize, f: &[u8]) -> VariableRead
-    requires { ⌜ count ≤ 256 ⌝ }
+    requires { ⌜ count ≤ byte-limit ⌝ }
     ensures { λ r. ⌜ variable-res r ≡ target-field count (now (f .entry)) ⌝ }
 {
     if f.len() == 0 {
@@ -398,7 +399,7 @@ fn first(f: &[u8]) -> u8
 
 // A number or `$k`.
 pub fn operand_field(count: usize, f: &[u8]) -> OperandRead
-    requires { ⌜ count ≤ 256 ⌝ }
+    requires { ⌜ count ≤ byte-limit ⌝ }
     ensures { λ r. ⌜ operand-res r ≡ operand-field count (now (f .entry)) ⌝ }
 {
     if first(f) == b'$' {

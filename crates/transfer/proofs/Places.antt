@@ -1,7 +1,7 @@
 -- Where the words of an encoded chart stand: those of a variable, of a location and of an edge, with any words after.
 -- Assumes nothing.
 use Rattle.semantics.proofs.Prelude.{_≡_, refl, sym, ap, _∙_, List, [], _∷_, _++_, map, append-assoc, ℕ, zero, suc, _+_, _*_, _<_, mul-suc, arith, T, ℤ, pos, length, length-append, List·getD-append, getD-append-add}
-use Rattle.semantics.specs.Layout.{counts-size, variable-size, location-size, edge-size, variable-at, low-place, high-place, init-place}
+use Rattle.semantics.specs.Layout.{counts-size, variable-size, location-size, edge-size, variable-at, low-place, high-place, init-place, kind-place, error-kind}
 use Rattle.semantics.specs.Lists.{At, each}
 use Rattle.semantics.specs.Text.{name-ok}
 use Rattle.semantics.specs.Chart.{Var, Loc, Edge, Chart, eqZ, within, in-range, error-location, inits}
@@ -95,8 +95,8 @@ module _ (c : Chart) (ok : T (chart-ok c)) (rest : List ℤ) where
       let v = at-some (c .vars) k h in
       let e : variable-at k ≡ counts-size + (variable-size * k + low-place) = omega arith in
       let f : variable-at k + high-place ≡ counts-size + (variable-size * k + high-place) = omega arith in
-      let p : word-at ws (variable-at k) ≡ v .0 .lo = rw e (var-word k (v .0) (v .1) 0 (omega arith)) in
-      let q : word-at ws (variable-at k + high-place) ≡ v .0 .hi = rw f (var-word k (v .0) (v .1) 1 (omega arith)) in
+      let p : word-at ws (variable-at k) ≡ v .0 .lo = rw e (var-word k (v .0) (v .1) low-place (omega arith)) in
+      let q : word-at ws (variable-at k + high-place) ≡ v .0 .hi = rw f (var-word k (v .0) (v .1) high-place (omega arith)) in
       (λ i. within (p i) (q i) z) ∙ sym (in-range-at (c .vars) k (v .0) z (v .1))
 
   past-vars : (i : ℕ) → word-at ws (counts-size + (variable-size * length (c .vars) + i)) ≡ word-at after-vars i
@@ -108,11 +108,11 @@ module _ (c : Chart) (ok : T (chart-ok c)) (rest : List ℤ) where
   error-is e h =
       let n = location-in e in
       let l = at-some (c .locs) n h in
-      let at : counts-size + variable-size * variable-count ws + location-size * n ≡ counts-size + (variable-size * length (c .vars) + (location-size * n + 0)) = omega (arith, var-count) in
+      let at : counts-size + variable-size * variable-count ws + location-size * n ≡ counts-size + (variable-size * length (c .vars) + (location-size * n + kind-place)) = omega (arith, var-count) in
       let p : word-at ws (counts-size + variable-size * variable-count ws + location-size * n) ≡ kind-word (l .0 .error) =
-      ap (λ (j : ℕ). word-at ws j) at ∙ past-vars (location-size * n + 0)
-      ∙ each-at loc-words location-size (λ l. T (name-ok (l .name))) loc-wide (c .locs) (each edge-words (c .edges) ++ rest) n (l .0) (every-of (λ l. name-ok (l .name)) (c .locs) (b .names)) (l .1) 0 (omega arith) in
-      ap (λ (z : ℤ). eqZ z (pos 1)) p ∙ kind-back (l .0 .error) ∙ sym (error-at (c .locs) n (l .0) (l .1))
+      ap (λ (j : ℕ). word-at ws j) at ∙ past-vars (location-size * n + kind-place)
+      ∙ each-at loc-words location-size (λ l. T (name-ok (l .name))) loc-wide (c .locs) (each edge-words (c .edges) ++ rest) n (l .0) (every-of (λ l. name-ok (l .name)) (c .locs) (b .names)) (l .1) kind-place (omega arith) in
+      ap (λ (z : ℤ). eqZ z error-kind) p ∙ kind-back (l .0 .error) ∙ sym (error-at (c .locs) n (l .0) (l .1))
 
   -- the words of an edge
   pub edge-word : (n : ℕ) (g : Edge) → At (c .edges) n g → (i : ℕ) → i < edge-size → word-at ws (edge-at ws n + i) ≡ word-at (edge-words g) i

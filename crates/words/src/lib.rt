@@ -9,6 +9,11 @@ ghost use Rattle.semantics.specs.Chart.{eqZ, within, small};
 ghost use Rattle.semantics.specs.Encoding.{count};
 ghost use Rattle.semantics.specs.Memory.{below, zeros};
 
+// The least and the most number of a chart: document 01 has them from −32,768 to 32,767.
+const LEAST_NUMBER: i32 = -32768;
+
+const MOST_NUMBER: i32 = 32767;
+
 // The word for top: document 01's unspecific, which no variable can hold.
 pub const TOP: i32 = 32768;
 
@@ -55,11 +60,11 @@ pub fn lies_within(lo: i32, hi: i32, w: i32) -> bool
     (lo <= w) & (w <= hi)
 }
 
-// A number of a chart: document 01 has them from −32,768 to 32,767.
+// A number of a chart.
 pub fn is_small(w: i32) -> bool
     ensures { λ r. ⌜ r ≡ small w ⌝ }
 {
-    (-32768 <= w) & (w <= 32767)
+    (LEAST_NUMBER <= w) & (w <= MOST_NUMBER)
 }
 
 // A number from 0 up to, not including, n.

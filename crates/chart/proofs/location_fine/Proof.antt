@@ -1,6 +1,6 @@
 -- `chart::location_fine` meets its contract. Assumes nothing.
-use Rattle.semantics.proofs.Prelude.{_≡_, _+_, _-_, arith, needs, sfits-of, pos, sfits-lit}
-use Rattle.semantics.specs.Layout.{name-size, location-size}
+use Rattle.semantics.proofs.Prelude.{_≡_, _+_, _-_, arith, needs, sfits-of, sfits-lit}
+use Rattle.semantics.specs.Layout.{name-size, location-size, name-place, ordinary-kind, error-kind}
 use Rattle.chart.specs.Encoded.{location-fine}
 use Rattle.words.proofs.Words.{told-eqb}
 use Rattle.chart.proofs.location_fine.Statement.{statement}
@@ -12,8 +12,8 @@ returns c =
     let b = c .before .before in
     let n = b .before .before .row-name-length in
     let k = b .before .before .before .word-at in
-    let e : n .result + 1 - 1 ≡ n .result = omega arith in
-    let d : location-size - (n .result + 1) ≡ name-size - n .result = omega arith in
+    let e : n .result + name-place - name-place ≡ n .result = omega arith in
+    let d : location-size - (n .result + name-place) ≡ name-size - n .result = omega arith in
     let fk = sfits-of {z = k .result} (k .ok) in
     rw (
       c .all-zero .ensures,
@@ -21,8 +21,8 @@ returns c =
       e,
       d,
       n .ensures .0,
-      told-eqb fk (k .ensures) {n = pos 0} (sfits-lit tt),
-      told-eqb fk (k .ensures) {n = pos 1} (sfits-lit tt),
+      told-eqb fk (k .ensures) {n = ordinary-kind} (sfits-lit tt),
+      told-eqb fk (k .ensures) {n = error-kind} (sfits-lit tt),
     )
 
 pub location-fine-spec : {M : Type 1} → statement M

@@ -1,6 +1,6 @@
 -- `chart::row_name_length` meets its contract. Assumes nothing.
 use Rattle.semantics.proofs.Prelude.{_≡_, sym, _∙_, _+_, _-_, _≤_, arith, needs, sfits-of, pos, length, drop, w32, sfits-lit}
-use Rattle.semantics.specs.Layout.{name-size}
+use Rattle.semantics.specs.Layout.{name-size, name-place}
 use Rattle.semantics.specs.Encoding.{name-in, loc-in}
 use Rattle.words.proofs.Words.{bits-eq, bits-ne}
 use Rattle.chart.proofs.Names.{name-ends, name-goes}
@@ -8,7 +8,7 @@ use Rattle.chart.proofs.row_name_length.Statement.{statement}
 use Rattle.chart.proofs.row_name_length.Tie as tie
 
 abbrev Inv-loop : tie.InvT-loop
-Inv-loop row i₀ i = (i ≤ name-size) × (length (loc-in row .name) ≡ i + length (name-in (name-size - i) (drop (i + 1) row)))
+Inv-loop row i₀ i = (i ≤ name-size) × (length (loc-in row .name) ≡ i + length (name-in (name-size - i) (drop (i + name-place) row)))
 
 abbrev μ-loop : tie.MeasureT-loop
 μ-loop row i₀ i = name-size - i

@@ -1,6 +1,6 @@
 -- `chart::same_name` meets its contract. Assumes nothing.
 use Rattle.semantics.proofs.Prelude.{_≡_, refl, sym, _∙_, _+_, _-_, _≤_, arith, needs, drop}
-use Rattle.semantics.specs.Layout.{name-size}
+use Rattle.semantics.specs.Layout.{name-size, name-place}
 use Rattle.semantics.specs.Text.{same-bytes}
 use Rattle.semantics.specs.Encoding.{name-in, loc-in}
 use Rattle.chart.proofs.Names.{names-part, names-end, names-go}
@@ -9,7 +9,7 @@ use Rattle.chart.proofs.same_name.Tie as tie
 
 abbrev Inv-loop : tie.InvT-loop
 Inv-loop a b i₀ i =
-    (i ≤ name-size) × (same-bytes (loc-in a .name) (loc-in b .name) ≡ same-bytes (name-in (name-size - i) (drop (i + 1) a)) (name-in (name-size - i) (drop (i + 1) b)))
+    (i ≤ name-size) × (same-bytes (loc-in a .name) (loc-in b .name) ≡ same-bytes (name-in (name-size - i) (drop (i + name-place) a)) (name-in (name-size - i) (drop (i + name-place) b)))
 
 abbrev μ-loop : tie.MeasureT-loop
 μ-loop a b i₀ i = name-size - i

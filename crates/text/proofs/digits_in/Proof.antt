@@ -1,14 +1,14 @@
 -- `text::digits_in` meets its contract: the digits passed, cut, say as much of the answer as all. Assumes nothing.
 use Rattle.semantics.proofs.Prelude.{needs, arith, _≡_, refl, sym, ap, _∙_, length, drop, _-_, _≤_}
 use Rattle.semantics.specs.Text.{digits}
-use Rattle.text.specs.Fields.{natural-read}
+use Rattle.text.specs.Fields.{number-cut, natural-read}
 use Rattle.text.specs.declared.Natural.the-variants as natural
 use Rattle.text.proofs.Digits.{digits-end, digits-step, digits-low, digits-high, capped-same}
 use Rattle.text.proofs.digits_in.Statement.{statement}
 use Rattle.text.proofs.digits_in.Tie as tie
 
 abbrev Inv-loop : tie.InvT-loop
-Inv-loop f n₀ i₀ n i = (i ≤ length f) × (n ≤ 100000) × (natural-read (digits 0 f) ≡ natural-read (digits n (drop i f)))
+Inv-loop f n₀ i₀ n i = (i ≤ length f) × (n ≤ number-cut) × (natural-read (digits 0 f) ≡ natural-read (digits n (drop i f)))
 
 abbrev μ-loop : tie.MeasureT-loop
 μ-loop f n₀ i₀ n i = length f - i

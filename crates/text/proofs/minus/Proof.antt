@@ -1,12 +1,12 @@
 -- `text::minus` meets its contract: the machine takes the cut number from 0. Assumes nothing.
 use Rattle.semantics.proofs.Prelude.{needs, _≤_, ap, _∙_}
-use Rattle.text.specs.Fields.{number-read, natural-said}
+use Rattle.text.specs.Fields.{number-cut, number-read, natural-said}
 use Rattle.text.specs.declared.NumberRead.the-variants as number
 use Rattle.text.proofs.Digits.{sub-fits, sub-back, minus-is}
 use Rattle.text.proofs.minus.Statement.{statement}
 use Rattle.text.proofs.minus.Tie as tie
 
-few : (c : tie.After-n) → c .n .given .0 .0 ≤ 100000
+few : (c : tie.After-n) → c .n .given .0 .0 ≤ number-cut
 few c = rw (c .n .given .1) at (c .before .before .pre)
 
 returns : tie.Need-returns

@@ -1,11 +1,11 @@
 -- `text::plus` meets its contract. Assumes nothing.
 use Rattle.semantics.proofs.Prelude.{needs, _≤_, arith, ap, _∙_, pos, w32, toZ-pos}
-use Rattle.text.specs.Fields.{number-read, natural-said}
+use Rattle.text.specs.Fields.{number-cut, number-read, natural-said}
 use Rattle.text.specs.declared.NumberRead.the-variants as number
 use Rattle.text.proofs.plus.Statement.{statement}
 use Rattle.text.proofs.plus.Tie as tie
 
-few : (c : tie.After-n) → c .n .given .0 .0 ≤ 100000
+few : (c : tie.After-n) → c .n .given .0 .0 ≤ number-cut
 few c = rw (c .n .given .1) at (c .before .before .pre)
 
 returns : tie.Need-returns
