@@ -143,7 +143,8 @@ fn iteration_with(
     list: &mut [i32],
 ) -> Analysis
     requires { ⌜ Resumable (outline .layout) (outline .edges) a (now table) (now list) × (a .iterations < most-iterations) × (0 < a .waiting) × (length (now copy) ≡ width-of (outline .layout)) × Outlined (now chart) outline (now heads) (now nexts) ⌝ }
-    ensures { λ r. ⌜ Loaded (outline .layout) (outline .edges) r (now (table .exit)) (now (list .exit)) (iteration (domain-of (now (chart .entry))) (edges-from 0 (outline .edges)) (load-of (outline .layout) a (now (table .entry)) (now (list .entry)))) × (r .iterations ≡ a .iterations + 1) ⌝ }
+    ensures loaded { λ r. ⌜ Loaded (outline .layout) (outline .edges) r (now (table .exit)) (now (list .exit)) (iteration (domain-of (now (chart .entry))) (edges-from 0 (outline .edges)) (load-of (outline .layout) a (now (table .entry)) (now (list .entry)))) ⌝ }
+    ensures iterations { λ r. ⌜ r .iterations ≡ a .iterations + 1 ⌝ }
 {
     let layout = outline.layout;
     let settings = a.settings;
@@ -166,7 +167,8 @@ fn iteration(
     list: &mut [i32],
 ) -> Analysis
     requires { ⌜ Resumable (outline .layout) (outline .edges) a (now table) (now list) × (a .iterations < most-iterations) × (0 < a .waiting) × Outlined (now chart) outline (now heads) (now nexts) ⌝ }
-    ensures { λ r. ⌜ Loaded (outline .layout) (outline .edges) r (now (table .exit)) (now (list .exit)) (iteration (domain-of (now (chart .entry))) (edges-from 0 (outline .edges)) (load-of (outline .layout) a (now (table .entry)) (now (list .entry)))) × (r .iterations ≡ a .iterations + 1) ⌝ }
+    ensures loaded { λ r. ⌜ Loaded (outline .layout) (outline .edges) r (now (table .exit)) (now (list .exit)) (iteration (domain-of (now (chart .entry))) (edges-from 0 (outline .edges)) (load-of (outline .layout) a (now (table .entry)) (now (list .entry)))) ⌝ }
+    ensures iterations { λ r. ⌜ r .iterations ≡ a .iterations + 1 ⌝ }
 {
     let layout = outline.layout;
     let width = layout.width();

@@ -60,7 +60,8 @@ pub fn first(heads: &[usize], l: LocationId) -> EdgeId
 // The edge to look at next. The chain of this one serves if it leaves the location.
 pub fn next(chart: &[i32], edge: EdgeRow, nexts: &[usize], l: LocationId) -> EdgeId
     requires { ⌜ Passed (now chart) (from-at (now chart) (edge .id .0 - 1)) (edge .id .0) (getD (now nexts) (edge .id .0 - 1) 0 - 1) × (edge .at ≡ edge-at (now chart) (edge .id .0 - 1)) × (1 ≤ edge .id .0) × (edge .id .0 < index-limit) ⌝ }
-    ensures { λ r. ⌜ (edge .id .0 < r .0) × Passed (now (chart .entry)) (l .0) (edge .id .0) (r .0 - 1) ⌝ }
+    ensures later { λ r. ⌜ edge .id .0 < r .0 ⌝ }
+    ensures passed { λ r. ⌜ Passed (now (chart .entry)) (l .0) (edge .id .0) (r .0 - 1) ⌝ }
 {
     let id = edge.id;
     let after = id.after();

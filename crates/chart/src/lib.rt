@@ -154,32 +154,37 @@ pub fn rows_size(vars: usize, locations: usize, edges: usize) -> usize
 }
 
 pub fn variable_count(chart: &[i32]) -> usize
-    ensures { λ r. ⌜ (r ≡ variable-count (now (chart .entry))) × (r < index-limit) ⌝ }
+    ensures count { λ r. ⌜ r ≡ variable-count (now (chart .entry)) ⌝ }
+    ensures small { λ r. ⌜ r < index-limit ⌝ }
 {
     words::number_at(chart, VARIABLES_PLACE)
 }
 
 pub fn location_count(chart: &[i32]) -> usize
-    ensures { λ r. ⌜ (r ≡ location-count (now (chart .entry))) × (r < index-limit) ⌝ }
+    ensures count { λ r. ⌜ r ≡ location-count (now (chart .entry)) ⌝ }
+    ensures small { λ r. ⌜ r < index-limit ⌝ }
 {
     words::number_at(chart, LOCATIONS_PLACE)
 }
 
 pub fn edge_count(chart: &[i32]) -> usize
-    ensures { λ r. ⌜ (r ≡ edge-count (now (chart .entry))) × (r < index-limit) ⌝ }
+    ensures count { λ r. ⌜ r ≡ edge-count (now (chart .entry)) ⌝ }
+    ensures small { λ r. ⌜ r < index-limit ⌝ }
 {
     words::number_at(chart, EDGES_PLACE)
 }
 
 // Where the words of the locations begin, and those of the edges.
 fn locations_at(chart: &[i32]) -> usize
-    ensures { λ r. ⌜ (r ≡ locations-at (now (chart .entry))) × (r ≤ variable-at index-limit) ⌝ }
+    ensures place { λ r. ⌜ r ≡ locations-at (now (chart .entry)) ⌝ }
+    ensures small { λ r. ⌜ r ≤ variable-at index-limit ⌝ }
 {
     COUNTS_SIZE + VARIABLE_SIZE * variable_count(chart)
 }
 
 fn edges_at(chart: &[i32]) -> usize
-    ensures { λ r. ⌜ (r ≡ edges-at (now (chart .entry))) × (r ≤ variable-at index-limit + location-size * index-limit) ⌝ }
+    ensures place { λ r. ⌜ r ≡ edges-at (now (chart .entry)) ⌝ }
+    ensures small { λ r. ⌜ r ≤ variable-at index-limit + location-size * index-limit ⌝ }
 {
     locations_at(chart) + LOCATION_SIZE * location_count(chart)
 }
@@ -346,7 +351,8 @@ pub fn is_error_location(chart: &[i32], l: LocationId) -> bool
 
 // The length of the name in a location's words.
 fn row_name_length(row: &[i32]) -> usize
-    ensures { λ r. ⌜ (r ≡ length (loc-in (now (row .entry)) .name)) × (r ≤ name-size) ⌝ }
+    ensures count { λ r. ⌜ r ≡ length (loc-in (now (row .entry)) .name) ⌝ }
+    ensures small { λ r. ⌜ r ≤ name-size ⌝ }
 {
     let mut i = 0;
     while i < NAME_SIZE {
@@ -502,7 +508,8 @@ struct OperandWords {
 }
 
 fn operand_words(a: Operand) -> OperandWords
-    ensures { λ r. ⌜ (r .tag ≡ tag (the-operand a)) × (r .value ≡ operand-word (the-operand a)) ⌝ }
+    ensures tag { λ r. ⌜ r .tag ≡ tag (the-operand a) ⌝ }
+    ensures value { λ r. ⌜ r .value ≡ operand-word (the-operand a) ⌝ }
 {
     match a {
         Operand::Number(z) => OperandWords {
@@ -525,7 +532,8 @@ struct Split {
 }
 
 fn arithmetic_code(s: Arithmetic) -> usize
-    ensures { λ r. ⌜ (r ≡ sum-code s) × (r ≤ ge-code) ⌝ }
+    ensures code { λ r. ⌜ r ≡ sum-code s ⌝ }
+    ensures small { λ r. ⌜ r ≤ ge-code ⌝ }
 {
     match s {
         Arithmetic::Add => ADD_CODE,
@@ -534,7 +542,8 @@ fn arithmetic_code(s: Arithmetic) -> usize
 }
 
 fn relation_code(r: Relation) -> usize
-    ensures { λ n. ⌜ (n ≡ rel-code (the-relation r)) × (n ≤ ge-code) ⌝ }
+    ensures code { λ n. ⌜ n ≡ rel-code (the-relation r) ⌝ }
+    ensures small { λ n. ⌜ n ≤ ge-code ⌝ }
 {
     match r {
         Relation::Eq => EQ_CODE,
@@ -547,7 +556,8 @@ fn relation_code(r: Relation) -> usize
 }
 
 fn split_of(op: Operation) -> Split
-    ensures { λ r. ⌜ (split-words r ≡ op-words (the-operation op)) × (r .code ≤ ge-code) ⌝ }
+    ensures row { λ r. ⌜ split-words r ≡ op-words (the-operation op) ⌝ }
+    ensures small { λ r. ⌜ r .code ≤ ge-code ⌝ }
 {
     match op {
         Operation::Skip => Split {
@@ -614,7 +624,8 @@ pub struct EdgeRow {
 
 // Edge 1, whether there is one or not.
 pub fn first_edge(chart: &[i32]) -> EdgeRow
-    ensures { λ r. ⌜ (r .id .0 ≡ 1) × (r .at ≡ edges-at (now (chart .entry))) ⌝ }
+    ensures id { λ r. ⌜ r .id .0 ≡ 1 ⌝ }
+    ensures place { λ r. ⌜ r .at ≡ edges-at (now (chart .entry)) ⌝ }
 {
     EdgeRow {
         id: EdgeId(1),
@@ -625,7 +636,8 @@ pub fn first_edge(chart: &[i32]) -> EdgeRow
 // An edge by its number, from the first.
 pub fn edge_of(first: EdgeRow, id: EdgeId) -> EdgeRow
     requires { ⌜ (first .at < index-limit) × (1 ≤ id .0) × (id .0 ≤ index-limit) ⌝ }
-    ensures { λ r. ⌜ (r .id .0 ≡ id .0) × (r .at ≡ first .at + edge-size * (id .0 - 1)) ⌝ }
+    ensures id { λ r. ⌜ r .id .0 ≡ id .0 ⌝ }
+    ensures place { λ r. ⌜ r .at ≡ first .at + edge-size * (id .0 - 1) ⌝ }
 {
     let before = id.0 - 1;
     EdgeRow {
@@ -636,28 +648,32 @@ pub fn edge_of(first: EdgeRow, id: EdgeId) -> EdgeRow
 
 // The locations that it leaves and goes to, its operation's code, and the variable that it sets or tests.
 pub fn edge_from(chart: &[i32], edge: EdgeRow) -> LocationId
-    ensures { λ r. ⌜ (r .0 ≡ count (now (chart .entry)) (edge .at)) × (r .0 < index-limit) ⌝ }
+    ensures location { λ r. ⌜ r .0 ≡ count (now (chart .entry)) (edge .at) ⌝ }
+    ensures small { λ r. ⌜ r .0 < index-limit ⌝ }
 {
     LocationId(words::number_at(chart, edge.at))
 }
 
 pub fn edge_to(chart: &[i32], edge: EdgeRow) -> LocationId
     requires { ⌜ edge .at < index-limit ⌝ }
-    ensures { λ r. ⌜ (r .0 ≡ count (now (chart .entry)) (edge .at + to-place)) × (r .0 < index-limit) ⌝ }
+    ensures location { λ r. ⌜ r .0 ≡ count (now (chart .entry)) (edge .at + to-place) ⌝ }
+    ensures small { λ r. ⌜ r .0 < index-limit ⌝ }
 {
     LocationId(words::number_at(chart, edge.at + TO_PLACE))
 }
 
 pub fn edge_operation(chart: &[i32], edge: EdgeRow) -> usize
     requires { ⌜ edge .at < index-limit ⌝ }
-    ensures { λ r. ⌜ (r ≡ count (now (chart .entry)) (edge .at + operation-place)) × (r < index-limit) ⌝ }
+    ensures code { λ r. ⌜ r ≡ count (now (chart .entry)) (edge .at + operation-place) ⌝ }
+    ensures small { λ r. ⌜ r < index-limit ⌝ }
 {
     words::number_at(chart, edge.at + OPERATION_PLACE)
 }
 
 pub fn edge_target(chart: &[i32], edge: EdgeRow) -> usize
     requires { ⌜ edge .at < index-limit ⌝ }
-    ensures { λ r. ⌜ (r ≡ count (now (chart .entry)) (edge .at + target-place)) × (r < index-limit) ⌝ }
+    ensures number { λ r. ⌜ r ≡ count (now (chart .entry)) (edge .at + target-place) ⌝ }
+    ensures small { λ r. ⌜ r < index-limit ⌝ }
 {
     words::number_at(chart, edge.at + TARGET_PLACE)
 }
@@ -679,7 +695,8 @@ pub fn first_value(chart: &[i32], edge: EdgeRow) -> i32
 
 pub fn first_variable(chart: &[i32], edge: EdgeRow) -> usize
     requires { ⌜ edge .at < index-limit ⌝ }
-    ensures { λ r. ⌜ (r ≡ count (now (chart .entry)) (edge .at + first-value-place)) × (r < index-limit) ⌝ }
+    ensures number { λ r. ⌜ r ≡ count (now (chart .entry)) (edge .at + first-value-place) ⌝ }
+    ensures small { λ r. ⌜ r < index-limit ⌝ }
 {
     words::number_at(chart, edge.at + FIRST_VALUE_PLACE)
 }

@@ -65,7 +65,8 @@ pub fn location_word(row: &[i32]) -> i32
 
 // The location of a row.
 pub fn location_of(row: &[i32]) -> LocationId
-    ensures { λ r. ⌜ (r .0 ≡ location-in (now (row .entry))) × (r .0 < index-limit) ⌝ }
+    ensures location { λ r. ⌜ r .0 ≡ location-in (now (row .entry)) ⌝ }
+    ensures small { λ r. ⌜ r .0 < index-limit ⌝ }
 {
     LocationId(words::number_at(row, LOCATION_PLACE))
 }
@@ -170,7 +171,8 @@ pub fn leq_row(e: &[i32], s: &[i32]) -> bool
 // Joins e into s, a row of the same location. Whether s is the same as before.
 fn join_row(s: &mut [i32], e: &[i32]) -> bool
     requires { ⌜ (length (now s) ≡ length (now e)) × (0 < length (now e)) ⌝ }
-    ensures { λ r. ⌜ (r ≡ same-words (row-join (now (e .entry)) (now (s .entry))) (now (s .entry))) × (now (s .exit) ≡ row-join (now (e .entry)) (now (s .entry))) ⌝ }
+    ensures same { λ r. ⌜ r ≡ same-words (row-join (now (e .entry)) (now (s .entry))) (now (s .entry)) ⌝ }
+    ensures row { λ _. ⌜ now (s .exit) ≡ row-join (now (e .entry)) (now (s .entry)) ⌝ }
 {
     let mut same = true;
     let mut i = HEAD;
@@ -188,7 +190,8 @@ fn join_row(s: &mut [i32], e: &[i32]) -> bool
 // Joins e into s where the locations agree. Whether s is the same as before.
 pub fn merge_row(s: &mut [i32], e: &[i32]) -> bool
     requires { ⌜ (length (now s) ≡ length (now e)) × (0 < length (now e)) ⌝ }
-    ensures { λ r. ⌜ (r ≡ same-words (row-merge (now (e .entry)) (now (s .entry))) (now (s .entry))) × (now (s .exit) ≡ row-merge (now (e .entry)) (now (s .entry))) ⌝ }
+    ensures same { λ r. ⌜ r ≡ same-words (row-merge (now (e .entry)) (now (s .entry))) (now (s .entry)) ⌝ }
+    ensures row { λ _. ⌜ now (s .exit) ≡ row-merge (now (e .entry)) (now (s .entry)) ⌝ }
 {
     let l = e[0];
     let m = s[0];

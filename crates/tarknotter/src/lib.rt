@@ -191,7 +191,8 @@ fn analysis_in(r: Record) -> Analysis
 
 // What a call answers, with the record before where it refuses.
 fn answered(before: Record, c: calls::Called) -> Called
-    ensures { λ r. ⌜ (r .reply ≡ as-reply (c .answer)) × (r .record ≡ record-after before (c .answer) (c .analysis)) ⌝ }
+    ensures reply { λ r. ⌜ r .reply ≡ as-reply (c .answer) ⌝ }
+    ensures record { λ r. ⌜ r .record ≡ record-after before (c .answer) (c .analysis) ⌝ }
 {
     let answer = c.answer;
     if answer.number != 0 {

@@ -249,9 +249,9 @@ removing-start k l n h =
     record { below = omega arith; within = omega arith; size = refl; form = refl; done = rw m }
 
 pub removing-end : (k : ℤ) (l₀ : List ℤ) (n : ℕ) (l : List ℤ) (j i : ℕ) → Removing k l₀ n l j i → n ≤ i → n ≤ length l₀
-    → (j ≤ n) × (take j l ≡ others k (take n l₀)) × (drop j l ≡ replicate (n - j) (pos 0) ++ drop n l₀)
+    → (j ≤ n) × ((take j l ≡ others k (take n l₀)) × (drop j l ≡ replicate (n - j) (pos 0) ++ drop n l₀))
 removing-end k l₀ n l j i s h fits =
     let e : i ≡ n = omega (arith, s .within) in
     let z : n - n ≡ 0 = omega arith in
     let la : length (take j l) ≡ j = length-take-le j l (omega (arith, s .below, s .within, s .size)) in
-    (omega (arith, s .below, s .within), sym (s .done ∙ rw (e, z) (append-nil (take j l))), ap (drop j) (s .form) ∙ drop-at (take j l) (replicate (i - j) (pos 0) ++ drop i l₀) j la ∙ rw e)
+    (omega (arith, s .below, s .within), (sym (s .done ∙ rw (e, z) (append-nil (take j l))), ap (drop j) (s .form) ∙ drop-at (take j l) (replicate (i - j) (pos 0) ++ drop i l₀) j la ∙ rw e))

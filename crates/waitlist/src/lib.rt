@@ -99,7 +99,8 @@ fn push_front(s: &mut [i32], x: i32)
 // Writes x to place j unless it is k; the next place to write.
 fn keep_word(list: &mut [i32], j: usize, x: i32, k: i32) -> usize
     requires { ⌜ j < length (now list) ⌝ }
-    ensures { λ r. ⌜ (r ≡ next-place (eqZ x k) j) × (now (list .exit) ≡ kept-at (eqZ x k) (now (list .entry)) j x) ⌝ }
+    ensures place { λ r. ⌜ r ≡ next-place (eqZ x k) j ⌝ }
+    ensures list { λ _. ⌜ now (list .exit) ≡ kept-at (eqZ x k) (now (list .entry)) j x ⌝ }
 {
     if x == k {
         return j;
@@ -111,7 +112,9 @@ fn keep_word(list: &mut [i32], j: usize, x: i32, k: i32) -> usize
 // Takes every word k out of the first `count` words; zeros follow those kept. How many are left.
 fn remove_word(list: &mut [i32], count: usize, k: i32) -> usize
     requires { ⌜ count ≤ length (now list) ⌝ }
-    ensures { λ r. ⌜ (r ≤ count) × (take r (now (list .exit)) ≡ others k (take count (now (list .entry)))) × (drop r (now (list .exit)) ≡ replicate (count - r) (pos 0) ++ drop count (now (list .entry))) ⌝ }
+    ensures few { λ r. ⌜ r ≤ count ⌝ }
+    ensures kept { λ r. ⌜ take r (now (list .exit)) ≡ others k (take count (now (list .entry))) ⌝ }
+    ensures rest { λ r. ⌜ drop r (now (list .exit)) ≡ replicate (count - r) (pos 0) ++ drop count (now (list .entry)) ⌝ }
 {
     let mut j = 0;
     let mut i = 0;

@@ -36,7 +36,8 @@ pub fn wide(a: i32) -> i64
 
 // The number that a word says, whatever its sign.
 pub fn magnitude(w: i32) -> usize
-    ensures { λ r. ⌜ (r ≡ natAbs w) × (r < index-limit) ⌝ }
+    ensures number { λ r. ⌜ r ≡ natAbs w ⌝ }
+    ensures small { λ r. ⌜ r < index-limit ⌝ }
 {
     if w < 0 {
         let below = 0 - wide(w);
@@ -47,7 +48,8 @@ pub fn magnitude(w: i32) -> usize
 
 // The number at a place.
 pub fn number_at(s: &[i32], i: usize) -> usize
-    ensures { λ r. ⌜ (r ≡ count (now (s .entry)) i) × (r < index-limit) ⌝ }
+    ensures number { λ r. ⌜ r ≡ count (now (s .entry)) i ⌝ }
+    ensures small { λ r. ⌜ r < index-limit ⌝ }
 {
     magnitude(word_at(s, i))
 }

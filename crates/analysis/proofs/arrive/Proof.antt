@@ -31,25 +31,30 @@ module _ (c : tie.After-merge-by) where
   size : length list ≡ length (start .args .list .now)
   size = c .merge-by .kept .1 .1 .1 .1 .0
 
+-- the merged slots, seen from the test whether they cover the state
+abbrev merged-at : tie.After-covered → tie.After-merge-by
+merged-at v = v .before .before .before .before
+
 covered-requires : tie.Need-covered-requires
 covered-requires c κs = let d = c .before .before .before in laid (after d .kept) _ (start d .pre .row)
 
 returns : tie.Need-returns
 returns c =
     let v = c .before .before in
-    let d = v .before .before .before .before in
+    let d = merged-at v in
     rw (c .went-on .ensures) (record { out = arrive-drop (start d .pre) (after d) (sym (v .covered .ensures) ∙ c .before .if1 .taken); kept = after d .kept })
 
 put-row-requires : tie.Need-put-row-requires
 put-row-requires c κs =
-    let d = c .before .before .before .before .before .before .before in
+    let d = merged-at (c .before .before .before) in
     omega (arith, next-slot-in (after d .kept) (c .before .if2 .taken), start d .pre .row, after d .kept .apart)
 
 append-requires : tie.Need-append-requires
 append-requires c κs =
-    let d = c .before .before .before .before .before .before .before .before .before .before in
+    let i = c .before .before .before .before in
+    let d = merged-at (i .before .before) in
     let k = after d .kept in
-    let u : start d .args .a .used < length (list d) = c .before .before .before .before .if2 .taken in
+    let u : start d .args .a .used < length (list d) = i .if2 .taken in
     (k .slots, omega (arith, queue-few (start d .args .a .used) (waits (count d) (list d)) (k .queue), k .slots .count, u), omega (arith, u, k .small))
 
 returns-2 : tie.Need-returns-2
@@ -58,7 +63,7 @@ returns-2 c =
     let put = c .before .before .before .before .before .put-row in
     let i = c .before .before .before .before .before .before .before in
     let v = i .before .before in
-    let d = v .before .before .before .before in
+    let d = merged-at v in
     let k = after d .kept in
     let a = start d .args .a in
     let e = start d .args .e .now in
@@ -74,7 +79,7 @@ returns-3 : tie.Need-returns-3
 returns-3 c =
     let i = c .before in
     let v = i .before .before in
-    let d = v .before .before .before .before in
+    let d = merged-at v in
     rw (c .table-full .ensures) (record {
       out = arrive-full (start d .pre) (after d) (sym (v .covered .ensures) ∙ i .before .if1 .left) (omega (arith, i .if2 .left, size d));
       kept = after d .kept;

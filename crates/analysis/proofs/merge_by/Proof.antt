@@ -9,9 +9,13 @@ use Rattle.analysis.proofs.Merges.{rewaits-all}
 use Rattle.analysis.proofs.merge_by.Statement.{statement}
 use Rattle.analysis.proofs.merge_by.Tie as tie
 
+-- where the function begins, seen from the case that merges
+abbrev start : tie.After-enum-told2 → tie.Start
+start d = d .before .before .before
+
 merge-slots-requires : tie.Need-merge-slots-requires
 merge-slots-requires c κs =
-    let g = c .before .before .before .before .before .pre in
+    let g = start (c .before .before) .pre in
     let k = g .kept in
     (laid k _ (g .row), (k .slots, k .queue, k .capacity, k .small))
 
@@ -20,7 +24,8 @@ returns c = let q = c .enum-told .given .1 in record { rows = rw q; waiting = rw
 
 returns-2 : tie.Need-returns-2
 returns-2 c =
-    let s = c .before .before .before .before .before .before .before .before in
+    let d = c .before .before .before .before .before in
+    let s = start d in
     let k = s .pre .kept in
     let a = s .args .a in
     let y = s .args .layout in
@@ -28,7 +33,7 @@ returns-2 c =
     let e = s .args .e .now in
     let m = c .before .before .merge-slots in
     let h = m .ensures in
-    let q = c .before .before .before .before .before .enum-told2 .given .1 in
+    let q = d .enum-told2 .given .1 in
     let rows = rows-of y (a .used) t in
     let wa = waits (a .waiting) (s .args .list .now) in
     let n : 0 + length rows ≤ a .used = omega (arith, rows-length y (a .used) t) in

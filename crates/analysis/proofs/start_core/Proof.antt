@@ -35,14 +35,19 @@ module _ (c : tie.After-list) where
 put-row-requires : tie.Need-put-row-requires
 put-row-requires c κs = let d = c .before in omega (arith, next-slot-in (form d) (some d), at-start d .pre .1, at-start d .pre .2)
 
+-- the zeros, seen from the row that is put into them
+abbrev zeros-at : tie.After-put-row → tie.After-list
+zeros-at p = p .before .before
+
 append-requires : tie.Need-append-requires
-append-requires c κs = let d = c .before .before .before .before in (form d .slots, some d, omega arith)
+append-requires c κs = let d = zeros-at (c .before .before) in (form d .slots, some d, omega arith)
 
 returns : tie.Need-returns
 returns c =
-    let d = c .before .before .before .before .before .before .before .before in
+    let p = c .before .before .before .before .before .before in
+    let d = zeros-at p in
     let s = at-start d in
-    let put = c .before .before .before .before .before .before .put-row in
+    let put = p .put-row in
     let app = c .before .before .before .append in
     let v = ap first-verdict (c .before .is-error .ensures) in
     λ last. rw (c .first-record .ensures, put .ensures, s .pre .1) (start-loaded (s .args .layout) (table d) (list d) (form d) (some d) (s .args .row .now) (s .pre .1) last (s .args .chart .now) _ (app .last .0) (app .ensures) (app .kept .0) (s .pre .7) (size d) refl refl refl v)

@@ -20,10 +20,14 @@ module _ (d : tie.After-successor) where
   row-length : length row ≡ length (start .args .copy .now)
   row-length = d .successor .kept .1 .1 .1 .0 ∙ start .pre .1
 
+-- the transfer, seen from the test of the row that it left
+abbrev moved-at : tie.After-is-error → tie.After-successor
+moved-at i = i .before .before .before .before .before
+
 returns : tie.Need-returns
 returns c =
     let i = c .before .before in
-    let d = i .before .before .before .before .before in
+    let d = moved-at i in
     let b : error-row (start d .args .chart .now) (row d) ≡ true = sym (i .is-error .ensures) ∙ c .before .if1 .taken in
     rw (c .alarm-by2 .ensures) (record { out = rw (moved d Successor (i .before .before .enum-told3 .given .1), b); kept = start d .pre .0 .kept })
 
@@ -32,13 +36,13 @@ returns-4 c =
     let r = c .before .before in
     let f = r .before .before .before .before in
     let i = f .before in
-    let d = i .before .before .before .before .before in
+    let d = moved-at i in
     let b : error-row (start d .args .chart .now) (row d) ≡ false = sym (i .is-error .ensures) ∙ f .if1 .left in
     rw (moved d Successor (i .before .before .enum-told3 .given .1), b) (r .arrive .ensures)
 
 arrive-requires : tie.Need-arrive-requires
 arrive-requires c κs =
-    let d = c .before .before .before .before .before .before .before .before .before in
+    let d = moved-at (c .before .before .before .before) in
     let g = start d .pre .0 in
     record { kept = g .kept; allowed = g .allowed; row = row-length d ∙ g .row }
 

@@ -87,17 +87,20 @@ visit-requires c κs =
 
 -- a turn, once the edge is played
 module _ (c : tie.After-has-ended Inv-loop μ-loop) where
+  abbrev visited : tie.After-visit Inv-loop μ-loop
+  visited = c .before .before .before .before
+
   abbrev edge-at-turn : tie.After-edge-of Inv-loop μ-loop
-  edge-at-turn = c .before .before .before .before .before .before .before .before
+  edge-at-turn = visited .before .before .before .before
 
   abbrev b : tie.At-loop Inv-loop μ-loop
   b = loop-at edge-at-turn
 
   abbrev table : List ℤ
-  table = c .before .before .before .before .visit .last .1 .1 .1 .1 .1 .1 .0
+  table = visited .visit .last .1 .1 .1 .1 .1 .1 .0
 
   abbrev list : List ℤ
-  list = c .before .before .before .before .visit .last .1 .1 .1 .1 .1 .1 .1 .0
+  list = visited .visit .last .1 .1 .1 .1 .1 .1 .1 .0
 
   abbrev rest : List (List ℤ) → List ℕ → Out (List ℤ)
   rest en wa =
@@ -106,16 +109,16 @@ module _ (c : tie.After-has-ended Inv-loop μ-loop) where
       visit-all (domain-of (s .chart .now)) (b .loop .at .settings) (length (s .list .now)) (s .copy .now) (edges-from (g + 1) (s .outline .edges - (g + 1))) en wa
 
   same-table : length table ≡ length (start b .args .table .now)
-  same-table = c .before .before .before .before .visit .kept .1 .1 .1 .1 .1 .1 .0 ∙ b .loop .inv .1
+  same-table = visited .visit .kept .1 .1 .1 .1 .1 .1 .0 ∙ b .loop .inv .1
 
   same-list : length list ≡ length (start b .args .list .now)
-  same-list = c .before .before .before .before .visit .kept .1 .1 .1 .1 .1 .1 .1 .0 ∙ b .loop .inv .2
+  same-list = visited .visit .kept .1 .1 .1 .1 .1 .1 .1 .0 ∙ b .loop .inv .2
 
   turn : let s = start b .args in
       visit-all (domain-of (s .chart .now)) (s .a .settings) (length (s .list .now)) (s .copy .now) (edges-from 0 (s .outline .edges)) (rows-of (s .outline .layout) (s .a .used) (s .table .now)) (waits (s .a .waiting) (s .list .now))
-      ≡ then (out-of (s .outline .layout) table list (c .before .before .before .before .visit .result)) rest
+      ≡ then (out-of (s .outline .layout) table list (visited .visit .result)) rest
   turn =
-      let m = c .before .before .before .before .visit in
+      let m = visited .visit in
       let s = start b .args in
       let D = domain-of (s .chart .now) in
       let e = s .copy .now in
@@ -135,7 +138,7 @@ module _ (c : tie.After-has-ended Inv-loop μ-loop) where
 returns : tie.Need-returns Inv-loop μ-loop
 returns c =
     let d = c .before in
-    let m = d .before .before .before .before .visit in
+    let m = visited d .visit in
     let over = sym (d .has-ended .ensures) ∙ c .if2 .taken in
     record { out = sym (turn d ∙ then-ended _ _ _ _ (m .result .exit) over); kept = m .ensures .kept }
 
@@ -157,7 +160,7 @@ loop-less c = let d = edge-at-turn (c .before .before .before) in omega (arith, 
 loop-again : tie.Need-loop-again Inv-loop μ-loop
 loop-again c =
     let h = c .before .before .before in
-    let m = h .before .before .before .before .visit in
+    let m = visited h .visit in
     let d = edge-at-turn h in
     let b = loop-at d in
     let s = start b .args in

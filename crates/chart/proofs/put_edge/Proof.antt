@@ -5,7 +5,7 @@ use Rattle.chart.proofs.put_edge.Tie as tie
 
 returns : tie.Need-returns
 returns c =
-    let w = c .before .before .before .before .before .before .before .before .before .before in
+    let w : tie.After-operand-words2 = c .before .before .before .before .before .before .before .before .before .before in
     let s = w .before .before in
     let g = s .before .args in
     let o = s .split-of in

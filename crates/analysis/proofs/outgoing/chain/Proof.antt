@@ -14,11 +14,15 @@ Inv-loop chart edges heads₀ nexts₀ first number₀ heads nexts number =
 abbrev μ-loop : tie.MeasureT-loop
 μ-loop chart edges heads₀ nexts₀ first number₀ heads nexts number = number
 
+-- the head that a turn reads, seen from the turn's end
+abbrev head-at : tie.After-slice-known4 Inv-loop μ-loop → tie.After-number-at Inv-loop μ-loop
+head-at c = c .before .before .before .before .before .before .before .before
+
 loop-again : tie.Need-loop-again Inv-loop μ-loop
 loop-again c =
     let two = c .before .before .put2 in
     let one = c .before .before .before .before .before .before .put in
-    let d = c .before .before .before .before .before .before .before .before in
+    let d = head-at c in
     let e = d .before .before in
     let b = e .before .before .before in
     let s = b .before .before .before .before in

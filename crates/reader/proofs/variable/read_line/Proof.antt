@@ -15,8 +15,11 @@ module _ (c : tie.After-field) where
   abbrev judged-at : tie.After-judged
   judged-at = c .before .before .before .before .before .before
 
+  abbrev start : tie.Start
+  start = judged-at .before .before .before .before .before .before .before .before
+
   abbrev fs : List (List ℕ)
-  fs = fields (now (judged-at .before .before .before .before .before .before .before .before .args .line))
+  fs = fields (now (start .args .line))
 
   var-said : var-judged fs ≡ ok (var-of (c .before .before .before .before .v .given .0 .0))
   var-said = sym (judged-at .judged .ensures) ∙ ap var-res (c .before .before .before .before .v .given .1)
