@@ -15,7 +15,7 @@ abbrev μ-loop : tie.MeasureT-loop
 μ-loop chart edges heads₀ nexts₀ first number₀ heads nexts number = number
 
 -- the head that a turn reads, seen from the turn's end
-abbrev head-at : tie.After-slice-known4 Inv-loop μ-loop → tie.After-number-at Inv-loop μ-loop
+abbrev head-at : tie.After-slice-known4 Inv-loop μ-loop → tie.After-number-in Inv-loop μ-loop
 head-at c = c .before .before .before .before .before .before .before .before
 
 loop-again : tie.Need-loop-again Inv-loop μ-loop
