@@ -6,9 +6,10 @@ use Rattle.semantics.specs.Lists.{At, each}
 use Rattle.semantics.specs.Text.{name-ok}
 use Rattle.semantics.specs.Chart.{Var, Loc, Edge, Chart, eqZ, within, in-range, error-location, inits}
 use Rattle.semantics.specs.Tidy.{Every}
-use Rattle.semantics.specs.Encoding.{word-at, word, kind-word, var-words, loc-words, edge-words, encode, count, var-ok, chart-ok, variable-count, location-count}
+use Rattle.semantics.specs.Encoding.{word-at, word, kind-word, var-words, loc-words, edge-words, encode, var-ok, chart-ok, variable-count, location-count}
 use Rattle.semantics.proofs.StatesOk.{Bounds, bounds}
 use Rattle.semantics.proofs.Encoded.{kind-back, each-length, every-of, loc-wide, edge-wide, every-any}
+use Rattle.state.specs.Rows.{location-in}
 use Rattle.transfer.specs.Transfer.{edge-at, error-row, initial-words, initial-row}
 
 pub at-some : {A : Type 0} (xs : List A) (n : ℕ) → n < length xs → (x : A) × At xs n x
@@ -102,10 +103,10 @@ module _ (c : Chart) (ok : T (chart-ok c)) (rest : List ℤ) where
   past-vars i = from-counts (variable-size * length (c .vars) + i) ∙ each-past var-words variable-size (λ v. T (var-ok v)) (λ v t. refl) (c .vars) after-vars i (every-of var-ok (c .vars) (b .vars))
 
   -- the test of an error location by the chart's words
-  pub error-is : (e : List ℤ) → count e 0 < length (c .locs) → error-row ws e ≡ error-location (c .locs) (count e 0)
+  pub error-is : (e : List ℤ) → location-in e < length (c .locs) → error-row ws e ≡ error-location (c .locs) (location-in e)
   unfolding error-row
   error-is e h =
-      let n = count e 0 in
+      let n = location-in e in
       let l = at-some (c .locs) n h in
       let at : counts-size + variable-size * variable-count ws + location-size * n ≡ counts-size + (variable-size * length (c .vars) + (location-size * n + kind-place)) = omega (arith, var-count) in
       let p : word-at ws (counts-size + variable-size * variable-count ws + location-size * n) ≡ kind-word (l .0 .error) =
