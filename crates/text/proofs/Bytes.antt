@@ -1,5 +1,6 @@
 -- Two texts that are the same, and the bytes of a name, one byte at a time. Assumes nothing.
 use Rattle.semantics.proofs.Prelude.{_≡_, refl, ap, Bool, true, false, List, [], _∷_, ℕ, suc, _+_, _≤_, _<_, add-one, eqb, length, getD, drop, drop-of-length-le, drop-cons, eq-eqb, ne-eqb, le-leb, lt-leb, and-false}
+use Rattle.semantics.specs.Layout.{name-size}
 use Rattle.semantics.specs.Lists.{all}
 use Rattle.semantics.specs.Text.{same-bytes, name-byte, name-ok}
 
@@ -37,8 +38,8 @@ module _ (l : List ℕ) where
   pub name-empty : length l < 1 → name-ok l ≡ false
   name-empty h = simp (lt-leb 1 (length l) h)
 
-  pub name-long : 16 < length l → name-ok l ≡ false
-  name-long h = simp (lt-leb (length l) 16 h, and-false)
+  pub name-long : name-size < length l → name-ok l ≡ false
+  name-long h = simp (lt-leb (length l) name-size h, and-false)
 
-  pub name-all : 1 ≤ length l → length l ≤ 16 → name-ok l ≡ all name-byte l
-  name-all h k = simp (le-leb 1 (length l) h, le-leb (length l) 16 k)
+  pub name-all : 1 ≤ length l → length l ≤ name-size → name-ok l ≡ all name-byte l
+  name-all h k = simp (le-leb 1 (length l) h, le-leb (length l) name-size k)
