@@ -12,7 +12,6 @@ use Rattle.semantics.proofs.Bools.{left-true, right-true}
 use Rattle.words.proofs.Words.{eqZ-true}
 use Rattle.state.specs.Rows.{values-of, word-leq, word-join, words-leq, words-join, same-words, same-place, row-leq, row-join, row-merge, join-of}
 use Rattle.state.proofs.RowLoops.{length-words-join}
-use Rattle.waitlist.specs.Waits.{wait-unless}
 use Rattle.reached.specs.Reached.{rewaits}
 use Rattle.reached.proofs.Table.{Sized}
 use Rattle.progress.specs.Progress.{rows-only}
@@ -24,7 +23,7 @@ rewaits-all e i [] wa = refl
 rewaits-all e i (x ∷ xs) wa = go (same-words (row-merge e x) x) (rewaits-all e (suc i) xs)
   where
     go : (b : Bool) → ((v : List ℕ) → rewaits e (suc i) xs v ≡ wait-all (changed rows-only e (suc i) xs) v)
-        → rewaits e (suc i) xs (wait-unless b i wa) ≡ wait-all (pick b (changed rows-only e (suc i) xs) (i ∷ (changed rows-only e (suc i) xs))) wa
+        → rewaits e (suc i) xs (pick b wa (wait i wa)) ≡ wait-all (pick b (changed rows-only e (suc i) xs) (i ∷ (changed rows-only e (suc i) xs))) wa
     go true ih = ih wa
     go false ih = ih (wait i wa)
 

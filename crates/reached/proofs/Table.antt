@@ -1,13 +1,13 @@
 -- Laws of the table as rows: the merge of all slots, the row of a slot, a row stored at the next slot. Assumes nothing.
 use Rattle.semantics.proofs.Prelude.{_≡_, refl, sym, ap, _∙_, List, [], _∷_, _++_, map, append-assoc, some, ℕ, zero, suc, _+_, _-_, _*_, _≤_, _<_, suc-mul, add-comm, add-one, arith, ℤ, pos, length, take, drop, replicate, length-drop, take-at, drop-at, drop-drop, take-add, take-take, take-append-le, length-take-le}
-use Rattle.semantics.specs.Lists.{get}
+use Rattle.semantics.specs.Lists.{pick, get}
+use Rattle.semantics.specs.Algorithm.{wait}
 use Rattle.semantics.specs.Tidy.{Every, Queue}
 use Rattle.words.proofs.Rows.{drop-zeros, put-here, drop-put}
 use Rattle.state.specs.declared.Layout.{Layout}
 use Rattle.state.specs.Rows.{width-of, row-merge, slot-merge, rows-merge, rows-of, same-words}
 use Rattle.state.proofs.RowLoops.{length-row-merge}
 use Rattle.state.proofs.Slots.{slot, slot-length, put-slot}
-use Rattle.waitlist.specs.Waits.{wait-unless}
 use Rattle.reached.specs.Reached.{rewaits}
 use Rattle.reached.proofs.SlotLoops.{unless-queue}
 
@@ -115,4 +115,4 @@ pub rewaits-queue : (e : List ℤ) (n i : ℕ) (en : List (List ℤ)) (wa : List
 rewaits-queue e n i [] wa h q = q
 rewaits-queue e n i (x ∷ xs) wa h q =
     let same = same-words (row-merge e x) x in
-    rewaits-queue e n (suc i) xs (wait-unless same i wa) (omega arith) (unless-queue same n i wa (omega arith) q)
+    rewaits-queue e n (suc i) xs (pick same wa (wait i wa)) (omega arith) (unless-queue same n i wa (omega arith) q)

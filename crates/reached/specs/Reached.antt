@@ -6,15 +6,17 @@ use Prim.Native.Nat.{ℕ, suc, _-_, _*_, _≤_, _<_}
 use lib.IntN.{ℤ, pos}
 use lib.ListN.{length, drop, replicate}
 use Rattle.semantics.specs.Layout.{index-limit}
+use Rattle.semantics.specs.Lists.{pick}
+use Rattle.semantics.specs.Algorithm.{wait}
 use Rattle.semantics.specs.Tidy.{Queue}
 use Rattle.state.specs.declared.Layout.{Layout}
 use Rattle.state.specs.Rows.{width-of, same-words, row-merge}
-use Rattle.waitlist.specs.Waits.{waits, Stored, wait-unless}
+use Rattle.waitlist.specs.Waits.{waits, Stored}
 
 -- the slots wait again that the merge with e changes; i is the first slot's number
 abbrev pub rewaits : List ℤ → ℕ → List (List ℤ) → List ℕ → List ℕ
 rewaits e i [] wa = wa
-rewaits e i (x ∷ xs) wa = rewaits e (suc i) xs (wait-unless (same-words (row-merge e x) x) i wa)
+rewaits e i (x ∷ xs) wa = rewaits e (suc i) xs (pick (same-words (row-merge e x) x) wa (wait i wa))
 
 -- table and waitlist in form: as many slots as the list has words, and zeros in those words of both that are not in use
 pub record Kept (y : Layout) (t l : List ℤ) (used waiting : ℕ) : Type 0 where

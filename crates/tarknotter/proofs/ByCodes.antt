@@ -1,7 +1,7 @@
 -- From what the calls leave to what the boundary owes. Assumes nothing.
-use Rattle.semantics.proofs.Prelude.{_≡_, refl, sym, ap, subst, _∙_, Bool, true, false, not, List, [], _∷_, ℕ, ℤ}
+use Rattle.semantics.proofs.Prelude.{_≡_, refl, ap, _∙_, true, false, List, ℕ, ℤ}
 use Rattle.semantics.specs.Memory.{Memory}
-use Rattle.semantics.specs.Outcomes.{Outcome, case, refusal, refused-by, settled, start-outcome}
+use Rattle.semantics.specs.Outcomes.{Outcome, refused-by, start-outcome}
 use Rattle.calls.specs.declared.Called as calls
 use Rattle.calls.specs.Calls.{Ends-called}
 use Rattle.tarknotter.specs.declared.Record.{Record}
@@ -17,17 +17,12 @@ by-codes {before = before} e h =
     record { reply = h .0 ∙ ap as-reply (e .answer); after = h .1 ∙ (λ j. record-after before (e .answer j) (e .analysis j)); table = e .table; waitlist = e .waitlist }
 
 module _ (ws : List ℤ) (merge stop order : ℕ) (r : ℤ) (m : Memory) where
-  -- the start, by whether the codes name settings
-  abbrev start-if : Bool → Outcome
-  start-if b = settled (refusal (case 6 (not b) ∷ [])) m [] (start-outcome ws (settings-in merge stop order) r m)
-
   -- named settings: any start
   pub start-named : settings-named merge stop order ≡ true → start-outcome ws (settings-in merge stop order) r m ≡ start-by-codes ws merge stop order r m
-  start-named e = ap start-if (sym e)
+  start-named e = rw e
 
   -- a code that names none: 6, and nothing changes
   pub start-unnamed : (before : Record) → settings-named merge stop order ≡ false →
       Ends-by-codes (start-by-codes ws merge stop order r m) before (record { reply = as-reply (refused-by 6 0); «record» = before }) (m .table) (m .waitlist)
   start-unnamed before e =
-      subst (λ (b : Bool). Ends-by-codes (start-if b) before (record { reply = as-reply (refused-by 6 0); «record» = before }) (m .table) (m .waitlist)) (sym e)
-      (record { reply = refl; after = refl; table = refl; waitlist = refl })
+      rw e (record { reply = refl; after = refl; table = refl; waitlist = refl })

@@ -49,9 +49,9 @@ abbrev pub row-step : ℤ → Option (List Value) → Step (List ℤ)
 row-step l none = halt
 row-step l (some xs) = to (l ∷ map word xs)
 
-step-if : (l : ℤ) (t : Bool) (xs : List Value) → pick t (to (l ∷ map word xs)) halt ≡ row-step l (pick t (some xs) none)
-step-if l true xs = refl
-step-if l false xs = refl
+row-step-pick : (l : ℤ) (t : Bool) (xs : List Value) → pick t (to (l ∷ map word xs)) halt ≡ row-step l (pick t (some xs) none)
+row-step-pick l true xs = refl
+row-step-pick l false xs = refl
 
 module _ (c : Chart) (ok : T (chart-ok c)) (rest : List ℤ) (l : ℤ) (xs : List Value) (plain : AllPlain xs) where
   abbrev ws : List ℤ
@@ -68,7 +68,7 @@ module _ (c : Chart) (ok : T (chart-ok c)) (rest : List ℤ) (l : ℤ) (xs : Lis
 
   assign-ranged-is : (k : ℕ) (z : ℤ) → k < length (c .vars) → assign-ranged ws k z e ≡ row-step l (assign-value (c .vars) k (known z) xs)
   unfolding assign-ranged
-  assign-ranged-is k z h = (λ i. pick (range-is c ok rest k z h i) (to (set-word k (known z) i)) halt) ∙ step-if l (in-range (c .vars) k z) (set xs k (known z))
+  assign-ranged-is k z h = (λ i. pick (range-is c ok rest k z h i) (to (set-word k (known z) i)) halt) ∙ row-step-pick l (in-range (c .vars) k z) (set xs k (known z))
 
   top-is : (k : ℕ) → to (with-value e k top-word) ≡ row-step l (some (set xs k top))
   top-is k = ap to (set-word k top)
@@ -126,7 +126,7 @@ module _ (c : Chart) (ok : T (chart-ok c)) (rest : List ℤ) (l : ℤ) (xs : Lis
   tested-is : (r : Rel) (k : ℕ) (a : Operand) (x y : Value) → k < length (c .vars) → T (operand-ok (c .vars) a) → Writable x → Writable y → Sided a y
       → tested-by ws (rel-code r) k (natAbs (operand-word a)) (word x) (word y) e ≡ row-step l (tested (c .vars) r (var k) a x y xs)
   unfolding tested-by
-  tested-is r k a (known x) (known y) h o p q s = rw (p, q, holds-is r x y) (step-if l (holds r x y) xs)
+  tested-is r k a (known x) (known y) h o p q s = rw (p, q, holds-is r x y) (row-step-pick l (holds r x y) xs)
   tested-is r k (num z) (known x) top h o p q s = absurd s
   tested-is r k (var j) (known x) top h o p q s = rw p (refine-is r j x (ltb→lt j (length (c .vars)) o) p)
   tested-is r k a top (known y) h o p q s = refine-is r k y h q

@@ -10,7 +10,7 @@ use Rattle.semantics.specs.Chart.{eqZ}
 use Rattle.semantics.specs.declared.Order.{Order}
 use Rattle.semantics.specs.Layout.{index-limit}
 use Rattle.semantics.specs.Tidy.{Queue}
-use Rattle.semantics.specs.Algorithm.{take-by, wait}
+use Rattle.semantics.specs.Algorithm.{take-by}
 use Rattle.semantics.specs.Lists.{pick}
 
 -- the slots that the first n words say
@@ -44,10 +44,6 @@ shifted (x ∷ l) = getD l 0 (pos 0) ∷ shifted l
 abbrev pub others : ℤ → List ℤ → List ℤ
 others k [] = []
 others k (x ∷ l) = pick (eqZ x k) (others k l) (x ∷ (others k l))
-
--- the slot waits, unless its abstract state is the same as before
-abbrev pub wait-unless : Bool → ℕ → List ℕ → List ℕ
-wait-unless b k wa = pick b wa (wait k wa)
 
 -- where the next word is kept: at j too if the Bool says that the word for j is dropped
 abbrev pub next-place : Bool → ℕ → ℕ

@@ -12,10 +12,10 @@ ghost use lib.IntN.{pos};
 ghost use lib.ListN.{length, take, drop, replicate};
 ghost use Rattle.semantics.specs.Layout.{index-limit};
 ghost use Rattle.semantics.specs.Chart.{eqZ};
-ghost use Rattle.semantics.specs.Lists.{some-of};
+ghost use Rattle.semantics.specs.Lists.{pick, some-of};
 ghost use Rattle.semantics.specs.declared.Order.the-variants.{Old, New};
 ghost use Rattle.semantics.specs.Algorithm.{without, put-back, wait};
-ghost use Rattle.waitlist.specs.Waits.{waits, Stored, Admits, pushed, shifted, wait-unless, others, next-place, kept-at, TakenFrom};
+ghost use Rattle.waitlist.specs.Waits.{waits, Stored, Admits, pushed, shifted, others, next-place, kept-at, TakenFrom};
 
 // The word that says a slot.
 fn slot_word(slot: SlotId) -> i32
@@ -58,7 +58,7 @@ fn wait(list: &mut [i32], count: usize, slot: SlotId) -> usize
 // The same, unless the flag says that its abstract state is the same as before.
 pub fn wait_unless(same: bool, list: &mut [i32], count: usize, slot: SlotId) -> usize
     requires { ⌜ Admits (now list) count (slot .0) ⌝ }
-    ensures { λ r. ⌜ Stored (now (list .exit)) r (wait-unless same (slot .0) (waits count (now (list .entry)))) ⌝ }
+    ensures { λ r. ⌜ Stored (now (list .exit)) r (pick same (waits count (now (list .entry))) (wait (slot .0) (waits count (now (list .entry))))) ⌝ }
 {
     if same {
         return count;
