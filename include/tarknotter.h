@@ -64,7 +64,7 @@ struct tarknotter_called {
 };
 
 /* A chart file's bytes into the words of the encoded chart (docs/memory.md). Refused with 1, 2, 3, then line by line 4
-   to 10 (README.md has their meaning, and says of document 01, which has their order), then 14. */
+   to 10 (README.md has their meaning, and says what document 01 is, which has their order), then 14. */
 struct tarknotter_reply tarknotter_read(const uint8_t *text, size_t text_length,
                                         int32_t *words, size_t words_length);
 
