@@ -715,6 +715,14 @@ pub fn second_value(chart: &[i32], edge: EdgeRow) -> i32
     words::word_at(chart, edge.at + SECOND_VALUE_PLACE)
 }
 
+pub fn second_variable(chart: &[i32], edge: EdgeRow) -> usize
+    requires { ⌜ edge .at < index-limit ⌝ }
+    ensures number { λ r. ⌜ r ≡ count (now (chart .entry)) (edge .at + second-value-place) ⌝ }
+    ensures small { λ r. ⌜ r < index-limit ⌝ }
+{
+    words::number_at(chart, edge.at + SECOND_VALUE_PLACE)
+}
+
 // An operand: a number, or one of v variables.
 fn operand_fine(v: usize, tag: i32, w: i32) -> bool
     ensures { λ r. ⌜ r ≡ operand-fine v tag w ⌝ }

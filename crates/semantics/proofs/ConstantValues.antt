@@ -1,23 +1,19 @@
 -- Facts of values, of any number of variables. Assumes nothing.
-use Rattle.semantics.proofs.Prelude.{_≡_, refl, sym, ap, _∙_, subst, Bool, true, false, List, [], _∷_, Option, some, none, ℕ, zero, suc, arith, le-antisymm, T, eqb, eqb→eq, leb→le, length, getD, set, ℤ, pos, negsuc, _+ℤ_, _-ℤ_, leZ}
-use Rattle.semantics.specs.Lists.{all-pairs, pick}
-use Rattle.semantics.specs.Chart.{Value, known, top, Var, Operand, num, var, Rel, eq, ne, lt, le, gt, ge, Op, assign, add, sub, input, assume, skip, Edge, Chart, eqZ, within, holds, Ranged, Matches₁, Matches, value, Becomes, in-range}
-use Rattle.semantics.specs.Algorithm.{to, halt}
-use Rattle.semantics.specs.Constants.{AbstractState, equal-value, leq-value, join-values, operand-value, both, assign-value, refine, one-known, tested, one-of, effect, arrive-at, post}
-use Rattle.semantics.proofs.Bools.{from-true, and-left, and-right}
-use Rattle.semantics.proofs.Covering.{halt-to}
+use Rattle.semantics.proofs.Prelude.{_≡_, refl, sym, ap, _∙_, subst, _⊎_, inl, inr, Bool, true, false, not, List, [], _∷_, Option, none, some, ℕ, zero, suc, arith, T, eqb, eqb→eq, length, getD, set, ℤ, pos, negsuc, _+ℤ_, _-ℤ_, leZ}
+use Rattle.semantics.specs.declared.Span.{Span}
+use Rattle.semantics.specs.Lists.{all-pairs, get, map-or, pick}
+use Rattle.semantics.specs.Chart.{Value, known, top, Var, Operand, num, var, Rel, eq, ne, lt, le, gt, ge, Op, assign, add, sub, input, assume, skip, Edge, Chart, eqZ, within, holds, Ranged, Matches₁, Matches, value, Becomes, result-outside, in-range}
+use Rattle.semantics.specs.Algorithm.{Step, halt, fault, to}
+use Rattle.semantics.specs.Constants.{AbstractState, equal-value, leq-value, join-values, operand-value, both, only, value-span, operand-span, sums, differences, span-in-range, assign-value, refine, one-known, tested, one-of, effect, arrive-at, post}
+use Rattle.semantics.proofs.Bools.{from-true, to-false, and-left, and-right, both-true}
+use Rattle.semantics.proofs.Integers.{leZ-refl, leZ-antisym, leZ-trans, add-mono, sub-mono}
+use Rattle.semantics.proofs.Covering.{halt-to, fault-to}
 
 pub eqZ-same : (a b : ℤ) → T (eqZ a b) → a ≡ b
 eqZ-same (pos a) (pos b) t = ap pos (eqb→eq a b t)
 eqZ-same (pos a) (negsuc b) t = absurd t
 eqZ-same (negsuc a) (pos b) t = absurd t
 eqZ-same (negsuc a) (negsuc b) t = ap negsuc (eqb→eq a b t)
-
-pub leZ-antisym : (a b : ℤ) → T (leZ a b) → T (leZ b a) → a ≡ b
-leZ-antisym (pos a) (pos b) s t = ap pos (le-antisymm (leb→le a b s) (leb→le b a t))
-leZ-antisym (pos a) (negsuc b) s t = absurd s
-leZ-antisym (negsuc a) (pos b) s t = absurd t
-leZ-antisym (negsuc a) (negsuc b) s t = ap negsuc (le-antisymm (leb→le a b t) (leb→le b a s))
 
 -- one value
 equal-value-same : (v w : Value) → T (equal-value v w) → v ≡ w
@@ -116,92 +112,206 @@ ranged-get (v ∷ vs) [] k r = absurd r
 ranged-get (v ∷ vs) (x ∷ xs) zero r = r .0
 ranged-get (v ∷ vs) (x ∷ xs) (suc k) r = ranged-get vs xs k (r .1)
 
-ranged-set : (vars : List Var) (xs : List ℤ) (k : ℕ) (z : ℤ) → Ranged vars xs → Ranged vars (set xs k z) → T (in-range vars k z)
+pub ranged-set : (vars : List Var) (xs : List ℤ) (k : ℕ) (z : ℤ) → Ranged vars xs → Ranged vars (set xs k z) → T (in-range vars k z)
 ranged-set [] xs k z r q = tt
 ranged-set (v ∷ vs) [] k z r q = absurd r
 ranged-set (v ∷ vs) (x ∷ xs) zero z r q = q .0
 ranged-set (v ∷ vs) (x ∷ xs) (suc k) z r q = ranged-set vs xs k z (r .1) (q .1)
 
--- the moves
-Gives : Option (List Value) → List ℤ → Type 0
-Gives o ys = (us : List Value) × (o ≡ some us) × Matches us ys
+pub ranged-as-set : (vars : List Var) (xs : List ℤ) (k : ℕ) (z : ℤ) → Ranged vars xs → T (in-range vars k z) → Ranged vars (set xs k z)
+ranged-as-set [] [] k z r t = tt
+ranged-as-set [] (x ∷ xs) k z r t = absurd r
+ranged-as-set (v ∷ vs) [] k z r t = absurd r
+ranged-as-set (v ∷ vs) (x ∷ xs) zero z r t = (t, r .1)
+ranged-as-set (v ∷ vs) (x ∷ xs) (suc k) z r t = (r .0, ranged-as-set vs xs k z (r .1) t)
 
-some-gives : (b : Bool) (us : List Value) (ys : List ℤ) → T b → Matches us ys → Gives (pick b (some us) none) ys
+-- ---- spans
+
+-- x is a number of the span
+abbrev pub Among : Span → ℤ → Type 0
+Among r x = T (leZ (r .low) x) × T (leZ x (r .high))
+
+pub among-only : (z x : ℤ) → z ≡ x → Among (only z) x
+among-only z x e = subst (Among (only z)) e (leZ-refl z, leZ-refl z)
+
+pub among-sums : (a b : Span) (x y : ℤ) → Among a x → Among b y → Among (sums a b) (x +ℤ y)
+among-sums a b x y h k = (add-mono (a .low) x (b .low) y (h .0) (k .0), add-mono x (a .high) y (b .high) (h .1) (k .1))
+
+pub among-differences : (a b : Span) (x y : ℤ) → Among a x → Among b y → Among (differences a b) (x -ℤ y)
+among-differences a b x y h k = (sub-mono (a .low) x y (b .high) (h .0) (k .1), sub-mono x (a .high) (b .low) y (h .1) (k .0))
+
+-- a number between two of the range is of it
+between : (vars : List Var) (k : ℕ) (low z high : ℤ) → T (leZ low z) → T (leZ z high) → T (in-range vars k low) → T (in-range vars k high) → T (in-range vars k z)
+between vars k low z high p q s t = go (get vars k) s t
+  where
+    go : (o : Option Var) → T (map-or o true (λ v. within (v .lo) (v .hi) low)) → T (map-or o true (λ v. within (v .lo) (v .hi) high)) → T (map-or o true (λ v. within (v .lo) (v .hi) z))
+    go none s t = tt
+    go (some v) s t =
+        both-true (leZ (v .lo) z) (leZ z (v .hi)) (leZ-trans (v .lo) low z (and-left (leZ (v .lo) low) (leZ low (v .hi)) s) p)
+        (leZ-trans z high (v .hi) q (and-right (leZ (v .lo) high) (leZ high (v .hi)) t))
+
+-- a span with a number outside the range has an end outside it
+pub span-outside : (vars : List Var) (k : ℕ) (r : Span) (z : ℤ) → Among r z → T (not (in-range vars k z)) → span-in-range vars k r ≡ false
+span-outside vars k r z h t =
+    to-false (span-in-range vars k r)
+    (λ s. not-both (in-range vars k z)
+    (between vars k (r .low) z (r .high) (h .0) (h .1) (and-left (in-range vars k (r .low)) (in-range vars k (r .high)) s) (and-right (in-range vars k (r .low)) (in-range vars k (r .high)) s)) t)
+  where
+    not-both : (b : Bool) → T b → T (not b) → ⊥
+    not-both true s t = t
+    not-both false s t = s
+
+-- the value of a variable lies in its span
+value-among : (vars : List Var) (vs : List Value) (xs : List ℤ) (k : ℕ) → Ranged vars xs → Matches vs xs → Among (value-span vars k (getD vs k (known (pos 0)))) (getD xs k (pos 0))
+value-among [] [] [] k r m = (tt, tt)
+value-among [] (w ∷ ws) [] k r m = absurd m
+value-among [] vs (x ∷ xs) k r m = absurd r
+value-among (v ∷ vars) vs [] k r m = absurd r
+value-among (v ∷ vars) [] (x ∷ xs) k r m = absurd m
+value-among (v ∷ vars) (known z ∷ ws) (x ∷ xs) zero r m = among-only z x (m .0)
+value-among (v ∷ vars) (top ∷ ws) (x ∷ xs) zero r m = (and-left (leZ (v .lo) x) (leZ x (v .hi)) (r .0), and-right (leZ (v .lo) x) (leZ x (v .hi)) (r .0))
+value-among (v ∷ vars) (w ∷ ws) (x ∷ xs) (suc k) r m = go (getD ws k (known (pos 0))) (value-among vars ws xs k (r .1) (m .1))
+  where
+    go : (u : Value) → Among (value-span vars k u) (getD xs k (pos 0)) → Among (value-span (v ∷ vars) (suc k) u) (getD xs k (pos 0))
+    go (known z) h = h
+    go top h = h
+
+operand-among : (vars : List Var) (a : Operand) (vs : List Value) (xs : List ℤ) → Ranged vars xs → Matches vs xs → Among (operand-span vars a vs) (value a xs)
+operand-among vars (num z) vs xs r m = among-only z z refl
+operand-among vars (var k) vs xs r m = value-among vars vs xs k r m
+
+-- an overrun is a fault
+pub assign-faults : (vars : List Var) (k : ℕ) (r : Span) (v : Value) (vs : List Value) (z : ℤ) → Among r z → T (not (in-range vars k z)) → assign-value vars k r v vs ≡ fault
+assign-faults vars k r v vs z h t = ap (λ (b : Bool). pick b (to (set vs k v)) fault) (span-outside vars k r z h t)
+
+pub effect-faults : (vars : List Var) (o : Op) (vs : List Value) (xs : List ℤ) → Ranged vars xs → Matches vs xs → T (result-outside vars o xs) → effect vars o vs ≡ fault
+effect-faults vars (assign v a) vs xs r m t = assign-faults vars v (operand-span vars a vs) (operand-value a vs) vs (value a xs) (operand-among vars a vs xs r m) t
+effect-faults vars (add v a b) vs xs r m t =
+    assign-faults vars v (sums (operand-span vars a vs) (operand-span vars b vs)) (both _+ℤ_ (operand-value a vs) (operand-value b vs)) vs (value a xs +ℤ value b xs)
+    (among-sums (operand-span vars a vs) (operand-span vars b vs) (value a xs) (value b xs) (operand-among vars a vs xs r m) (operand-among vars b vs xs r m)) t
+effect-faults vars (sub v a b) vs xs r m t =
+    assign-faults vars v (differences (operand-span vars a vs) (operand-span vars b vs)) (both _-ℤ_ (operand-value a vs) (operand-value b vs)) vs (value a xs -ℤ value b xs)
+    (among-differences (operand-span vars a vs) (operand-span vars b vs) (value a xs) (value b xs) (operand-among vars a vs xs r m) (operand-among vars b vs xs r m)) t
+effect-faults vars (input v p q) vs xs r m t = absurd t
+effect-faults vars (assume v g a) vs xs r m t = absurd t
+effect-faults vars skip vs xs r m t = absurd t
+
+-- ---- the moves
+
+-- a fault, or values that match
+Gives : Step (List Value) → List ℤ → Type 0
+Gives o ys = (o ≡ fault) ⊎ ((us : List Value) × (o ≡ to us) × Matches us ys)
+
+to-gives : (us : List Value) (ys : List ℤ) → Matches us ys → Gives (to us) ys
 unfolding Gives
-some-gives true us ys t m = (us, refl, m)
-some-gives false us ys t m = absurd t
+to-gives us ys m = inr (us, refl, m)
+
+test-gives : (b : Bool) (us : List Value) (ys : List ℤ) → T b → Matches us ys → Gives (pick b (to us) halt) ys
+test-gives true us ys t m = to-gives us ys m
+test-gives false us ys t m = absurd t
 
 known-matches : (a : Operand) (vs : List Value) (xs : List ℤ) → Matches vs xs → Matches₁ (operand-value a vs) (value a xs)
 known-matches (num z) vs xs m = refl
 known-matches (var k) vs xs m = matches-get vs xs k m
 
-assign-gives : (vars : List Var) (k : ℕ) (v : Value) (vs : List Value) (xs : List ℤ) (z : ℤ) → Ranged vars xs → Ranged vars (set xs k z) → Matches vs xs → Matches₁ v z → Gives (assign-value vars k v vs) (set xs k z)
+assign-gives : (vars : List Var) (k : ℕ) (r : Span) (v : Value) (vs : List Value) (xs : List ℤ) (z : ℤ) → Matches vs xs → Matches₁ v z → Gives (assign-value vars k r v vs) (set xs k z)
 unfolding Gives
-assign-gives vars k (known a) vs xs z r q m h =
-    some-gives (in-range vars k a) (set vs k (known a)) (set xs k z)
-    (subst (λ (y : ℤ). T (in-range vars k y)) (sym h) (ranged-set vars xs k z r q)) (matches-set vs xs k (known a) z m h)
-assign-gives vars k top vs xs z r q m h = (set vs k top, refl, matches-set vs xs k top z m h)
+assign-gives vars k r v vs xs z m h = go (span-in-range vars k r)
+  where
+    go : (b : Bool) → Gives (pick b (to (set vs k v)) fault) (set xs k z)
+    go true = inr (set vs k v, refl, matches-set vs xs k v z m h)
+    go false = inl refl
 
 refine-gives : (vars : List Var) (a : Operand) (z : ℤ) (vs : List Value) (xs : List ℤ) → Ranged vars xs → Matches vs xs → value a xs ≡ z → Gives (refine vars a z vs) xs
-unfolding Gives
-refine-gives vars (num a) z vs xs r m h = (vs, refl, m)
+refine-gives vars (num a) z vs xs r m h = to-gives vs xs m
 refine-gives vars (var k) z vs xs r m h =
-    some-gives (in-range vars k z) (set vs k (known z)) xs (subst (λ (y : ℤ). T (in-range vars k y)) h (ranged-get vars xs k r)) (matches-learn vs xs k z m h)
+    test-gives (in-range vars k z) (set vs k (known z)) xs (subst (λ (y : ℤ). T (in-range vars k y)) h (ranged-get vars xs k r)) (matches-learn vs xs k z m h)
 
 one-known-gives : (vars : List Var) (r : Rel) (a : Operand) (x y z : ℤ) (vs : List Value) (xs : List ℤ) → Ranged vars xs → Matches vs xs → T (holds r x y) → (x ≡ y → value a xs ≡ z) → Gives (one-known vars r a z vs) xs
-unfolding Gives
 one-known-gives vars eq a x y z vs xs r m t f = refine-gives vars a z vs xs r m (f (eqZ-same x y t))
-one-known-gives vars ne a x y z vs xs r m t f = (vs, refl, m)
-one-known-gives vars lt a x y z vs xs r m t f = (vs, refl, m)
-one-known-gives vars le a x y z vs xs r m t f = (vs, refl, m)
-one-known-gives vars gt a x y z vs xs r m t f = (vs, refl, m)
-one-known-gives vars ge a x y z vs xs r m t f = (vs, refl, m)
+one-known-gives vars ne a x y z vs xs r m t f = to-gives vs xs m
+one-known-gives vars lt a x y z vs xs r m t f = to-gives vs xs m
+one-known-gives vars le a x y z vs xs r m t f = to-gives vs xs m
+one-known-gives vars gt a x y z vs xs r m t f = to-gives vs xs m
+one-known-gives vars ge a x y z vs xs r m t f = to-gives vs xs m
 
 tested-gives : (vars : List Var) (r : Rel) (a b : Operand) (v w : Value) (vs : List Value) (xs : List ℤ) → Ranged vars xs → Matches vs xs → Matches₁ v (value a xs) → Matches₁ w (value b xs) → T (holds r (value a xs) (value b xs)) → Gives (tested vars r a b v w vs) xs
-unfolding Gives
-tested-gives vars r a b (known x) (known y) vs xs g m p q t = some-gives (holds r x y) vs xs (rw (p, q) t) m
+tested-gives vars r a b (known x) (known y) vs xs g m p q t = test-gives (holds r x y) vs xs (rw (p, q) t) m
 tested-gives vars r a b (known x) top vs xs g m p q t = one-known-gives vars r b (value a xs) (value b xs) x vs xs g m t (λ h. sym h ∙ sym p)
 tested-gives vars r a b top (known y) vs xs g m p q t = one-known-gives vars r a (value a xs) (value b xs) y vs xs g m t (λ h. h ∙ sym q)
-tested-gives vars r a b top top vs xs g m p q t = (vs, refl, m)
+tested-gives vars r a b top top vs xs g m p q t = to-gives vs xs m
 
-pub effect-gives : (vars : List Var) (o : Op) (vs : List Value) (xs ys : List ℤ) → Ranged vars xs → Ranged vars ys → Matches vs xs → Becomes o xs ys → (us : List Value) × (effect vars o vs ≡ some us) × Matches us ys
+pub effect-gives : (vars : List Var) (o : Op) (vs : List Value) (xs ys : List ℤ) → Ranged vars xs → Matches vs xs → Becomes o xs ys → (effect vars o vs ≡ fault) ⊎ ((us : List Value) × (effect vars o vs ≡ to us) × Matches us ys)
 unfolding Gives
-effect-gives vars (assign v a) vs xs ys r q m b =
-    rw b (assign-gives vars v (operand-value a vs) vs xs (value a xs) r (rw b at q) m (known-matches a vs xs m))
-effect-gives vars (add v a b) vs xs ys r q m h =
-    rw h (assign-gives vars v (both _+ℤ_ (operand-value a vs) (operand-value b vs)) vs xs (value a xs +ℤ value b xs) r (rw h at q) m (both-matches _+ℤ_ (operand-value a vs) (operand-value b vs) (value a xs) (value b xs) (known-matches a vs xs m) (known-matches b vs xs m)))
-effect-gives vars (sub v a b) vs xs ys r q m h =
-    rw h (assign-gives vars v (both _-ℤ_ (operand-value a vs) (operand-value b vs)) vs xs (value a xs -ℤ value b xs) r (rw h at q) m (both-matches _-ℤ_ (operand-value a vs) (operand-value b vs) (value a xs) (value b xs) (known-matches a vs xs m) (known-matches b vs xs m)))
-effect-gives vars (input v p u) vs xs ys r q m h =
-    (set vs v (one-of p u), refl, rw (h .2) (matches-set vs xs v (one-of p u) (h .0) m (one-of-matches p u (h .0) (eqZ p u) refl (h .1))))
-effect-gives vars (assume v t a) vs xs ys r q m h =
+effect-gives vars (assign v a) vs xs ys r m b =
+    rw b (assign-gives vars v (operand-span vars a vs) (operand-value a vs) vs xs (value a xs) m (known-matches a vs xs m))
+effect-gives vars (add v a b) vs xs ys r m h =
+    rw h (assign-gives vars v (sums (operand-span vars a vs) (operand-span vars b vs)) (both _+ℤ_ (operand-value a vs) (operand-value b vs)) vs xs (value a xs +ℤ value b xs) m (both-matches _+ℤ_ (operand-value a vs) (operand-value b vs) (value a xs) (value b xs) (known-matches a vs xs m) (known-matches b vs xs m)))
+effect-gives vars (sub v a b) vs xs ys r m h =
+    rw h (assign-gives vars v (differences (operand-span vars a vs) (operand-span vars b vs)) (both _-ℤ_ (operand-value a vs) (operand-value b vs)) vs xs (value a xs -ℤ value b xs) m (both-matches _-ℤ_ (operand-value a vs) (operand-value b vs) (value a xs) (value b xs) (known-matches a vs xs m) (known-matches b vs xs m)))
+effect-gives vars (input v p u) vs xs ys r m h =
+    rw (h .2) (to-gives (set vs v (one-of p u)) (set xs v (h .0)) (matches-set vs xs v (one-of p u) (h .0) m (one-of-matches p u (h .0) (eqZ p u) refl (h .1))))
+effect-gives vars (assume v t a) vs xs ys r m h =
     rw (h .1) (tested-gives vars t (var v) a (operand-value (var v) vs) (operand-value a vs) vs xs r m (known-matches (var v) vs xs m) (known-matches a vs xs m) (h .0))
-effect-gives vars skip vs xs ys r q m h = (vs, refl, rw h m)
+effect-gives vars skip vs xs ys r m h = rw h (to-gives vs xs m)
 
 -- ---- what the moves keep
 
 -- P of the values, where there are any
-Whenever : (List Value → Type 0) → Option (List Value) → Type 0
-Whenever P none = Unit
-Whenever P (some us) = P us
+Whenever : (List Value → Type 0) → Step (List Value) → Type 0
+Whenever P halt = Unit
+Whenever P fault = Unit
+Whenever P (to us) = P us
+
+-- a known value is all that its span has
+abbrev pub Spans : Span → Value → Type 0
+Spans r (known z) = r ≡ only z
+Spans r top = Unit
+
+pub spans-operand : (vars : List Var) (a : Operand) (vs : List Value) → Spans (operand-span vars a vs) (operand-value a vs)
+spans-operand vars (num z) vs = refl
+spans-operand vars (var k) vs = go (operand-value (var k) vs)
+  where
+    go : (v : Value) → Spans (value-span vars k v) v
+    go (known z) = refl
+    go top = tt
+
+pub spans-sums : (a b : Span) (v w : Value) → Spans a v → Spans b w → Spans (sums a b) (both _+ℤ_ v w)
+spans-sums a b (known x) (known y) h k = λ i. sums (h i) (k i)
+spans-sums a b (known x) top h k = tt
+spans-sums a b top (known y) h k = tt
+spans-sums a b top top h k = tt
+
+pub spans-differences : (a b : Span) (v w : Value) → Spans a v → Spans b w → Spans (differences a b) (both _-ℤ_ v w)
+spans-differences a b (known x) (known y) h k = λ i. differences (h i) (k i)
+spans-differences a b (known x) top h k = tt
+spans-differences a b top (known y) h k = tt
+spans-differences a b top top h k = tt
 
 -- P is kept by a new value at variable k that is Ok there, as each number of k's range and top are
 module _ (c : Chart) (P : List Value → Type 0) (Ok : ℕ → Value → Type 0) (known-ok : (k : ℕ) (z : ℤ) → T (in-range (c .vars) k z) → Ok k (known z)) (top-ok : (k : ℕ) → Ok k top)
     (set-keeps : (k : ℕ) (v : Value) (vs : List Value) → Ok k v → P vs → P (set vs k v)) where
-  some-keeps : (b : Bool) (us : List Value) → (T b → P us) → Whenever P (pick b (some us) none)
+  test-keeps : (b : Bool) (us : List Value) → (T b → P us) → Whenever P (pick b (to us) halt)
   unfolding Whenever
-  some-keeps true us h = h tt
-  some-keeps false us h = tt
+  test-keeps true us h = h tt
+  test-keeps false us h = tt
 
-  assign-keeps : (k : ℕ) (v : Value) (vs : List Value) → P vs → Whenever P (assign-value (c .vars) k v vs)
+  assign-keeps : (k : ℕ) (r : Span) (v : Value) (vs : List Value) → Spans r v → P vs → Whenever P (assign-value (c .vars) k r v vs)
   unfolding Whenever
-  assign-keeps k (known z) vs h = some-keeps (in-range (c .vars) k z) (set vs k (known z)) (λ t. set-keeps k (known z) vs (known-ok k z t) h)
-  assign-keeps k top vs h = set-keeps k top vs (top-ok k) h
+  assign-keeps k r v vs q h = go (span-in-range (c .vars) k r) refl
+    where
+      fits : (w : Value) → Spans r w → T (span-in-range (c .vars) k r) → Ok k w
+      fits (known z) e t = known-ok k z (subst (λ (x : Span). T (in-range (c .vars) k (x .low))) e (and-left (in-range (c .vars) k (r .low)) (in-range (c .vars) k (r .high)) t))
+      fits top e t = top-ok k
+
+      go : (b : Bool) → span-in-range (c .vars) k r ≡ b → Whenever P (pick b (to (set vs k v)) fault)
+      go true e = set-keeps k v vs (fits v q (from-true e)) h
+      go false e = tt
 
   one-known-keeps : (r : Rel) (a : Operand) (z : ℤ) (vs : List Value) → P vs → Whenever P (one-known (c .vars) r a z vs)
   unfolding Whenever
   one-known-keeps eq (num a) z vs h = h
-  one-known-keeps eq (var k) z vs h = assign-keeps k (known z) vs h
+  one-known-keeps eq (var k) z vs h = test-keeps (in-range (c .vars) k z) (set vs k (known z)) (λ t. set-keeps k (known z) vs (known-ok k z t) h)
   one-known-keeps ne a z vs h = h
   one-known-keeps lt a z vs h = h
   one-known-keeps le a z vs h = h
@@ -210,7 +320,7 @@ module _ (c : Chart) (P : List Value → Type 0) (Ok : ℕ → Value → Type 0)
 
   tested-keeps : (r : Rel) (a b : Operand) (v w : Value) (vs : List Value) → P vs → Whenever P (tested (c .vars) r a b v w vs)
   unfolding Whenever
-  tested-keeps r a b (known x) (known y) vs h = some-keeps (holds r x y) vs (λ t. h)
+  tested-keeps r a b (known x) (known y) vs h = test-keeps (holds r x y) vs (λ t. h)
   tested-keeps r a b (known x) top vs h = one-known-keeps r b x vs h
   tested-keeps r a b top (known y) vs h = one-known-keeps r a y vs h
   tested-keeps r a b top top vs h = h
@@ -221,9 +331,13 @@ module _ (c : Chart) (P : List Value → Type 0) (Ok : ℕ → Value → Type 0)
 
   effect-keeps : (o : Op) (vs : List Value) → InputOk o → P vs → Whenever P (effect (c .vars) o vs)
   unfolding Whenever
-  effect-keeps (assign v a) vs i h = assign-keeps v (operand-value a vs) vs h
-  effect-keeps (add v a b) vs i h = assign-keeps v (both _+ℤ_ (operand-value a vs) (operand-value b vs)) vs h
-  effect-keeps (sub v a b) vs i h = assign-keeps v (both _-ℤ_ (operand-value a vs) (operand-value b vs)) vs h
+  effect-keeps (assign v a) vs i h = assign-keeps v (operand-span (c .vars) a vs) (operand-value a vs) vs (spans-operand (c .vars) a vs) h
+  effect-keeps (add v a b) vs i h =
+      assign-keeps v (sums (operand-span (c .vars) a vs) (operand-span (c .vars) b vs)) (both _+ℤ_ (operand-value a vs) (operand-value b vs)) vs
+      (spans-sums (operand-span (c .vars) a vs) (operand-span (c .vars) b vs) (operand-value a vs) (operand-value b vs) (spans-operand (c .vars) a vs) (spans-operand (c .vars) b vs)) h
+  effect-keeps (sub v a b) vs i h =
+      assign-keeps v (differences (operand-span (c .vars) a vs) (operand-span (c .vars) b vs)) (both _-ℤ_ (operand-value a vs) (operand-value b vs)) vs
+      (spans-differences (operand-span (c .vars) a vs) (operand-span (c .vars) b vs) (operand-value a vs) (operand-value b vs) (spans-operand (c .vars) a vs) (spans-operand (c .vars) b vs)) h
   effect-keeps (input v p q) vs i h = set-keeps v (one-of p q) vs (i v p q refl) h
   effect-keeps (assume v r a) vs i h = tested-keeps r (var v) a (operand-value (var v) vs) (operand-value a vs) vs h
   effect-keeps skip vs i h = h
@@ -233,9 +347,10 @@ module _ (c : Chart) (P : List Value → Type 0) (Ok : ℕ → Value → Type 0)
   unfolding post Whenever
   post-keeps g e f i h p = go (eqb (g .from) (e .loc)) p
     where
-      ends : (o : Option (List Value)) → Whenever P o → arrive-at (g .to) o ≡ to f → (g .to ≡ f .loc) × P (f .vals)
-      ends none k q = absurd (halt-to refl q)
-      ends (some us) k q =
+      ends : (o : Step (List Value)) → Whenever P o → arrive-at (g .to) o ≡ to f → (g .to ≡ f .loc) × P (f .vals)
+      ends halt k q = absurd (halt-to refl q)
+      ends fault k q = absurd (fault-to refl q)
+      ends (to us) k q =
           let same : _≡_ {A = AbstractState} (record { loc = g .to; vals = us }) f = cc in
           (ap (λ (x : AbstractState). x .loc) same, subst (λ (x : AbstractState). P (x .vals)) same k)
 

@@ -1,8 +1,9 @@
--- Names and laws of the logic (Prelude, Bools). Then what holds of the definitions: over any domain (to Simulate), of the constants (to Executions), of words (MemoryOf,
+-- Names and laws of the logic (Prelude, Bools, Integers). Then what holds of the definitions: over any domain (to Simulate), of the constants (to Executions), of words (MemoryOf,
 -- MemoryInForm), of a chart's text and its words (to Exactness), of the calls (to Realisable), of the program (to
--- ProgramSafe). The claims are in Verdicts, Executions, Exactness, WholeWalks, ProgramSafe and MarkedCases.
+-- ProgramSafe). The claims are in Verdicts, Overruns, Executions, Exactness, WholeWalks, ProgramSafe and MarkedCases.
 pub mod Prelude
 pub mod Bools
+pub mod Integers
 pub mod AtAndIn
 pub mod Waitlist
 pub mod Covering
@@ -13,6 +14,7 @@ pub mod Simulate
 pub mod ConstantValues
 pub mod ConstantsSound
 pub mod StatesOk
+pub mod Overruns
 pub mod Executions
 pub mod MemoryOf
 pub mod MemoryInForm

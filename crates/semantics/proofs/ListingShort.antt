@@ -12,6 +12,7 @@ use Rattle.semantics.specs.Memory.{Memory, load, analysis-ok}
 use Rattle.semantics.specs.Outcomes.{text-of}
 use Rattle.semantics.specs.Listing.{mode-text, order-text, verdict-text, loc-text, val-text, mark, slot-text, slots-text, listing-text}
 use Rattle.semantics.specs.Tidy.{Every}
+use Rattle.semantics.proofs.Integers.{leZ-trans}
 use Rattle.semantics.proofs.Bools.{and-left, and-right, both-true}
 use Rattle.semantics.proofs.MemoryOf.{counted, Proper}
 use Rattle.semantics.proofs.StatesOk.{ValOk, ValsOk, StateOk, Bounds}
@@ -24,14 +25,6 @@ pub line-size : (f : List ℕ) (gs : List (List ℕ)) → length (line-of f gs) 
 unfolding line-of
 line-size f [] = length-append f (10 ∷ [])
 line-size f (g ∷ gs) = omega (arith, length-append f (9 ∷ line-of g gs), line-size g gs)
-
-leZ-trans : (a b c : ℤ) → T (leZ a b) → T (leZ b c) → T (leZ a c)
-leZ-trans (pos a) (pos b) (pos c) s t = le→leb a c (let p = leb→le a b s in let q = leb→le b c t in omega arith)
-leZ-trans (pos a) (pos b) (negsuc c) s t = absurd t
-leZ-trans (pos a) (negsuc b) c s t = absurd s
-leZ-trans (negsuc a) b (pos c) s t = tt
-leZ-trans (negsuc a) (pos b) (negsuc c) s t = absurd t
-leZ-trans (negsuc a) (negsuc b) (negsuc c) s t = le→leb c a (let p = leb→le b a s in let q = leb→le c b t in omega arith)
 
 val-short : (v : Var) (x : Value) → T (var-ok v) → ValOk v x → length (val-text x) ≤ 6
 val-short v (known z) t h =

@@ -1,9 +1,9 @@
--- Where the program's output says `safe`, no execution of the chart in its input meets an error location. Assumes
--- nothing.
-use Rattle.semantics.proofs.Prelude.{_≡_, refl, sym, ap, _∙_, List, [], _∷_, _++_, append-nil, append-assoc, ℕ, arith, T, getD}
-use Rattle.semantics.specs.Lists.{all}
+-- Where the program's output says `safe`, no execution of the chart in its input meets an error location or overruns.
+-- Assumes nothing.
+use Rattle.semantics.proofs.Prelude.{_≡_, refl, sym, ap, _∙_, subst, inl, inr, List, [], _∷_, _++_, append-nil, append-assoc, ℕ, suc, arith, T, getD}
+use Rattle.semantics.specs.Lists.{In, all}
 use Rattle.semantics.specs.Text.{bytes, decimal, fields, line-of}
-use Rattle.semantics.specs.Chart.{Chart}
+use Rattle.semantics.specs.Chart.{Edge, Numbered, number-from, Chart, Overruns}
 use Rattle.semantics.specs.Reading.{Res, fail, ok, nth, Reading, refused, accepted, read}
 use Rattle.semantics.specs.Algorithm.{Mode, Sep, Join, Order, Old, New, Verdict, Open, Safe, Alarm, Full, Exploration}
 use Rattle.semantics.specs.Constants.{AbstractState, Covers, constants}
@@ -99,6 +99,12 @@ refused-none n l e =
 
 -- ---- the promise
 
+-- an edge of the chart is one of its edges with their numbers
+in-numbered : (n : ℕ) (gs : List Edge) (g : Edge) → In g gs → (h : Numbered) × In h (number-from n gs) × (h .edge ≡ g)
+in-numbered n [] g i = absurd i
+in-numbered n (h ∷ gs) g (inl p) = (record { no = n; edge = h }, inl refl, sym p)
+in-numbered n (h ∷ gs) g (inr i) = let r = in-numbered (suc n) gs g i in (r .0, inr (r .1), r .2)
+
 pub program-safe : ProgramSafe
 unfolding output
 program-safe input = by-go (go-line input) refl
@@ -111,7 +117,13 @@ program-safe input = by-go (go-line input) refl
     by-read g h (accepted c) e v =
         let good = explored-good c (in-bounds text c e) g h in
         let safe = says-safe (explored c g .verdict) (sym (header-verdict c (explored c g)) ∙ v) in
-        record { chart = c; reads = e; safe = covering (system c) (constants c) (Fit c) (Covers c) (laws c) (explored c g) (good .held) .safe-good safe }
+        let all = covering (system c) (constants c) (Fit c) (Covers c) (laws c) (explored c g) (good .held) in
+        record {
+          chart = c;
+          reads = e;
+          safe = all .safe-good safe;
+          no-overrun = λ ss r j s a h i. let n = in-numbered 1 (c .edges) h i in λ o. all .safe-faultless safe ss r j s a (n .0) (n .1) (subst (λ (x : Edge). Overruns c x s) (sym (n .2)) o);
+        }
 
     by-go : (r : Res Go) → go-line input ≡ r → verdict-field (print-go r text) ≡ bytes "safe" → ChartSafe text
     by-go (fail n) e v = absurd (refused-none n 0 v)

@@ -1,6 +1,6 @@
 -- The rows of words, with the transfer by the encoded chart, agree with the abstract states of the chart.
 -- Assumes nothing.
-use Rattle.semantics.proofs.Prelude.{_≡_, refl, sym, ap, subst, _∙_, Bool, true, false, _&&_, List, [], _∷_, _++_, map, Option, none, some, ℕ, suc, _+_, _<_, zero-add, arith, T, eqb, eqb-refl, ltb→lt, ℤ, pos, natAbs, length, drop}
+use Rattle.semantics.proofs.Prelude.{_≡_, refl, sym, ap, subst, _∙_, Bool, true, false, _&&_, List, [], _∷_, _++_, map, ℕ, suc, _+_, _<_, zero-add, arith, T, eqb, eqb-refl, ltb→lt, ℤ, pos, natAbs, length, drop}
 use Rattle.semantics.specs.Layout.{top-word, from-place, to-place}
 use Rattle.semantics.specs.Lists.{At, pick, all, all-pairs}
 use Rattle.semantics.specs.Chart.{Value, known, top, Edge, Numbered, number-from, numbered, Chart, eqZ, error-location}
@@ -133,9 +133,10 @@ row-of halt = halt
 row-of fault = fault
 row-of (to f) = to (row f)
 
-arrive-is : (n : ℕ) (o : Option (List Value)) → row-step (pos n) o ≡ row-of (arrive-at n o)
-arrive-is n none = refl
-arrive-is n (some xs) = refl
+arrive-is : (n : ℕ) (o : Step (List Value)) → row-step (pos n) o ≡ row-of (arrive-at n o)
+arrive-is n halt = refl
+arrive-is n fault = refl
+arrive-is n (to xs) = refl
 
 step-R : (c : Chart) (s : Step AbstractState) → ((f : AbstractState) → s ≡ to f → StateOk c f) → StepR (Says c) (row-of s) s
 step-R c halt k = tt

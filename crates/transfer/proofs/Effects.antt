@@ -1,18 +1,22 @@
 -- The effect of an operation on a row's words is its effect on the values that they say. Assumes nothing.
-use Rattle.semantics.proofs.Prelude.{_≡_, refl, sym, ap, _∙_, Bool, true, false, _||_, List, [], _∷_, _++_, map, Option, none, some, ℕ, zero, suc, _+_, _<_, add-one, arith, T, ltb→lt, ℤ, pos, natAbs, _+ℤ_, _-ℤ_, length, getD, set, List·getD-map}
+use Rattle.semantics.proofs.Prelude.{_≡_, refl, sym, ap, _∙_, Bool, true, false, _&&_, _||_, List, [], _∷_, _++_, map, ℕ, zero, suc, _+_, _<_, add-one, arith, T, ltb→lt, ℤ, pos, natAbs, _+ℤ_, _-ℤ_, length, getD, set, List·getD-map}
+use Rattle.semantics.specs.declared.Span.{Span}
+use Rattle.semantics.specs.declared.Arithmetic.{Arithmetic}
+use Rattle.semantics.specs.declared.Arithmetic.the-variants.{Add, Sub}
 use Rattle.semantics.specs.Layout.{top-word, edge-size, operation-place, target-place, first-tag-place, first-value-place, second-tag-place, second-value-place, add-code, sub-code}
 use Rattle.semantics.specs.Lists.{pick, all}
 use Rattle.semantics.specs.Chart.{Value, known, top, Var, Operand, num, var, Rel, eq, ne, lt, le, gt, ge, Op, assign, add, sub, input, assume, skip, Chart, eqZ, holds, in-range}
-use Rattle.semantics.specs.Algorithm.{Step, halt, to}
-use Rattle.semantics.specs.Constants.{operand-value, both, assign-value, one-of, one-known, tested, effect}
+use Rattle.semantics.specs.Algorithm.{Step, halt, fault, to}
+use Rattle.semantics.specs.Constants.{operand-value, both, value-span, operand-span, span-in-range, assign-value, one-of, refine, one-known, tested, effect}
 use Rattle.semantics.specs.Encoding.{word, word-at, tag, operand-word, rel-code, op-words, encode, count, var-ok, operand-ok, op-ok, chart-ok}
 use Rattle.semantics.proofs.Bools.{and-left, and-right}
+use Rattle.semantics.proofs.ConstantValues.{Spans, spans-operand, spans-sums, spans-differences}
 use Rattle.semantics.proofs.StatesOk.{ValOk, ValsOk}
 use Rattle.semantics.proofs.MemoryOf.{small-not-top, known-not-top}
 use Rattle.words.proofs.Words.{eqZ-true}
 use Rattle.state.specs.Rows.{value-at, with-value, word-join}
-use Rattle.transfer.specs.Transfer.{operand-by, assign-ranged, assign-or-top, assign-at, assign-result, both-at, input-at, holds-by, refine-by, tested-by, assume-at, op-by}
-use Rattle.transfer.proofs.Places.{range-is}
+use Rattle.transfer.specs.Transfer.{results-by, operand-by, span-at, assign-result, assign-at, compute-at, input-at, holds-by, assign-ranged, refine-by, tested-by, assume-at, op-by}
+use Rattle.transfer.proofs.Places.{declared-is, range-is}
 
 -- a value whose word is top's only where it is top
 abbrev pub Writable : Value → Type 0
@@ -44,14 +48,26 @@ map-set [] k x = refl
 map-set (y ∷ ys) zero x = refl
 map-set (y ∷ ys) (suc k) x = ap (λ (l : List ℤ). word y ∷ l) (map-set ys k x)
 
--- the row of location word l that an outcome says
-abbrev pub row-step : ℤ → Option (List Value) → Step (List ℤ)
-row-step l none = halt
-row-step l (some xs) = to (l ∷ map word xs)
+-- the row of location word l that an operation's step says
+abbrev pub row-step : ℤ → Step (List Value) → Step (List ℤ)
+row-step l halt = halt
+row-step l fault = fault
+row-step l (to xs) = to (l ∷ map word xs)
 
-row-step-pick : (l : ℤ) (t : Bool) (xs : List Value) → pick t (to (l ∷ map word xs)) halt ≡ row-step l (pick t (some xs) none)
-row-step-pick l true xs = refl
-row-step-pick l false xs = refl
+row-step-pick : (l : ℤ) (t : Bool) (xs : List Value) (o : Step (List Value)) → pick t (to (l ∷ map word xs)) (row-step l o) ≡ row-step l (pick t (to xs) o)
+row-step-pick l true xs o = refl
+row-step-pick l false xs o = refl
+
+-- the word that a result becomes: top's, or the one number of its span
+set-to : (r : Span) (x : Value) → Spans r x → Writable x → pick (eqZ (word x) top-word) top-word (r .low) ≡ word x
+set-to r (known z) h p = rw p (ap (λ (s : Span). s .low) h)
+set-to r top h p = refl
+
+both-set-to : (f : ℤ → ℤ → ℤ) (r : Span) (x y : Value) → Spans r (both f x y) → Writable x → Writable y → pick (eqZ (word x) top-word || eqZ (word y) top-word) top-word (r .low) ≡ word (both f x y)
+both-set-to f r (known a) (known b) h p q = rw (p, q) (ap (λ (s : Span). s .low) h)
+both-set-to f r (known a) top h p q = rw p
+both-set-to f r top (known b) h p q = refl
+both-set-to f r top top h p q = refl
 
 module _ (c : Chart) (ok : T (chart-ok c)) (rest : List ℤ) (l : ℤ) (xs : List Value) (plain : AllPlain xs) where
   abbrev ws : List ℤ
@@ -66,27 +82,17 @@ module _ (c : Chart) (ok : T (chart-ok c)) (rest : List ℤ) (l : ℤ) (xs : Lis
   set-word : (k : ℕ) (x : Value) → with-value e k (word x) ≡ l ∷ map word (set xs k x)
   set-word k x = rw (add-one k) (ap (λ (m : List ℤ). l ∷ m) (map-set xs k x))
 
-  assign-ranged-is : (k : ℕ) (z : ℤ) → k < length (c .vars) → assign-ranged ws k z e ≡ row-step l (assign-value (c .vars) k (known z) xs)
+  assign-ranged-is : (k : ℕ) (z : ℤ) → k < length (c .vars) → assign-ranged ws k z e ≡ row-step l (refine (c .vars) (var k) z xs)
   unfolding assign-ranged
-  assign-ranged-is k z h = (λ i. pick (range-is c ok rest k z h i) (to (set-word k (known z) i)) halt) ∙ row-step-pick l (in-range (c .vars) k z) (set xs k (known z))
+  assign-ranged-is k z h = (λ i. pick (range-is c ok rest k z h i) (to (set-word k (known z) i)) halt) ∙ row-step-pick l (in-range (c .vars) k z) (set xs k (known z)) halt
 
-  top-is : (k : ℕ) → to (with-value e k top-word) ≡ row-step l (some (set xs k top))
-  top-is k = ap to (set-word k top)
+  assign-is : (k : ℕ) (r : Span) (t : Bool) (x : Value) → k < length (c .vars) → pick t top-word (r .low) ≡ word x → assign-result ws k t r e ≡ row-step l (assign-value (c .vars) k r x xs)
+  unfolding assign-result
+  assign-is k r t x h q =
+      (λ i. pick (range-is c ok rest k (r .low) h i && range-is c ok rest k (r .high) h i) (to ((ap (with-value e k) q ∙ set-word k x) i)) fault)
+      ∙ row-step-pick l (span-in-range (c .vars) k r) (set xs k x) fault
 
-  assign-is : (k : ℕ) (x : Value) → k < length (c .vars) → Writable x → assign-or-top ws k (eqZ (word x) top-word) (word x) e ≡ row-step l (assign-value (c .vars) k x xs)
-  unfolding assign-or-top
-  assign-is k (known z) h p = rw p (assign-ranged-is k z h)
-  assign-is k top h p = top-is k
-
-  both-is : (f : ℤ → ℤ → ℤ) (k : ℕ) (x y : Value) → k < length (c .vars) → Writable x → Writable y
-      → assign-or-top ws k (eqZ (word x) top-word || eqZ (word y) top-word) (f (word x) (word y)) e ≡ row-step l (assign-value (c .vars) k (both f x y) xs)
-  unfolding assign-or-top
-  both-is f k (known a) (known b) h p q = rw (p, q) (assign-ranged-is k (f a b) h)
-  both-is f k (known a) top h p q = rw p (top-is k)
-  both-is f k top (known b) h p q = top-is k
-  both-is f k top top h p q = top-is k
-
-  join-is : (k : ℕ) (p q : ℤ) → to (with-value e k (word-join p q)) ≡ row-step l (some (set xs k (one-of p q)))
+  join-is : (k : ℕ) (p q : ℤ) → to (with-value e k (word-join p q)) ≡ row-step l (to (set xs k (one-of p q)))
   join-is k p q = ap (λ (z : ℤ). to (with-value e k z)) (go (eqZ p q) refl) ∙ ap to (set-word k (one-of p q))
     where
       go : (t : Bool) → eqZ p q ≡ t → pick t q top-word ≡ word (pick t (known p) top)
@@ -126,7 +132,7 @@ module _ (c : Chart) (ok : T (chart-ok c)) (rest : List ℤ) (l : ℤ) (xs : Lis
   tested-is : (r : Rel) (k : ℕ) (a : Operand) (x y : Value) → k < length (c .vars) → T (operand-ok (c .vars) a) → Writable x → Writable y → Sided a y
       → tested-by ws (rel-code r) k (natAbs (operand-word a)) (word x) (word y) e ≡ row-step l (tested (c .vars) r (var k) a x y xs)
   unfolding tested-by
-  tested-is r k a (known x) (known y) h o p q s = rw (p, q, holds-is r x y) (row-step-pick l (holds r x y) xs)
+  tested-is r k a (known x) (known y) h o p q s = rw (p, q, holds-is r x y) (row-step-pick l (holds r x y) xs halt)
   tested-is r k (num z) (known x) top h o p q s = absurd s
   tested-is r k (var j) (known x) top h o p q s = rw p (refine-is r j x (ltb→lt j (length (c .vars)) o) p)
   tested-is r k a top (known y) h o p q s = refine-is r k y h q
@@ -146,21 +152,36 @@ module _ (c : Chart) (ok : T (chart-ok c)) (rest : List ℤ) (l : ℤ) (xs : Lis
   operand-is (num z) = refl
   operand-is (var k) = get-word k
 
+  span-is : (a : Operand) → T (operand-ok (c .vars) a) → span-at ws (natAbs (operand-word a)) (word (operand-value a xs)) ≡ operand-span (c .vars) a xs
+  span-is (num z) o = rw (small-not-top z o)
+  span-is (var k) o = go (operand-value (var k) xs) (get-plain xs k plain)
+    where
+      go : (v : Value) → Writable v → span-at ws k (word v) ≡ value-span (c .vars) k v
+      go (known z) p = rw p
+      go top p = declared-is c ok rest k (ltb→lt k (length (c .vars)) o)
+
   -- ---- the operations: the edge's words, from i on, are two for its locations and six for its operation
   module _ (i : ℕ) (from goal : ℤ) where
     abbrev pub Reads : Op → Type 0
     Reads o = (j : ℕ) → j < edge-size → word-at ws (i + j) ≡ getD (from ∷ goal ∷ op-words o) j (pos 0)
 
     -- add and sub, by their code
-    both-effect : (f : ℤ → ℤ → ℤ) (n v : ℕ) (a b : Operand) → T (op-ok (c .vars) (add v a b))
+    compute-is : (s : Arithmetic) (f : ℤ → ℤ → ℤ) → ((a b : Span) (v w : Value) → Spans a v → Spans b w → Spans (results-by s a b) (both f v w))
+        → (n v : ℕ) (a b : Operand) → T (op-ok (c .vars) (add v a b))
         → ((j : ℕ) → j < edge-size → word-at ws (i + j) ≡ getD (from ∷ goal ∷ pos n ∷ pos v ∷ tag a ∷ operand-word a ∷ tag b ∷ operand-word b ∷ []) j (pos 0))
-        → both-at f ws i e ≡ row-step l (assign-value (c .vars) v (both f (operand-value a xs) (operand-value b xs)) xs)
-    unfolding both-at assign-result
-    both-effect f n v a b t r =
+        → compute-at s ws i e ≡ row-step l (assign-value (c .vars) v (results-by s (operand-span (c .vars) a xs) (operand-span (c .vars) b xs)) (both f (operand-value a xs) (operand-value b xs)) xs)
+    unfolding compute-at
+    compute-is s f spans n v a b t r =
         let k : v < length (c .vars) = ltb→lt v (length (c .vars)) (search (and-left, and-right)) in
         let u : T (operand-ok (c .vars) a) = search (and-left, and-right) in
         let w : T (operand-ok (c .vars) b) = search (and-left, and-right) in
-        rw (r target-place (omega arith), r first-tag-place (omega arith), r first-value-place (omega arith), r second-tag-place (omega arith), r second-value-place (omega arith), operand-is a, operand-is b) (both-is f v (operand-value a xs) (operand-value b xs) k (operand-plain a u) (operand-plain b w))
+        let x = operand-value a xs in
+        let y = operand-value b xs in
+        let p = operand-span (c .vars) a xs in
+        let q = operand-span (c .vars) b xs in
+        rw (r target-place (omega arith), r first-tag-place (omega arith), r first-value-place (omega arith), r second-tag-place (omega arith), r second-value-place (omega arith), operand-is a, operand-is b, span-is a u, span-is b w)
+        (assign-is v (results-by s p q) (eqZ (word x) top-word || eqZ (word y) top-word) (both f x y) k
+        (both-set-to f (results-by s p q) x y (spans p q x y (spans-operand (c .vars) a xs) (spans-operand (c .vars) b xs)) (operand-plain a u) (operand-plain b w)))
 
     pub effect-is : (o : Op) → T (op-ok (c .vars) o) → Reads o → op-by (count ws (i + operation-place)) ws i e ≡ row-step l (effect (c .vars) o xs)
     unfolding op-by assign-at input-at assume-at
@@ -168,9 +189,12 @@ module _ (c : Chart) (ok : T (chart-ok c)) (rest : List ℤ) (l : ℤ) (xs : Lis
     effect-is (assign v a) t r =
         let k : v < length (c .vars) = ltb→lt v (length (c .vars)) (search (and-left, and-right)) in
         let u : T (operand-ok (c .vars) a) = search (and-left, and-right) in
-        rw (r operation-place (omega arith), r target-place (omega arith), r first-tag-place (omega arith), r first-value-place (omega arith), operand-is a) (assign-is v (operand-value a xs) k (operand-plain a u))
-    effect-is (add v a b) t r = rw (r operation-place (omega arith)) (both-effect _+ℤ_ add-code v a b t r)
-    effect-is (sub v a b) t r = rw (r operation-place (omega arith)) (both-effect _-ℤ_ sub-code v a b t r)
+        let x = operand-value a xs in
+        let p = operand-span (c .vars) a xs in
+        rw (r operation-place (omega arith), r target-place (omega arith), r first-tag-place (omega arith), r first-value-place (omega arith), operand-is a, span-is a u)
+        (assign-is v p (eqZ (word x) top-word) x k (set-to p x (spans-operand (c .vars) a xs) (operand-plain a u)))
+    effect-is (add v a b) t r = rw (r operation-place (omega arith)) (compute-is Add _+ℤ_ spans-sums add-code v a b t r)
+    effect-is (sub v a b) t r = rw (r operation-place (omega arith)) (compute-is Sub _-ℤ_ spans-differences sub-code v a b t r)
     effect-is (input v p q) t r = rw (r operation-place (omega arith), r target-place (omega arith), r first-value-place (omega arith), r second-value-place (omega arith)) (join-is v p q)
     effect-is (assume v g a) t r =
         let k : v < length (c .vars) = ltb→lt v (length (c .vars)) (search (and-left, and-right)) in

@@ -4,13 +4,17 @@ use mathlib.Core.Bool.{Bool, true, _&&_, _||_, not}
 use mathlib.Core.List.{List, [], _∷_}
 use Prim.Native.Nat.{ℕ, zero, suc, _+_, _*_}
 use lib.Dec.{eqb}
-use lib.IntN.{ℤ, pos, natAbs, _+ℤ_, _-ℤ_}
+use lib.IntN.{ℤ, pos, natAbs}
 use lib.Signed.{leZ, ltZ}
+use mir.Syntax.{w32}
+use mir.Val.{SFits}
 use Rattle.semantics.specs.declared.Arithmetic.{Arithmetic}
 use Rattle.semantics.specs.declared.Arithmetic.the-variants.{Add, Sub}
 use Rattle.semantics.specs.Lists.{pick}
 use Rattle.semantics.specs.Chart.{eqZ, within}
 use Rattle.semantics.specs.Algorithm.{Step, halt, fault, to}
+use Rattle.semantics.specs.declared.Span.{Span}
+use Rattle.semantics.specs.Constants.{only, sums, differences}
 use Rattle.semantics.specs.Layout.{top-word, variable-size, location-size, edge-size, variable-at, high-place, init-place, to-place, operation-place, target-place, first-tag-place, first-value-place, second-tag-place, second-value-place, skip-code, set-code, add-code, sub-code, in-code, eq-code, ne-code, lt-code, le-code, gt-code, number-tag}
 use Rattle.semantics.specs.Encoding.{word-at, count, kind-word, variable-count}
 use Rattle.state.specs.Rows.{location-in, row-at, value-at, with-location, with-value, word-join}
@@ -37,22 +41,31 @@ edges-from g (suc n) = g ∷ edges-from (suc g) n
 
 -- ---- values
 
--- what an operation makes of two numbers
-abbrev pub result-by : Arithmetic → ℤ → ℤ → ℤ
-result-by Add a b = a +ℤ b
-result-by Sub a b = a -ℤ b
+-- both ends are words
+abbrev pub Narrow : Span → Type 0
+Narrow r = SFits w32 (r .low) × SFits w32 (r .high)
+
+-- what an operation makes of a number of each, "the two taken independently"
+abbrev pub results-by : Arithmetic → Span → Span → Span
+results-by Add a b = sums a b
+results-by Sub a b = differences a b
+
+-- z lies in the range of variable k
+abbrev pub in-range-at : List ℤ → ℕ → ℤ → Bool
+in-range-at c k z = within (word-at c (variable-at k)) (word-at c (variable-at k + high-place)) z
 
 -- an operand by its tag and its own word: a number, or the word of a variable
 abbrev pub operand-by : ℤ → ℤ → List ℤ → ℤ
 operand-by tag z e = pick (eqZ tag number-tag) z (value-at e (natAbs z))
 
--- variable k becomes z if that lies in its range
-unfoldable pub assign-ranged : List ℤ → ℕ → ℤ → List ℤ → Step (List ℤ)
-assign-ranged c k z e = pick (within (word-at c (variable-at k)) (word-at c (variable-at k + high-place)) z) (to (with-value e k z)) halt
+-- what variable k may be where its word is x: "its known value or anything in its declared range"
+abbrev pub span-at : List ℤ → ℕ → ℤ → Span
+span-at c k x = pick (eqZ x top-word) (record { low = word-at c (variable-at k); high = word-at c (variable-at k + high-place) }) (only x)
 
--- variable k becomes top, or z if that lies in its range
-unfoldable pub assign-or-top : List ℤ → ℕ → Bool → ℤ → List ℤ → Step (List ℤ)
-assign-or-top c k top z e = pick top (to (with-value e k top-word)) (assign-ranged c k z e)
+-- variable k becomes a result that may be any number of r: top, or the one number that it is. "if some result lies outside
+-- the target's range, that edge raises alarm"
+unfoldable pub assign-result : List ℤ → ℕ → Bool → Span → List ℤ → Step (List ℤ)
+assign-result c k top r e = pick (in-range-at c k (r .low) && in-range-at c k (r .high)) (to (with-value e k (pick top top-word (r .low)))) fault
 
 -- ---- the operations of the edge at i: its target, and its operands
 
@@ -68,17 +81,23 @@ first-at c i e = operand-by (word-at c (i + first-tag-place)) (word-at c (i + fi
 abbrev pub second-at : List ℤ → ℕ → List ℤ → ℤ
 second-at c i e = operand-by (word-at c (i + second-tag-place)) (word-at c (i + second-value-place)) e
 
+-- the variable that an operand at top is
+abbrev pub first-variable-at : List ℤ → ℕ → ℕ
+first-variable-at c i = count c (i + first-value-place)
+
+abbrev pub second-variable-at : List ℤ → ℕ → ℕ
+second-variable-at c i = count c (i + second-value-place)
+
 -- "`set v a`: v becomes a"
 unfoldable pub assign-at : List ℤ → ℕ → List ℤ → Step (List ℤ)
-assign-at c i e = let a = first-at c i e in assign-or-top c (target-at c i) (eqZ a top-word) a e
+assign-at c i e = let a = first-at c i e in assign-result c (target-at c i) (eqZ a top-word) (span-at c (first-variable-at c i) a) e
 
--- v becomes z, what an operation makes of the words a and b; "any unknown operand makes v unspecific"
-unfoldable pub assign-result : List ℤ → ℕ → ℤ → ℤ → ℤ → List ℤ → Step (List ℤ)
-assign-result c i a b z e = assign-or-top c (target-at c i) (eqZ a top-word || eqZ b top-word) z e
-
--- "`add v a b`: a + b", "`sub v a b`: a − b", by the operation f
-unfoldable pub both-at : (ℤ → ℤ → ℤ) → List ℤ → ℕ → List ℤ → Step (List ℤ)
-both-at f c i e = let a = first-at c i e in let b = second-at c i e in assign-result c i a b (f a b) e
+-- "`add v a b`: a + b", "`sub v a b`: a − b"; "any unknown operand makes v unspecific"
+unfoldable pub compute-at : Arithmetic → List ℤ → ℕ → List ℤ → Step (List ℤ)
+compute-at s c i e =
+    let a = first-at c i e in
+    let b = second-at c i e in
+    assign-result c (target-at c i) (eqZ a top-word || eqZ b top-word) (results-by s (span-at c (first-variable-at c i) a) (span-at c (second-variable-at c i) b)) e
 
 -- `in v p q`: "known if p = q, else unspecific"
 unfoldable pub input-at : List ℤ → ℕ → List ℤ → Step (List ℤ)
@@ -88,6 +107,10 @@ input-at c i e = to (with-value e (target-at c i) (word-join (word-at c (i + fir
 unfoldable pub holds-by : ℕ → ℤ → ℤ → Bool
 holds-by n a b =
     pick (eqb n eq-code) (eqZ a b) (pick (eqb n ne-code) (not (eqZ a b)) (pick (eqb n lt-code) (ltZ a b) (pick (eqb n le-code) (leZ a b) (pick (eqb n gt-code) (ltZ b a) (leZ b a)))))
+
+-- variable k becomes z if that lies in its range
+unfoldable pub assign-ranged : List ℤ → ℕ → ℤ → List ℤ → Step (List ℤ)
+assign-ranged c k z e = pick (in-range-at c k z) (to (with-value e k z)) halt
 
 -- a side of the relation of code n is variable k, at top; the other side is x. "With eq, one side known [..]: that
 -- variable takes the value if in its range, else no successor. Every other case passes unchanged"
@@ -101,12 +124,12 @@ tested-by c n k j x y e =
 
 -- `if v rel a`, the relation of code n
 unfoldable pub assume-at : List ℤ → ℕ → ℕ → List ℤ → Step (List ℤ)
-assume-at c n i e = tested-by c n (target-at c i) (count c (i + first-value-place)) (value-at e (target-at c i)) (first-at c i e) e
+assume-at c n i e = tested-by c n (target-at c i) (first-variable-at c i) (value-at e (target-at c i)) (first-at c i e) e
 
 -- the operation of code n
 unfoldable pub op-by : ℕ → List ℤ → ℕ → List ℤ → Step (List ℤ)
 op-by n c i e =
-    pick (eqb n skip-code) (to e) (pick (eqb n set-code) (assign-at c i e) (pick (eqb n add-code) (both-at _+ℤ_ c i e) (pick (eqb n sub-code) (both-at _-ℤ_ c i e) (pick (eqb n in-code) (input-at c i e) (assume-at c n i e)))))
+    pick (eqb n skip-code) (to e) (pick (eqb n set-code) (assign-at c i e) (pick (eqb n add-code) (compute-at Add c i e) (pick (eqb n sub-code) (compute-at Sub c i e) (pick (eqb n in-code) (input-at c i e) (assume-at c n i e)))))
 
 -- ---- the transfer
 

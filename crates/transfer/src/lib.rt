@@ -2,17 +2,20 @@
 use chart::EdgeRow;
 use semantics::Arithmetic;
 use semantics::LocationId;
+use semantics::Span;
 ghost use mathlib.Core.Path.{_≡_};
+ghost use mathlib.Core.Bool.{true};
 ghost use Prim.Native.Nat.{_+_, _<_};
 ghost use lib.ListN.{length};
-ghost use Rattle.semantics.specs.Chart.{within};
+ghost use mir.Syntax.{w32};
+ghost use mir.Val.{SFits};
 ghost use Rattle.semantics.specs.Layout.{operation-place, index-limit};
 ghost use Rattle.semantics.specs.Encoding.{count};
 ghost use Rattle.state.specs.Rows.{layout-of, width-of};
-ghost use Rattle.transfer.specs.Transfer.{step-of, result-by, operand-by, first-at, second-at, assign-ranged, assign-or-top, assign-at, assign-result, both-at, input-at, holds-by, refine-by, assume-at, op-by, post-at, error-row, initial-row};
+ghost use Rattle.transfer.specs.Transfer.{step-of, Narrow, results-by, in-range-at, operand-by, first-at, second-at, span-at, assign-result, assign-at, compute-at, input-at, holds-by, assign-ranged, refine-by, assume-at, op-by, post-at, error-row, initial-row};
 
-// What a transfer answers, as the rules' `Step`: no successor, document 01's halt among them; a fault, which comes with
-// request 2.1; or a successor, which stands in the row lent.
+// What a transfer answers, as the rules' `Step`: no successor; a fault, which is an overrun (request 2.1); or a successor,
+// which stands in the row lent.
 pub enum Move {
     Halt,
     Fault,
@@ -21,19 +24,31 @@ pub enum Move {
 
 // ---- values
 
-// What the operation makes of two numbers.
-fn result(s: Arithmetic, a: i32, b: i32) -> i64
-    ensures { λ r. ⌜ r ≡ result-by s a b ⌝ }
+// What the operation makes of a number of each, the two taken independently.
+fn results(s: Arithmetic, a: Span, b: Span) -> Span
+    requires { ⌜ Narrow a × Narrow b ⌝ }
+    ensures { λ r. ⌜ r ≡ results-by s a b ⌝ }
 {
     match s {
-        Arithmetic::Add => (a as i64) + (b as i64),
-        Arithmetic::Sub => (a as i64) - (b as i64),
+        Arithmetic::Add => Span {
+            low: a.low + b.low,
+            high: a.high + b.high,
+        },
+        Arithmetic::Sub => Span {
+            low: a.low - b.high,
+            high: a.high - b.low,
+        },
     }
 }
 
-fn lies_within(lo: i32, hi: i32, z: i64) -> bool
-    ensures { λ r. ⌜ r ≡ within lo hi z ⌝ }
+// Whether z lies in the range of variable k; if so it is a word.
+fn in_range(chart: &[i32], k: usize, z: i64) -> bool
+    requires { ⌜ k < index-limit ⌝ }
+    ensures ranged { λ r. ⌜ r ≡ in-range-at (now (chart .entry)) k z ⌝ }
+    ensures narrow { λ r. ⌜ (r ≡ true → SFits w32 z) ⌝ }
 {
+    let lo = chart::variable_low(chart, k);
+    let hi = chart::variable_high(chart, k);
     (words::wide(lo) <= z) & (z <= words::wide(hi))
 }
 
@@ -69,34 +84,45 @@ fn second_operand(chart: &[i32], edge: EdgeRow, row: &[i32]) -> i32
     operand(tag, w, row)
 }
 
-// Variable k becomes z where that lies in its range.
-fn assign_ranged(chart: &[i32], k: usize, z: i64, row: &mut [i32]) -> Move
+// What variable k may be where its word is x: that number, or at top any number of its range.
+fn span_of(chart: &[i32], k: usize, x: i32) -> Span
     requires { ⌜ k < index-limit ⌝ }
-    ensures { λ r. ⌜ step-of r (now (row .exit)) ≡ assign-ranged (now (chart .entry)) k z (now (row .entry)) ⌝ }
+    ensures span { λ r. ⌜ r ≡ span-at (now (chart .entry)) k x ⌝ }
+    ensures narrow { λ r. ⌜ Narrow r ⌝ }
 {
-    let lo = chart::variable_low(chart, k);
-    let hi = chart::variable_high(chart, k);
-    if !lies_within(lo, hi, z) {
-        return Move::Halt;
+    if x == words::TOP {
+        let lo = chart::variable_low(chart, k);
+        let hi = chart::variable_high(chart, k);
+        return Span {
+            low: words::wide(lo),
+            high: words::wide(hi),
+        };
     }
-    let x = z as i32;
-    state::set_value(row, k, x);
-    Move::Successor
+    Span {
+        low: words::wide(x),
+        high: words::wide(x),
+    }
 }
 
-// Variable k becomes top, or z where that lies in its range.
-fn assign_or_top(chart: &[i32], k: usize, top: bool, z: i64, row: &mut [i32]) -> Move
+// ---- the operations of an edge, on the row
+
+// Variable k becomes a result that may be any number of the span: top, or the one number that it is. A fault where some
+// number of the span lies outside k's range.
+fn assign_result(chart: &[i32], k: usize, top: bool, span: Span, row: &mut [i32]) -> Move
     requires { ⌜ k < index-limit ⌝ }
-    ensures { λ r. ⌜ step-of r (now (row .exit)) ≡ assign-or-top (now (chart .entry)) k top z (now (row .entry)) ⌝ }
+    ensures { λ r. ⌜ step-of r (now (row .exit)) ≡ assign-result (now (chart .entry)) k top span (now (row .entry)) ⌝ }
 {
+    if !(in_range(chart, k, span.low) & in_range(chart, k, span.high)) {
+        return Move::Fault;
+    }
     if top {
         state::set_value(row, k, words::TOP);
         return Move::Successor;
     }
-    assign_ranged(chart, k, z, row)
+    let x = span.low as i32;
+    state::set_value(row, k, x);
+    Move::Successor
 }
-
-// ---- the operations of an edge, on the row
 
 fn assign(chart: &[i32], edge: EdgeRow, row: &mut [i32]) -> Move
     requires { ⌜ edge .at < index-limit ⌝ }
@@ -104,25 +130,22 @@ fn assign(chart: &[i32], edge: EdgeRow, row: &mut [i32]) -> Move
 {
     let k = chart::edge_target(chart, edge);
     let a = first_operand(chart, edge, row);
-    assign_or_top(chart, k, a == words::TOP, words::wide(a), row)
-}
-
-// The target becomes z, what an operation makes of a and b, or top where one of them is.
-fn assign_result(chart: &[i32], edge: EdgeRow, a: i32, b: i32, z: i64, row: &mut [i32]) -> Move
-    requires { ⌜ edge .at < index-limit ⌝ }
-    ensures { λ r. ⌜ step-of r (now (row .exit)) ≡ assign-result (now (chart .entry)) (edge .at) a b z (now (row .entry)) ⌝ }
-{
-    let k = chart::edge_target(chart, edge);
-    assign_or_top(chart, k, (a == words::TOP) | (b == words::TOP), z, row)
+    let j = chart::first_variable(chart, edge);
+    let span = span_of(chart, j, a);
+    assign_result(chart, k, a == words::TOP, span, row)
 }
 
 fn compute(chart: &[i32], edge: EdgeRow, s: Arithmetic, row: &mut [i32]) -> Move
     requires { ⌜ edge .at < index-limit ⌝ }
-    ensures { λ r. ⌜ step-of r (now (row .exit)) ≡ both-at (result-by s) (now (chart .entry)) (edge .at) (now (row .entry)) ⌝ }
+    ensures { λ r. ⌜ step-of r (now (row .exit)) ≡ compute-at s (now (chart .entry)) (edge .at) (now (row .entry)) ⌝ }
 {
+    let k = chart::edge_target(chart, edge);
     let a = first_operand(chart, edge, row);
     let b = second_operand(chart, edge, row);
-    assign_result(chart, edge, a, b, result(s, a, b), row)
+    let i = chart::first_variable(chart, edge);
+    let j = chart::second_variable(chart, edge);
+    let span = results(s, span_of(chart, i, a), span_of(chart, j, b));
+    assign_result(chart, k, (a == words::TOP) | (b == words::TOP), span, row)
 }
 
 // A value from p up to q: known only where they are the same.
@@ -150,6 +173,19 @@ fn holds(n: usize, a: i32, b: i32) -> bool
         chart::GT_CODE => a > b,
         _ => a >= b,
     }
+}
+
+// Variable k becomes z where that lies in its range.
+fn assign_ranged(chart: &[i32], k: usize, z: i64, row: &mut [i32]) -> Move
+    requires { ⌜ k < index-limit ⌝ }
+    ensures { λ r. ⌜ step-of r (now (row .exit)) ≡ assign-ranged (now (chart .entry)) k z (now (row .entry)) ⌝ }
+{
+    if !in_range(chart, k, z) {
+        return Move::Halt;
+    }
+    let x = z as i32;
+    state::set_value(row, k, x);
+    Move::Successor
 }
 
 // A side of the relation is variable k, at top, and the other side is x: only `eq` says something of k.

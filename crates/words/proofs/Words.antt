@@ -113,6 +113,10 @@ module _ {z : ℤ} (fits : SFits w32 z) (neg : ltZ z (pos 0) ≡ true) where
   pub below-is : toZ w64 (ofZ w64 (pos 0 -ℤ toZ w64 (ofZ w64 z))) ≡ pos (natAbs z)
   below-is = toZ-ofZ w64 _ below-fits ∙ ap (λ (y : ℤ). pos 0 -ℤ y) (toZ-ofZ w64 z (sfits-widen tt fits)) ∙ below-zero z neg
 
+-- a word that `wide` made wider
+pub wide-told : {r z : ℤ} → SFits w64 r → SFits w32 z → r ≡ toZ w32 (ofZ w32 z) → toZ w64 (ofZ w64 r) ≡ z
+wide-told {r} {z} f g e = toZ-ofZ w64 r f ∙ e ∙ toZ-ofZ w32 z g
+
 module _ {z x : ℤ} (fits : SFits w32 z) (same : z ≡ x) where
   -- a word that a call answered, and its test
   pub told : toZ w32 (ofZ w32 z) ≡ x
