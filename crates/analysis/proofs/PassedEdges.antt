@@ -1,7 +1,7 @@
 -- Edges that do not leave the location of the taken state are passed over: their play changes nothing. Assumes nothing.
 use Rattle.semantics.proofs.Prelude.{_≡_, refl, sym, ap, _∙_, Bool, true, false, List, ℕ, zero, suc, _+_, _-_, _≤_, arith, ne-eqb, ltb-true, ltb-false, ltb, ℤ}
 use Rattle.semantics.specs.declared.Settings.{Settings}
-use Rattle.semantics.specs.Algorithm.{Step, halt, Out, then, visit, visit-all}
+use Rattle.semantics.specs.Algorithm.{Step, blocked, Out, then, visit, visit-all}
 use Rattle.state.specs.Rows.{location-in}
 use Rattle.transfer.specs.Transfer.{edges-from, post-at, post-words}
 use Rattle.analysis.specs.Chains.{from-at, Passed}
@@ -9,7 +9,7 @@ use Rattle.analysis.specs.Loaded.{domain-of}
 use Rattle.analysis.proofs.Arrival.{edges-turn, edges-none}
 
 -- an edge that leaves another location has no successor
-no-successor : (c : List ℤ) (g : ℕ) (e : List ℤ) → (from-at c g ≡ location-in e → ⊥) → post-words c g e ≡ halt
+no-successor : (c : List ℤ) (g : ℕ) (e : List ℤ) → (from-at c g ≡ location-in e → ⊥) → post-words c g e ≡ blocked
 unfolding post-words post-at
 no-successor c g e h = rw (ne-eqb (from-at c g) (location-in e) h)
 

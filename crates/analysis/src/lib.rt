@@ -76,7 +76,7 @@ fn visit(
     ensures { λ p. ⌜ Progressed layout (now (table .exit)) (now (list .exit)) p (visit (domain-of (now (chart .entry))) (a .settings) (length (now (list .entry))) (edge .id .0) (post-at (now (chart .entry)) (edge .at) (now (copy .entry))) (rows-of layout (a .used) (now (table .entry))) (waits (a .waiting) (now (list .entry)))) ⌝ }
 {
     match transfer::successor(chart, edge, copy, next) {
-        Move::Halt => progress::went_on(a.used, a.waiting),
+        Move::Blocked => progress::went_on(a.used, a.waiting),
         Move::Fault => progress::alarm_by(edge.id, a.used, a.waiting),
         Move::Successor => {
             if transfer::is_error(chart, next) {

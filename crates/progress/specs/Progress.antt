@@ -9,7 +9,7 @@ use Rattle.semantics.specs.declared.EdgeId.{EdgeId}
 use Rattle.semantics.specs.declared.Analysis.{Analysis}
 use Rattle.semantics.specs.declared.Settings.{Settings}
 use Rattle.semantics.specs.declared.Verdict.{Verdict}
-use Rattle.semantics.specs.Algorithm.{Domain, Out, on, alarmed, full, halt, Exploration, finish, verdict-of, first-verdict}
+use Rattle.semantics.specs.Algorithm.{Domain, Out, on, alarmed, full, blocked, Exploration, finish, verdict-of, first-verdict}
 use Rattle.state.specs.declared.Layout.{Layout}
 use Rattle.state.specs.Rows.{rows-of, row-domain}
 use Rattle.waitlist.specs.Waits.{waits, Stored}
@@ -19,7 +19,7 @@ use Rattle.progress.specs.declared.Progress.{Progress}
 
 -- the rows as a domain with no chart, for what looks at rows only
 abbrev pub rows-only : Domain (List ℤ) ℕ
-rows-only = row-domain (λ g e. halt) (λ e. false)
+rows-only = row-domain (λ g e. blocked) (λ e. false)
 
 -- what record and words say
 abbrev pub load-of : Layout → Analysis → List ℤ → List ℤ → Exploration (List ℤ)

@@ -21,6 +21,10 @@ pub passed : (b : Bool) → not b ≡ false → T b
 passed true e = tt
 passed false e = absurd (subst T e tt)
 
+pub not-both : (b : Bool) → T b → T (not b) → ⊥
+not-both true s t = t
+not-both false s t = s
+
 -- ---- `&&` and `||`
 
 pub and-left : (a b : Bool) → T (a && b) → T a

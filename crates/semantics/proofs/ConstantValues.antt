@@ -3,11 +3,11 @@ use Rattle.semantics.proofs.Prelude.{_≡_, refl, sym, ap, _∙_, subst
 use Rattle.semantics.specs.declared.Span.{Span}
 use Rattle.semantics.specs.Lists.{all-pairs, get, map-or, pick}
 use Rattle.semantics.specs.Chart.{Value, known, top, Var, Operand, num, var, Rel, eq, ne, lt, le, gt, ge, Op, assign, add, sub, input, assume, skip, Edge, Chart, eqZ, within, holds, Ranged, Matches₁, Matches, value, Becomes, result-outside, in-range}
-use Rattle.semantics.specs.Algorithm.{Step, halt, fault, to}
+use Rattle.semantics.specs.Algorithm.{Step, blocked, fault, to}
 use Rattle.semantics.specs.Constants.{AbstractState, equal-value, leq-value, join-values, operand-value, both, only, value-span, operand-span, sums, differences, span-in-range, assign-value, refine, one-known, tested, one-of, effect, arrive-at, post}
-use Rattle.semantics.proofs.Bools.{from-true, to-false, and-left, and-right, both-true}
+use Rattle.semantics.proofs.Bools.{from-true, to-false, and-left, and-right, both-true, not-both}
 use Rattle.semantics.proofs.Integers.{leZ-refl, leZ-antisym, leZ-trans, add-mono, sub-mono}
-use Rattle.semantics.proofs.Covering.{halt-to, fault-to}
+use Rattle.semantics.proofs.Covering.{blocked-to, fault-to}
 
 pub eqZ-same : (a b : ℤ) → T (eqZ a b) → a ≡ b
 eqZ-same (pos a) (pos b) t = ap pos (eqb→eq a b t)
@@ -112,11 +112,11 @@ ranged-get (v ∷ vs) [] k r = absurd r
 ranged-get (v ∷ vs) (x ∷ xs) zero r = r .0
 ranged-get (v ∷ vs) (x ∷ xs) (suc k) r = ranged-get vs xs k (r .1)
 
-pub ranged-set : (vars : List Var) (xs : List ℤ) (k : ℕ) (z : ℤ) → Ranged vars xs → Ranged vars (set xs k z) → T (in-range vars k z)
-ranged-set [] xs k z r q = tt
-ranged-set (v ∷ vs) [] k z r q = absurd r
-ranged-set (v ∷ vs) (x ∷ xs) zero z r q = q .0
-ranged-set (v ∷ vs) (x ∷ xs) (suc k) z r q = ranged-set vs xs k z (r .1) (q .1)
+pub ranged-set : (vars : List Var) (xs : List ℤ) (k : ℕ) (z : ℤ) → Ranged vars (set xs k z) → T (in-range vars k z)
+ranged-set [] xs k z q = tt
+ranged-set (v ∷ vs) [] k z q = absurd q
+ranged-set (v ∷ vs) (x ∷ xs) zero z q = q .0
+ranged-set (v ∷ vs) (x ∷ xs) (suc k) z q = ranged-set vs xs k z (q .1)
 
 pub ranged-as-set : (vars : List Var) (xs : List ℤ) (k : ℕ) (z : ℤ) → Ranged vars xs → T (in-range vars k z) → Ranged vars (set xs k z)
 ranged-as-set [] [] k z r t = tt
@@ -156,10 +156,6 @@ span-outside vars k r z h t =
     to-false (span-in-range vars k r)
     (λ s. not-both (in-range vars k z)
     (between vars k (r .low) z (r .high) (h .0) (h .1) (and-left (in-range vars k (r .low)) (in-range vars k (r .high)) s) (and-right (in-range vars k (r .low)) (in-range vars k (r .high)) s)) t)
-  where
-    not-both : (b : Bool) → T b → T (not b) → ⊥
-    not-both true s t = t
-    not-both false s t = s
 
 -- the value of a variable lies in its span
 value-among : (vars : List Var) (vs : List Value) (xs : List ℤ) (k : ℕ) → Ranged vars xs → Matches vs xs → Among (value-span vars k (getD vs k (known (pos 0)))) (getD xs k (pos 0))
@@ -206,7 +202,7 @@ to-gives : (us : List Value) (ys : List ℤ) → Matches us ys → Gives (to us)
 unfolding Gives
 to-gives us ys m = inr (us, refl, m)
 
-test-gives : (b : Bool) (us : List Value) (ys : List ℤ) → T b → Matches us ys → Gives (pick b (to us) halt) ys
+test-gives : (b : Bool) (us : List Value) (ys : List ℤ) → T b → Matches us ys → Gives (pick b (to us) blocked) ys
 test-gives true us ys t m = to-gives us ys m
 test-gives false us ys t m = absurd t
 
@@ -259,7 +255,7 @@ effect-gives vars skip vs xs ys r m h = rw h (to-gives vs xs m)
 
 -- P of the values, where there are any
 Whenever : (List Value → Type 0) → Step (List Value) → Type 0
-Whenever P halt = Unit
+Whenever P blocked = Unit
 Whenever P fault = Unit
 Whenever P (to us) = P us
 
@@ -291,7 +287,7 @@ spans-differences a b top top h k = tt
 -- P is kept by a new value at variable k that is Ok there, as each number of k's range and top are
 module _ (c : Chart) (P : List Value → Type 0) (Ok : ℕ → Value → Type 0) (known-ok : (k : ℕ) (z : ℤ) → T (in-range (c .vars) k z) → Ok k (known z)) (top-ok : (k : ℕ) → Ok k top)
     (set-keeps : (k : ℕ) (v : Value) (vs : List Value) → Ok k v → P vs → P (set vs k v)) where
-  test-keeps : (b : Bool) (us : List Value) → (T b → P us) → Whenever P (pick b (to us) halt)
+  test-keeps : (b : Bool) (us : List Value) → (T b → P us) → Whenever P (pick b (to us) blocked)
   unfolding Whenever
   test-keeps true us h = h tt
   test-keeps false us h = tt
@@ -348,12 +344,12 @@ module _ (c : Chart) (P : List Value → Type 0) (Ok : ℕ → Value → Type 0)
   post-keeps g e f i h p = go (eqb (g .from) (e .loc)) p
     where
       ends : (o : Step (List Value)) → Whenever P o → arrive-at (g .to) o ≡ to f → (g .to ≡ f .loc) × P (f .vals)
-      ends halt k q = absurd (halt-to refl q)
+      ends blocked k q = absurd (blocked-to refl q)
       ends fault k q = absurd (fault-to refl q)
       ends (to us) k q =
           let same : _≡_ {A = AbstractState} (record { loc = g .to; vals = us }) f = cc in
           (ap (λ (x : AbstractState). x .loc) same, subst (λ (x : AbstractState). P (x .vals)) same k)
 
-      go : (b : Bool) → pick b (arrive-at (g .to) (effect (c .vars) (g .op) (e .vals))) halt ≡ to f → (g .to ≡ f .loc) × P (f .vals)
+      go : (b : Bool) → pick b (arrive-at (g .to) (effect (c .vars) (g .op) (e .vals))) blocked ≡ to f → (g .to ≡ f .loc) × P (f .vals)
       go true q = ends (effect (c .vars) (g .op) (e .vals)) (effect-keeps (g .op) (e .vals) i h) q
-      go false q = absurd (halt-to refl q)
+      go false q = absurd (blocked-to refl q)

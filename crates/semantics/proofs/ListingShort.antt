@@ -1,6 +1,6 @@
 -- A listing is short: 24,576 bytes hold every listing of an analysis that was begun by a start, or that is in form.
 -- Assumes nothing.
-use Rattle.semantics.proofs.Prelude.{_≡_, Bool, true, false, List, [], _∷_, _++_, map, ℕ, zero, suc, _+_, _*_, _≤_, arith, T, eqb, leb→le, le→leb, length, length-append, ℤ, pos, negsuc, leZ}
+use Rattle.semantics.proofs.Prelude.{_≡_, Bool, true, false, List, [], _∷_, _++_, map, ℕ, zero, suc, _+_, _*_, _≤_, arith, T, eqb, leb→le, length, length-append, pos, leZ}
 use Rattle.semantics.specs.Lists.{some-of, all}
 use Rattle.semantics.specs.Layout.{most-iterations, most-slots, least-number, most-number, name-size, listing-bytes}
 use Rattle.semantics.specs.Text.{bytes, decimal, line-of, name-ok}

@@ -1,37 +1,40 @@
--- Overruns are exact: of runs, what halted before and nothing else; of abstract moves, by the ends of spans, what document
--- 02 says of all results. Assumes nothing.
-use Rattle.semantics.proofs.Prelude.{_≡_, refl, sym, ap, _∙_, subst, _⊎_, inl, inr, Bool, true, false, _&&_, not, List, [], _∷_, ℕ, zero, suc, _<_, arith, T, eqb, eqb→eq, ltb, ltb→lt, not-T, length, set, ℤ, _+ℤ_, _-ℤ_, leZ}
+-- Overruns are exact: of runs, what is without a move and nothing else; of abstract moves, by the ends of spans, what
+-- document 02 says of all results. Assumes nothing.
+use Rattle.semantics.proofs.Prelude.{_≡_, refl, ap, _∙_, subst, _⊎_, inl, inr, Bool, true, false, _&&_, not, List, [], _∷_, ℕ, zero, suc, _<_, arith, T, eqb, eqb→eq, ltb, ltb→lt, length, set, ℤ, _+ℤ_, _-ℤ_, leZ}
 use Rattle.semantics.specs.declared.Span.{Span}
 use Rattle.semantics.specs.Lists.{pick, all}
-use Rattle.semantics.specs.Chart.{Value, known, top, Var, Operand, num, var, Op, assign, add, sub, input, assume, skip, Edge, Chart, State, in-range, Ranged, value, Becomes, Moves, result-outside, Overruns, holds, Rel, eq, ne, lt, le, gt, ge}
-use Rattle.semantics.specs.Algorithm.{Step, halt, fault, to}
-use Rattle.semantics.specs.Constants.{AbstractState, operand-value, only, declared, value-span, operand-span, sums, differences, span-in-range, assign-value, one-known, tested, effect, arrive-at, post}
+use Rattle.semantics.specs.Chart.{Value, known, top, Var, Operand, num, var, Op, assign, add, sub, input, assume, skip, Edge, Chart, in-range, Ranged, value, Becomes, result-outside, Overruns, holds, Rel, eq, ne, lt, le, gt, ge}
+use Rattle.semantics.specs.Algorithm.{Step, blocked, fault, to}
+use Rattle.semantics.specs.Constants.{AbstractState, operand-value, range-of, value-span, operand-span, sums, differences, assign-value, one-known, tested, effect, arrive-at, post}
 use Rattle.semantics.specs.Encoding.{var-ok, operand-ok, op-ok, edge-ok, chart-ok}
-use Rattle.semantics.specs.Exact.{Assigns, OverrunsExactly, MayBe, OperandMayBe, SomeOutside, FaultsExactly}
-use Rattle.semantics.proofs.Bools.{from-true, and-left, and-right, both-true}
+use Rattle.semantics.specs.Exact.{CanOverrun, OverrunsExactly, MayBe, OperandMayBe, SomeOutside, FaultsExactly}
+use Rattle.semantics.proofs.Bools.{from-true, and-left, and-right, both-true, not-both}
 use Rattle.semantics.proofs.Integers.{leZ-refl}
-use Rattle.semantics.proofs.Covering.{halt-fault, fault-to}
+use Rattle.semantics.proofs.Covering.{blocked-fault, fault-to}
 use Rattle.semantics.proofs.ConstantValues.{ranged-set, ranged-as-set, Among, among-only, among-sums, among-differences, assign-faults}
 use Rattle.semantics.proofs.ConstantsSound.{along}
 use Rattle.semantics.proofs.StatesOk.{bounds}
 
-both-ways : (b : Bool) → T b → T (not b) → ⊥
-both-ways true s t = t
-both-ways false s t = s
-
 -- ---- of runs
 
--- the values after an operation by which the result z becomes variable k's are in range exactly where z is
-no-move-to : (vars : List Var) (xs ys : List ℤ) (k : ℕ) (z : ℤ) → Ranged vars xs → Ranged vars ys → ys ≡ set xs k z → T (not (in-range vars k z)) → ⊥
-no-move-to vars xs ys k z r q e t = both-ways (in-range vars k z) (ranged-set vars xs k z r (subst (Ranged vars) e q)) t
+no-move-to : (vars : List Var) (xs ys : List ℤ) (k : ℕ) (z : ℤ) → Ranged vars ys → ys ≡ set xs k z → T (not (in-range vars k z)) → ⊥
+no-move-to vars xs ys k z q e t = not-both (in-range vars k z) (ranged-set vars xs k z (subst (Ranged vars) e q)) t
 
-no-move : (vars : List Var) (o : Op) (xs ys : List ℤ) → Ranged vars xs → Ranged vars ys → Becomes o xs ys → T (result-outside vars o xs) → ⊥
-no-move vars (assign v a) xs ys r q e t = no-move-to vars xs ys v (value a xs) r q e t
-no-move vars (add v a b) xs ys r q e t = no-move-to vars xs ys v (value a xs +ℤ value b xs) r q e t
-no-move vars (sub v a b) xs ys r q e t = no-move-to vars xs ys v (value a xs -ℤ value b xs) r q e t
-no-move vars (input v p u) xs ys r q e t = t
-no-move vars (assume v g a) xs ys r q e t = t
-no-move vars skip xs ys r q e t = t
+no-move : (vars : List Var) (o : Op) (xs ys : List ℤ) → Ranged vars ys → Becomes o xs ys → T (result-outside vars o xs) → ⊥
+no-move vars (assign v a) xs ys q e t = no-move-to vars xs ys v (value a xs) q e t
+no-move vars (add v a b) xs ys q e t = no-move-to vars xs ys v (value a xs +ℤ value b xs) q e t
+no-move vars (sub v a b) xs ys q e t = no-move-to vars xs ys v (value a xs -ℤ value b xs) q e t
+no-move vars (input v p u) xs ys q e t = t
+no-move vars (assume v g a) xs ys q e t = t
+no-move vars skip xs ys q e t = t
+
+can-overrun : (vars : List Var) (o : Op) (xs : List ℤ) → T (result-outside vars o xs) → CanOverrun o
+can-overrun vars (assign v a) xs t = tt
+can-overrun vars (add v a b) xs t = tt
+can-overrun vars (sub v a b) xs t = tt
+can-overrun vars (input v p u) xs t = t
+can-overrun vars (assume v g a) xs t = t
+can-overrun vars skip xs t = t
 
 moves-to : (vars : List Var) (xs : List ℤ) (k : ℕ) (z : ℤ) → Ranged vars xs → (T (not (in-range vars k z)) → ⊥) → Ranged vars (set xs k z)
 moves-to vars xs k z r h = ranged-as-set vars xs k z r (go (in-range vars k z) h)
@@ -40,7 +43,7 @@ moves-to vars xs k z r h = ranged-as-set vars xs k z r (go (in-range vars k z) h
     go true h = tt
     go false h = h tt
 
-else-moves : (vars : List Var) (o : Op) (xs : List ℤ) → Ranged vars xs → Assigns o → (T (result-outside vars o xs) → ⊥) → (ys : List ℤ) × Ranged vars ys × Becomes o xs ys
+else-moves : (vars : List Var) (o : Op) (xs : List ℤ) → Ranged vars xs → CanOverrun o → (T (result-outside vars o xs) → ⊥) → (ys : List ℤ) × Ranged vars ys × Becomes o xs ys
 else-moves vars (assign v a) xs r s h = let z = value a xs in (set xs v z, moves-to vars xs v z r h, refl)
 else-moves vars (add v a b) xs r s h = let z = value a xs +ℤ value b xs in (set xs v z, moves-to vars xs v z r h, refl)
 else-moves vars (sub v a b) xs r s h = let z = value a xs -ℤ value b xs in (set xs v z, moves-to vars xs v z r h, refl)
@@ -50,7 +53,8 @@ else-moves vars skip xs r s h = absurd s
 
 pub overruns-exactly : OverrunsExactly
 overruns-exactly = record {
-  no-move = λ c g s t r o m. no-move (c .vars) (g .op) (s .vals) (t .vals) r (m .ranged) (m .becomes) (o .outside);
+  only = λ c g s o. (can-overrun (c .vars) (g .op) (s .vals) (o .outside), o .leaves);
+  no-move = λ c g s t o m. no-move (c .vars) (g .op) (s .vals) (t .vals) (m .ranged) (m .becomes) (o .outside);
   else-moves = λ c g s r a l h.
       let u = else-moves (c .vars) (g .op) (s .vals) r a (λ t. h (record { leaves = l; outside = t })) in
       (record { loc = g .to; vals = u .0 }, record { leaves = l; comes = refl; ranged = u .1; becomes = u .2 });
@@ -58,21 +62,21 @@ overruns-exactly = record {
 
 -- ---- of abstract moves: what an operand may be is what its span has
 
+-- the ends of a variable's range are numbers of it
+range-ends : (vars : List Var) (k : ℕ) → T (all var-ok vars) → T (in-range vars k (range-of vars k .low)) × T (in-range vars k (range-of vars k .high))
+range-ends [] k t = (tt, tt)
+range-ends (v ∷ vs) zero t =
+    let u : T (var-ok v) = and-left (var-ok v) (all var-ok vs) t in
+    let h : T (leZ (v .lo) (v .hi)) = search (and-left, and-right) depth 8 in
+    (both-true (leZ (v .lo) (v .lo)) (leZ (v .lo) (v .hi)) (leZ-refl (v .lo)) h, both-true (leZ (v .lo) (v .hi)) (leZ (v .hi) (v .hi)) h (leZ-refl (v .hi)))
+range-ends (v ∷ vs) (suc k) t = range-ends vs k (and-right (var-ok v) (all var-ok vs) t)
+
+among-range : (vars : List Var) (k : ℕ) (x : ℤ) → k < length vars → T (in-range vars k x) → Among (range-of vars k) x
+among-range [] k x l t = absurd (omega arith)
+among-range (v ∷ vs) zero x l t = (and-left (leZ (v .lo) x) (leZ x (v .hi)) t, and-right (leZ (v .lo) x) (leZ x (v .hi)) t)
+among-range (v ∷ vs) (suc k) x l t = among-range vs k x (omega arith) t
+
 module _ (vars : List Var) where
-  -- the ends of a variable's range are numbers of it
-  range-ends : (vars : List Var) (k : ℕ) → T (all var-ok vars) → k < length vars → T (in-range vars k (declared vars k .low)) × T (in-range vars k (declared vars k .high))
-  range-ends [] k t l = absurd (omega arith)
-  range-ends (v ∷ vs) zero t l =
-      let u : T (var-ok v) = and-left (var-ok v) (all var-ok vs) t in
-      let h : T (leZ (v .lo) (v .hi)) = search (and-left, and-right) depth 8 in
-      (both-true (leZ (v .lo) (v .lo)) (leZ (v .lo) (v .hi)) (leZ-refl (v .lo)) h, both-true (leZ (v .lo) (v .hi)) (leZ (v .hi) (v .hi)) h (leZ-refl (v .hi)))
-  range-ends (v ∷ vs) (suc k) t l = range-ends vs k (and-right (var-ok v) (all var-ok vs) t) (omega arith)
-
-  among-range : (vars : List Var) (k : ℕ) (x : ℤ) → k < length vars → T (in-range vars k x) → Among (declared vars k) x
-  among-range [] k x l t = absurd (omega arith)
-  among-range (v ∷ vs) zero x l t = (and-left (leZ (v .lo) x) (leZ x (v .hi)) t, and-right (leZ (v .lo) x) (leZ x (v .hi)) t)
-  among-range (v ∷ vs) (suc k) x l t = among-range vs k x (omega arith) t
-
   among : (a : Operand) (vs : List Value) (x : ℤ) → T (operand-ok vars a) → OperandMayBe vars a vs x → Among (operand-span vars a vs) x
   among (num z) vs x o m = among-only z x m
   among (var k) vs x o m = go (operand-value (var k) vs) m
@@ -82,13 +86,13 @@ module _ (vars : List Var) where
       go top m = among-range vars k x (ltb→lt k (length vars) o) m
 
   -- both ends may be the operand's value
-  ends : (a : Operand) (vs : List Value) → T (all var-ok vars) → T (operand-ok vars a) → OperandMayBe vars a vs (operand-span vars a vs .low) × OperandMayBe vars a vs (operand-span vars a vs .high)
-  ends (num z) vs t o = (refl, refl)
-  ends (var k) vs t o = go (operand-value (var k) vs)
+  ends : (a : Operand) (vs : List Value) → T (all var-ok vars) → OperandMayBe vars a vs (operand-span vars a vs .low) × OperandMayBe vars a vs (operand-span vars a vs .high)
+  ends (num z) vs t = (refl, refl)
+  ends (var k) vs t = go (operand-value (var k) vs)
     where
       go : (v : Value) → MayBe vars k v (value-span vars k v .low) × MayBe vars k v (value-span vars k v .high)
       go (known z) = (refl, refl)
-      go top = range-ends vars k t (ltb→lt k (length vars) o)
+      go top = range-ends vars k t
 
   -- ---- the effect
 
@@ -114,9 +118,9 @@ module _ (vars : List Var) where
       go true false e = inr tt
       go true true e = absurd (fault-to e refl)
 
-  test-faultless : (b : Bool) (vs : List Value) → pick b (to vs) halt ≡ fault → ⊥
+  test-faultless : (b : Bool) (vs : List Value) → pick b (to vs) blocked ≡ fault → ⊥
   test-faultless true vs e = fault-to e refl
-  test-faultless false vs e = halt-fault refl e
+  test-faultless false vs e = blocked-fault refl e
 
   one-known-faultless : (r : Rel) (a : Operand) (z : ℤ) (vs : List Value) → one-known vars r a z vs ≡ fault → ⊥
   one-known-faultless eq (num a) z vs e = fault-to e refl
@@ -133,41 +137,40 @@ module _ (vars : List Var) where
   tested-faultless r a b top (known y) vs e = one-known-faultless r a y vs e
   tested-faultless r a b top top vs e = fault-to e refl
 
-  some-outside : (o : Op) (vs : List Value) → T (all var-ok vars) → T (op-ok vars o) → effect vars o vs ≡ fault → SomeOutside vars o vs
-  some-outside (assign v a) vs t ok e =
-      let m = ends a vs t (search (and-left, and-right)) in
+  some-outside : (o : Op) (vs : List Value) → T (all var-ok vars) → effect vars o vs ≡ fault → SomeOutside vars o vs
+  some-outside (assign v a) vs t e =
+      let m = ends a vs t in
       elim (one-end v (operand-span vars a vs) (operand-value a vs) vs e) [ inl h ↦ (_, m .0, h) | inr h ↦ (_, m .1, h) ]
-  some-outside (add v a b) vs t ok e =
-      let m = ends a vs t (search (and-left, and-right)) in
-      let n = ends b vs t (search (and-left, and-right)) in
+  some-outside (add v a b) vs t e =
+      let m = ends a vs t in
+      let n = ends b vs t in
       elim (one-end v (sums (operand-span vars a vs) (operand-span vars b vs)) _ vs e) [ inl h ↦ (_, _, m .0, n .0, h) | inr h ↦ (_, _, m .1, n .1, h) ]
-  some-outside (sub v a b) vs t ok e =
-      let m = ends a vs t (search (and-left, and-right)) in
-      let n = ends b vs t (search (and-left, and-right)) in
+  some-outside (sub v a b) vs t e =
+      let m = ends a vs t in
+      let n = ends b vs t in
       elim (one-end v (differences (operand-span vars a vs) (operand-span vars b vs)) _ vs e) [ inl h ↦ (_, _, m .0, n .1, h) | inr h ↦ (_, _, m .1, n .0, h) ]
-  some-outside (input v p q) vs t ok e = fault-to e refl
-  some-outside (assume v r a) vs t ok e = tested-faultless r (var v) a (operand-value (var v) vs) (operand-value a vs) vs e
-  some-outside skip vs t ok e = fault-to e refl
+  some-outside (input v p q) vs t e = fault-to e refl
+  some-outside (assume v r a) vs t e = tested-faultless r (var v) a (operand-value (var v) vs) (operand-value a vs) vs e
+  some-outside skip vs t e = fault-to e refl
 
-module _ (c : Chart) (g : Edge) (e : AbstractState) (ok : T (chart-ok c)) (fine : T (edge-ok c g)) where
-  of-chart : T (op-ok (c .vars) (g .op))
-  of-chart = and-right (ltb (g .from) (length (c .locs)) && ltb (g .to) (length (c .locs))) (op-ok (c .vars) (g .op)) fine
+module _ (c : Chart) (g : Edge) (e : AbstractState) where
+  faults : T (edge-ok c g) → g .from ≡ e .loc → SomeOutside (c .vars) (g .op) (e .vals) → post c g e ≡ fault
+  faults ok l s =
+      let fine : T (op-ok (c .vars) (g .op)) = and-right (ltb (g .from) (length (c .locs)) && ltb (g .to) (length (c .locs))) (op-ok (c .vars) (g .op)) ok in
+      along c g e (e .loc) l refl ∙ ap (arrive-at (g .to)) (outside-faults (c .vars) (g .op) (e .vals) fine s)
 
-  faults : g .from ≡ e .loc → SomeOutside (c .vars) (g .op) (e .vals) → post c g e ≡ fault
-  faults l s = along c g e (e .loc) l refl ∙ ap (arrive-at (g .to)) (outside-faults (c .vars) (g .op) (e .vals) of-chart s)
-
-  no-other : post c g e ≡ fault → (g .from ≡ e .loc) × SomeOutside (c .vars) (g .op) (e .vals)
+  no-other : T (chart-ok c) → post c g e ≡ fault → (g .from ≡ e .loc) × SomeOutside (c .vars) (g .op) (e .vals)
   unfolding post
-  no-other p = go (eqb (g .from) (e .loc)) refl p
+  no-other ok p = go (eqb (g .from) (e .loc)) refl p
     where
       by-effect : (o : Step (List Value)) → arrive-at (g .to) o ≡ fault → o ≡ fault
-      by-effect halt q = absurd (halt-fault refl q)
+      by-effect blocked q = absurd (blocked-fault refl q)
       by-effect fault q = refl
       by-effect (to us) q = absurd (fault-to q refl)
 
-      go : (b : Bool) → eqb (g .from) (e .loc) ≡ b → pick b (arrive-at (g .to) (effect (c .vars) (g .op) (e .vals))) halt ≡ fault → (g .from ≡ e .loc) × SomeOutside (c .vars) (g .op) (e .vals)
-      go true l q = (eqb→eq (g .from) (e .loc) (from-true l), some-outside (c .vars) (g .op) (e .vals) (bounds c ok .vars) of-chart (by-effect (effect (c .vars) (g .op) (e .vals)) q))
-      go false l q = absurd (halt-fault refl q)
+      go : (b : Bool) → eqb (g .from) (e .loc) ≡ b → pick b (arrive-at (g .to) (effect (c .vars) (g .op) (e .vals))) blocked ≡ fault → (g .from ≡ e .loc) × SomeOutside (c .vars) (g .op) (e .vals)
+      go true l q = (eqb→eq (g .from) (e .loc) (from-true l), some-outside (c .vars) (g .op) (e .vals) (bounds c ok .vars) (by-effect (effect (c .vars) (g .op) (e .vals)) q))
+      go false l q = absurd (blocked-fault refl q)
 
 pub faults-exactly : FaultsExactly
-faults-exactly = record { faults = λ c g e ok fine. faults c g e ok fine; no-other = λ c g e ok fine. no-other c g e ok fine }
+faults-exactly = record { faults = faults; no-other = no-other }

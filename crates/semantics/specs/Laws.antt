@@ -13,6 +13,7 @@ use Rattle.semantics.specs.Coverage.{System}
 pub record Laws {E G S : Type 0} (M : System G S) (D : Domain E G) (Fit : E → Type 0) (Covers : E → S → Type 0) : Type 0 where
   -- the abstract move covers each move, or is a fault
   pub post-covers : (g : G) (e : E) (s t : S) → Covers e s → M .Moves g s t → (D .post g e ≡ fault) ⊎ ((f : E) × (D .post g e ≡ to f) × Covers f t)
+  -- and is a fault where the edge is one at a covered state
   pub post-faults : (g : G) (e : E) (s : S) → Covers e s → M .Faults g s → D .post g e ≡ fault
   pub post-fit : (g : G) (e f : E) → Fit e → D .post g e ≡ to f → Fit f
   pub leq-covers : (e f : E) (s : S) → T (D .leq e f) → Covers e s → Covers f s

@@ -15,7 +15,7 @@ use Rattle.semantics.specs.Program.{first-line, past-line, output}
 abbrev pub verdict-field : List ℕ → List ℕ
 verdict-field out = nth (fields (first-line out)) 4
 
--- the text is a chart; no state of any of its executions stands at an error location, and no edge overruns at one
+-- the text is a chart; no state of its executions stands at an error location, and at none of them an edge overruns
 pub record ChartSafe (text : List ℕ) : Type 0 where
   pub chart : Chart
   pub reads : read text ≡ accepted chart

@@ -1,24 +1,28 @@
--- Runs are not too few: moves that each operation makes, as one list with a single claim over it, and a run that meets
--- an error state. Coverage alone would hold of a system without a move, and safety of one without an error state.
--- Document 01, "The chart file" (the operations) and "Runs". Assumes nothing.
+-- Runs are not too few: moves that each operation makes, as one list with a single claim over it, a run that meets an error
+-- state, and runs that overrun. Coverage alone would hold of a system without a move, and safety of one without an error
+-- state or an overrun. Document 01, "The chart file" (the operations) and "Runs"; document 02, 2.1. Assumes nothing.
 use mathlib.Core.Bool.{true, false}
 use mathlib.Core.List.{List, [], _∷_}
 use Prim.Native.Nat.{ℕ}
 use lib.IntN.{ℤ, pos, negsuc}
 use Rattle.semantics.specs.Text.{bytes}
-use Rattle.semantics.specs.Chart.{top, Var, num, var, eq, ne, lt, le, gt, ge, Op, assign, add, sub, input, assume, skip, Chart, State, Error}
+use Rattle.semantics.specs.Chart.{top, Var, num, var, eq, ne, lt, le, gt, ge, Op, assign, add, sub, input, assume, skip, Edge, Chart, State, Overruns, Error}
 use Rattle.semantics.specs.Coverage.{system, Execution}
 
 -- a variable of range −9..9 that begins anywhere in it
 abbrev pub any-digit : Var
 any-digit = record { lo = negsuc 8; hi = pos 9; init = top }
 
--- two such variables, and one edge, by the operation, from the first location to the second
+-- an edge by the operation, from the first location to the second
+abbrev pub between : Op → Edge
+between o = record { from = 0; to = 1; op = o }
+
+-- two such variables, and that edge
 abbrev pub one-edge : Op → Chart
 one-edge o = record {
   vars = any-digit ∷ any-digit ∷ [];
   locs = record { name = bytes "a"; error = false } ∷ record { name = bytes "b"; error = false } ∷ [];
-  edges = record { from = 0; to = 1; op = o } ∷ [];
+  edges = between o ∷ [];
 }
 
 -- an operation, the values of the two variables before it, and those after it
@@ -88,3 +92,18 @@ at-loc l = record { loc = l; vals = [] }
 pub record ErrorMet : Type 0 where
   pub run : Execution (system into-error) (at-loc 0 ∷ at-loc 1 ∷ [])
   pub error : Error into-error (at-loc 1)
+
+-- ---- overruns that are met
+
+-- at the values x y, which are a run, the operation overruns
+abbrev pub RunOverruns : Op → ℤ → ℤ → Type 0
+RunOverruns o x y = let s : State = record { loc = 0; vals = x ∷ y ∷ [] } in Execution (system (one-edge o)) (s ∷ []) × Overruns (one-edge o) (between o) s
+
+-- set, add and sub, one past the high end and one below the low one
+pub record OverrunsMet : Type 0 where
+  pub set-past : RunOverruns (assign 0 (num (pos 10))) (pos 0) (pos 0)
+  pub set-below : RunOverruns (assign 1 (num (negsuc 9))) (pos 0) (pos 0)
+  pub add-past : RunOverruns (add 0 (var 0) (var 1)) (pos 8) (pos 2)
+  pub add-below : RunOverruns (add 0 (var 1) (num (negsuc 0))) (pos 0) (negsuc 8)
+  pub sub-past : RunOverruns (sub 1 (num (pos 1)) (var 0)) (negsuc 8) (pos 0)
+  pub sub-below : RunOverruns (sub 0 (var 0) (num (pos 1))) (negsuc 8) (pos 0)

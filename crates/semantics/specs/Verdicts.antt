@@ -1,5 +1,6 @@
 -- Why the edges of an iteration end as they do: a claim over the algorithm, at any domain, that no full table hides an
--- alarm and that an alarm names its edge (`visit-all-caused`). Document 01, "One round", steps 1 and 4. Assumes nothing.
+-- alarm of an edge before it and that an alarm names its edge (`visit-all-caused`). Document 01, "One round", steps 1 and
+-- 4; document 02, 2.1. Assumes nothing.
 use mathlib.Core.Path.{_≡_}
 use mathlib.Core.Logic.{_⊎_}
 use mathlib.Core.Bool.{false}
@@ -29,7 +30,8 @@ module _ {E G : Type 0} (D : Domain E G) where
     pub quiet : Quiet e before
 
   -- an alarm comes of the first edge that raises one, which it names; a full table is met by a successor that raises
-  -- none, before any edge does, so it hides no alarm; and where the iteration goes on, no edge raises one
+  -- none, before any edge does, so it hides no alarm of its own edge or an earlier one; and where the iteration goes on,
+  -- no edge raises one
   abbrev pub Caused : ℕ → E → List G → Out E → Type 0
   Caused r e gs (on en wa) = Quiet e gs
   Caused r e gs (alarmed n en wa) = (b : Breaks e gs) × (D .number (b .edge) ≡ n) × Raises (b .edge) e

@@ -4,7 +4,7 @@ use Rattle.semantics.proofs.Prelude.{_≡_, refl, sym, ap, subst, _∙_, Bool, 
 use Rattle.semantics.specs.Layout.{top-word, from-place, to-place}
 use Rattle.semantics.specs.Lists.{At, pick, all, all-pairs}
 use Rattle.semantics.specs.Chart.{Value, known, top, Edge, Numbered, number-from, numbered, Chart, eqZ, error-location}
-use Rattle.semantics.specs.Algorithm.{Step, halt, fault, to}
+use Rattle.semantics.specs.Algorithm.{Step, blocked, fault, to}
 use Rattle.semantics.specs.Constants.{AbstractState, equal-value, leq-value, join-value, join-values, same-location, equal, leq, join, join-all, leq-join-all, effect, arrive-at, post, constants, initial}
 use Rattle.semantics.specs.Tidy.{Every}
 use Rattle.semantics.specs.Encoding.{word, encode, count, decode, op-ok, edge-ok, chart-ok, well-formed}
@@ -129,17 +129,17 @@ module _ (c : Chart) (ok : T (chart-ok c)) where
 -- ---- the transfer
 
 abbrev row-of : Step AbstractState → Step (List ℤ)
-row-of halt = halt
+row-of blocked = blocked
 row-of fault = fault
 row-of (to f) = to (row f)
 
 arrive-is : (n : ℕ) (o : Step (List Value)) → row-step (pos n) o ≡ row-of (arrive-at n o)
-arrive-is n halt = refl
+arrive-is n blocked = refl
 arrive-is n fault = refl
 arrive-is n (to xs) = refl
 
 step-R : (c : Chart) (s : Step AbstractState) → ((f : AbstractState) → s ≡ to f → StateOk c f) → StepR (Says c) (row-of s) s
-step-R c halt k = tt
+step-R c blocked k = tt
 step-R c fault k = tt
 step-R c (to f) k = record { words = refl; ok = k f refl }
 
@@ -159,7 +159,7 @@ module _ (c : Chart) (ok : T (chart-ok c)) (rest : List ℤ) where
       let u : T (op-ok (c .vars) (g .op)) = search (and-left, and-right) in
       rw (from, there, effect-is c ok rest (pos (g .to)) (f .vals) (plain-of c ok f h) i (pos (g .from)) (pos (g .to)) (g .op) u read) (go (eqb (g .from) (f .loc)))
     where
-      go : (t : Bool) → pick t (row-step (pos (g .to)) (effect (c .vars) (g .op) (f .vals))) halt ≡ row-of (pick t (arrive-at (g .to) (effect (c .vars) (g .op) (f .vals))) halt)
+      go : (t : Bool) → pick t (row-step (pos (g .to)) (effect (c .vars) (g .op) (f .vals))) blocked ≡ row-of (pick t (arrive-at (g .to) (effect (c .vars) (g .op) (f .vals))) blocked)
       go true = arrive-is (g .to) (effect (c .vars) (g .op) (f .vals))
       go false = refl
 

@@ -6,7 +6,7 @@ use Rattle.semantics.specs.declared.Arithmetic.the-variants.{Add, Sub}
 use Rattle.semantics.specs.Layout.{top-word, edge-size, operation-place, target-place, first-tag-place, first-value-place, second-tag-place, second-value-place, add-code, sub-code}
 use Rattle.semantics.specs.Lists.{pick, all}
 use Rattle.semantics.specs.Chart.{Value, known, top, Var, Operand, num, var, Rel, eq, ne, lt, le, gt, ge, Op, assign, add, sub, input, assume, skip, Chart, eqZ, holds, in-range}
-use Rattle.semantics.specs.Algorithm.{Step, halt, fault, to}
+use Rattle.semantics.specs.Algorithm.{Step, blocked, fault, to}
 use Rattle.semantics.specs.Constants.{operand-value, both, value-span, operand-span, span-in-range, assign-value, one-of, refine, one-known, tested, effect}
 use Rattle.semantics.specs.Encoding.{word, word-at, tag, operand-word, rel-code, op-words, encode, count, var-ok, operand-ok, op-ok, chart-ok}
 use Rattle.semantics.proofs.Bools.{and-left, and-right}
@@ -16,7 +16,7 @@ use Rattle.semantics.proofs.MemoryOf.{small-not-top, known-not-top}
 use Rattle.words.proofs.Words.{eqZ-true}
 use Rattle.state.specs.Rows.{value-at, with-value, word-join}
 use Rattle.transfer.specs.Transfer.{results-by, operand-by, span-at, assign-result, assign-at, compute-at, input-at, holds-by, assign-ranged, refine-by, tested-by, assume-at, op-by}
-use Rattle.transfer.proofs.Places.{declared-is, range-is}
+use Rattle.transfer.proofs.Places.{range-of-is, range-is}
 
 -- a value whose word is top's only where it is top
 abbrev pub Writable : Value → Type 0
@@ -50,7 +50,7 @@ map-set (y ∷ ys) (suc k) x = ap (λ (l : List ℤ). word y ∷ l) (map-set ys 
 
 -- the row of location word l that an operation's step says
 abbrev pub row-step : ℤ → Step (List Value) → Step (List ℤ)
-row-step l halt = halt
+row-step l blocked = blocked
 row-step l fault = fault
 row-step l (to xs) = to (l ∷ map word xs)
 
@@ -84,7 +84,7 @@ module _ (c : Chart) (ok : T (chart-ok c)) (rest : List ℤ) (l : ℤ) (xs : Lis
 
   assign-ranged-is : (k : ℕ) (z : ℤ) → k < length (c .vars) → assign-ranged ws k z e ≡ row-step l (refine (c .vars) (var k) z xs)
   unfolding assign-ranged
-  assign-ranged-is k z h = (λ i. pick (range-is c ok rest k z h i) (to (set-word k (known z) i)) halt) ∙ row-step-pick l (in-range (c .vars) k z) (set xs k (known z)) halt
+  assign-ranged-is k z h = (λ i. pick (range-is c ok rest k z h i) (to (set-word k (known z) i)) blocked) ∙ row-step-pick l (in-range (c .vars) k z) (set xs k (known z)) blocked
 
   assign-is : (k : ℕ) (r : Span) (t : Bool) (x : Value) → k < length (c .vars) → pick t top-word (r .low) ≡ word x → assign-result ws k t r e ≡ row-step l (assign-value (c .vars) k r x xs)
   unfolding assign-result
@@ -132,7 +132,7 @@ module _ (c : Chart) (ok : T (chart-ok c)) (rest : List ℤ) (l : ℤ) (xs : Lis
   tested-is : (r : Rel) (k : ℕ) (a : Operand) (x y : Value) → k < length (c .vars) → T (operand-ok (c .vars) a) → Writable x → Writable y → Sided a y
       → tested-by ws (rel-code r) k (natAbs (operand-word a)) (word x) (word y) e ≡ row-step l (tested (c .vars) r (var k) a x y xs)
   unfolding tested-by
-  tested-is r k a (known x) (known y) h o p q s = rw (p, q, holds-is r x y) (row-step-pick l (holds r x y) xs halt)
+  tested-is r k a (known x) (known y) h o p q s = rw (p, q, holds-is r x y) (row-step-pick l (holds r x y) xs blocked)
   tested-is r k (num z) (known x) top h o p q s = absurd s
   tested-is r k (var j) (known x) top h o p q s = rw p (refine-is r j x (ltb→lt j (length (c .vars)) o) p)
   tested-is r k a top (known y) h o p q s = refine-is r k y h q
@@ -158,7 +158,7 @@ module _ (c : Chart) (ok : T (chart-ok c)) (rest : List ℤ) (l : ℤ) (xs : Lis
     where
       go : (v : Value) → Writable v → span-at ws k (word v) ≡ value-span (c .vars) k v
       go (known z) p = rw p
-      go top p = declared-is c ok rest k (ltb→lt k (length (c .vars)) o)
+      go top p = range-of-is c ok rest k (ltb→lt k (length (c .vars)) o)
 
   -- ---- the operations: the edge's words, from i on, are two for its locations and six for its operation
   module _ (i : ℕ) (from goal : ℤ) where

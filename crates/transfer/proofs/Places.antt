@@ -6,7 +6,7 @@ use Rattle.semantics.specs.Lists.{At, each}
 use Rattle.semantics.specs.Text.{name-ok}
 use Rattle.semantics.specs.Chart.{Var, Loc, Edge, Chart, eqZ, within, in-range, error-location, inits}
 use Rattle.semantics.specs.declared.Span.{Span}
-use Rattle.semantics.specs.Constants.{declared}
+use Rattle.semantics.specs.Constants.{range-of}
 use Rattle.semantics.specs.Tidy.{Every}
 use Rattle.semantics.specs.Encoding.{word-at, word, kind-word, var-words, loc-words, edge-words, encode, var-ok, chart-ok, variable-count, location-count}
 use Rattle.semantics.proofs.StatesOk.{Bounds, bounds}
@@ -35,15 +35,15 @@ module _ {A : Type 0} (f : A → List ℤ) (k : ℕ) (Ok : A → Type 0) (wide :
   each-past : (xs : List A) (rest : List ℤ) (i : ℕ) → Every Ok xs → word-at (each f xs ++ rest) (k * length xs + i) ≡ word-at rest i
   each-past xs rest i h = rw (← each-length f k Ok wide xs h, getD-append-add (each f xs) rest i (pos 0))
 
-declared-at : (vars : List Var) (k : ℕ) (v : Var) → At vars k v → declared vars k ≡ record { low = v .lo; high = v .hi }
-declared-at [] k v a = absurd a
-declared-at (u ∷ us) zero v a = ap (λ (w : Var). record { low = w .lo; high = w .hi }) a
-declared-at (u ∷ us) (suc k) v a = declared-at us k v a
+range-of-at : (vars : List Var) (k : ℕ) (v : Var) → At vars k v → range-of vars k ≡ record { low = v .lo; high = v .hi }
+range-of-at [] k v a = absurd a
+range-of-at (u ∷ us) zero v a = ap (λ (w : Var). record { low = w .lo; high = w .hi }) a
+range-of-at (u ∷ us) (suc k) v a = range-of-at us k v a
 
-in-declared : (vars : List Var) (k : ℕ) (z : ℤ) → k < length vars → in-range vars k z ≡ within (declared vars k .low) (declared vars k .high) z
-in-declared [] k z h = absurd (omega arith)
-in-declared (v ∷ vs) zero z h = refl
-in-declared (v ∷ vs) (suc k) z h = in-declared vs k z (omega arith)
+in-range-of : (vars : List Var) (k : ℕ) (z : ℤ) → k < length vars → in-range vars k z ≡ within (range-of vars k .low) (range-of vars k .high) z
+in-range-of [] k z h = absurd (omega arith)
+in-range-of (v ∷ vs) zero z h = refl
+in-range-of (v ∷ vs) (suc k) z h = in-range-of vs k z (omega arith)
 
 error-at : (locs : List Loc) (n : ℕ) (l : Loc) → At locs n l → error-location locs n ≡ l .error
 error-at [] n l a = absurd a
@@ -97,17 +97,17 @@ module _ (c : Chart) (ok : T (chart-ok c)) (rest : List ℤ) where
   var-word k v a i l = from-counts (variable-size * k + i) ∙ each-at var-words variable-size (λ v. T (var-ok v)) (λ v t. refl) (c .vars) after-vars k v (every-of var-ok (c .vars) (b .vars)) a i l
 
   -- a range, and the test of one, by the chart's words
-  pub declared-is : (k : ℕ) → k < length (c .vars) → record { low = word-at ws (variable-at k); high = word-at ws (variable-at k + high-place) } ≡ declared (c .vars) k
-  declared-is k h =
+  pub range-of-is : (k : ℕ) → k < length (c .vars) → record { low = word-at ws (variable-at k); high = word-at ws (variable-at k + high-place) } ≡ range-of (c .vars) k
+  range-of-is k h =
       let v = at-some (c .vars) k h in
       let e : variable-at k ≡ counts-size + (variable-size * k + low-place) = omega arith in
       let f : variable-at k + high-place ≡ counts-size + (variable-size * k + high-place) = omega arith in
       let p : word-at ws (variable-at k) ≡ v .0 .lo = rw e (var-word k (v .0) (v .1) low-place (omega arith)) in
       let q : word-at ws (variable-at k + high-place) ≡ v .0 .hi = rw f (var-word k (v .0) (v .1) high-place (omega arith)) in
-      (λ i. record { low = p i; high = q i }) ∙ sym (declared-at (c .vars) k (v .0) (v .1))
+      (λ i. record { low = p i; high = q i }) ∙ sym (range-of-at (c .vars) k (v .0) (v .1))
 
   pub range-is : (k : ℕ) (z : ℤ) → k < length (c .vars) → in-range-at ws k z ≡ in-range (c .vars) k z
-  range-is k z h = ap (λ (r : Span). within (r .low) (r .high) z) (declared-is k h) ∙ sym (in-declared (c .vars) k z h)
+  range-is k z h = ap (λ (r : Span). within (r .low) (r .high) z) (range-of-is k h) ∙ sym (in-range-of (c .vars) k z h)
 
   past-vars : (i : ℕ) → word-at ws (counts-size + (variable-size * length (c .vars) + i)) ≡ word-at after-vars i
   past-vars i = from-counts (variable-size * length (c .vars) + i) ∙ each-past var-words variable-size (λ v. T (var-ok v)) (λ v t. refl) (c .vars) after-vars i (every-of var-ok (c .vars) (b .vars))

@@ -4,7 +4,7 @@ use mathlib.Core.Bool.{Bool, true, _&&_, _||_, not}
 use mathlib.Core.List.{List, [], _∷_}
 use Prim.Native.Nat.{ℕ, zero, suc, _+_, _*_}
 use lib.Dec.{eqb}
-use lib.IntN.{ℤ, pos, natAbs}
+use lib.IntN.{ℤ, natAbs}
 use lib.Signed.{leZ, ltZ}
 use mir.Syntax.{w32}
 use mir.Val.{SFits}
@@ -12,7 +12,7 @@ use Rattle.semantics.specs.declared.Arithmetic.{Arithmetic}
 use Rattle.semantics.specs.declared.Arithmetic.the-variants.{Add, Sub}
 use Rattle.semantics.specs.Lists.{pick}
 use Rattle.semantics.specs.Chart.{eqZ, within}
-use Rattle.semantics.specs.Algorithm.{Step, halt, fault, to}
+use Rattle.semantics.specs.Algorithm.{Step, blocked, fault, to}
 use Rattle.semantics.specs.declared.Span.{Span}
 use Rattle.semantics.specs.Constants.{only, sums, differences}
 use Rattle.semantics.specs.Layout.{top-word, variable-size, location-size, edge-size, variable-at, high-place, init-place, to-place, operation-place, target-place, first-tag-place, first-value-place, second-tag-place, second-value-place, skip-code, set-code, add-code, sub-code, in-code, eq-code, ne-code, lt-code, le-code, gt-code, number-tag}
@@ -20,11 +20,11 @@ use Rattle.semantics.specs.Encoding.{word-at, count, kind-word, variable-count}
 use Rattle.state.specs.Rows.{location-in, row-at, value-at, with-location, with-value, word-join}
 use Rattle.chart.specs.Encoded.{locations-at, edges-at}
 use Rattle.transfer.specs.declared.Move.{Move}
-use Rattle.transfer.specs.declared.Move.the-variants.{Halt, Fault, Successor}
+use Rattle.transfer.specs.declared.Move.the-variants.{Blocked, Fault, Successor}
 
 -- the step that a move says, with the row that it leaves
 abbrev pub step-of : Move → List ℤ → Step (List ℤ)
-step-of Halt e = halt
+step-of Blocked e = blocked
 step-of Fault e = fault
 step-of Successor e = to e
 
@@ -110,7 +110,7 @@ holds-by n a b =
 
 -- variable k becomes z if that lies in its range
 unfoldable pub assign-ranged : List ℤ → ℕ → ℤ → List ℤ → Step (List ℤ)
-assign-ranged c k z e = pick (in-range-at c k z) (to (with-value e k z)) halt
+assign-ranged c k z e = pick (in-range-at c k z) (to (with-value e k z)) blocked
 
 -- a side of the relation of code n is variable k, at top; the other side is x. "With eq, one side known [..]: that
 -- variable takes the value if in its range, else no successor. Every other case passes unchanged"
@@ -120,7 +120,7 @@ refine-by c n k x e = pick (not (eqZ x top-word) && eqb n eq-code) (assign-range
 -- its sides are x, variable k, and y, variable j where it is at top
 unfoldable pub tested-by : List ℤ → ℕ → ℕ → ℕ → ℤ → ℤ → List ℤ → Step (List ℤ)
 tested-by c n k j x y e =
-    pick (eqZ x top-word) (refine-by c n k y e) (pick (eqZ y top-word) (refine-by c n j x e) (pick (holds-by n x y) (to e) halt))
+    pick (eqZ x top-word) (refine-by c n k y e) (pick (eqZ y top-word) (refine-by c n j x e) (pick (holds-by n x y) (to e) blocked))
 
 -- `if v rel a`, the relation of code n
 unfoldable pub assume-at : List ℤ → ℕ → ℕ → List ℤ → Step (List ℤ)
@@ -135,7 +135,7 @@ op-by n c i e =
 
 -- by the edge whose words stand at i
 unfoldable pub post-at : List ℤ → ℕ → List ℤ → Step (List ℤ)
-post-at c i e = pick (eqb (count c i) (location-in e)) (op-by (count c (i + operation-place)) c i (with-location e (count c (i + to-place)))) halt
+post-at c i e = pick (eqb (count c i) (location-in e)) (op-by (count c (i + operation-place)) c i (with-location e (count c (i + to-place)))) blocked
 
 -- by edge g, edges from 0
 unfoldable pub post-words : List ℤ → ℕ → List ℤ → Step (List ℤ)

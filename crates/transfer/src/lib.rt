@@ -17,7 +17,7 @@ ghost use Rattle.transfer.specs.Transfer.{step-of, Narrow, results-by, i
 // What a transfer answers, as the rules' `Step`: no successor; a fault, which is an overrun (request 2.1); or a successor,
 // which stands in the row lent.
 pub enum Move {
-    Halt,
+    Blocked,
     Fault,
     Successor,
 }
@@ -181,7 +181,7 @@ fn assign_ranged(chart: &[i32], k: usize, z: i64, row: &mut [i32]) -> Move
     ensures { λ r. ⌜ step-of r (now (row .exit)) ≡ assign-ranged (now (chart .entry)) k z (now (row .entry)) ⌝ }
 {
     if !in_range(chart, k, z) {
-        return Move::Halt;
+        return Move::Blocked;
     }
     let x = z as i32;
     state::set_value(row, k, x);
@@ -217,7 +217,7 @@ fn assume(chart: &[i32], n: usize, edge: EdgeRow, row: &mut [i32]) -> Move
     if holds(n, x, y) {
         return Move::Successor;
     }
-    Move::Halt
+    Move::Blocked
 }
 
 // The operation of the edge, by its code.
@@ -250,7 +250,7 @@ pub fn successor(chart: &[i32], edge: EdgeRow, row: &[i32], out: &mut [i32]) -> 
         state::set_location(out, to);
         return apply(chart, edge, out);
     }
-    Move::Halt
+    Move::Blocked
 }
 
 // Whether the row stands at an error location.

@@ -1,7 +1,7 @@
 -- `analysis::visit` meets its contract. Assumes nothing.
 use Rattle.semantics.proofs.Prelude.{_≡_, sym, ap, _∙_, true, false, List, arith, needs, ℤ, length}
 use Rattle.transfer.specs.declared.Move.{Move}
-use Rattle.transfer.specs.declared.Move.the-variants.{Halt, Fault, Successor}
+use Rattle.transfer.specs.declared.Move.the-variants.{Blocked, Fault, Successor}
 use Rattle.transfer.specs.Transfer.{step-of, post-at, error-row}
 use Rattle.analysis.proofs.visit.Statement.{statement}
 use Rattle.analysis.proofs.visit.Tie as tie
@@ -56,7 +56,7 @@ visit-spec =
     returns
     arrive-requires
     (λ c. search needs)
-    (λ c. let d = c .before .before .before .before in rw (c .went-on .ensures) (record { out = rw (moved d Halt (c .before .enum-told .given .1)); kept = start d .pre .0 .kept }))
+    (λ c. let d = c .before .before .before .before in rw (c .went-on .ensures) (record { out = rw (moved d Blocked (c .before .enum-told .given .1)); kept = start d .pre .0 .kept }))
     (λ c. search needs)
     (λ c. let d = c .before .before .before .before in rw (c .alarm-by .ensures) (record { out = rw (moved d Fault (c .before .enum-told2 .given .1)); kept = start d .pre .0 .kept }))
     (λ c. search needs) (λ c. search needs) (λ c. search needs)

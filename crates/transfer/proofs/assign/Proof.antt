@@ -1,5 +1,5 @@
 -- `transfer::assign` meets its contract. Assumes nothing.
-use Rattle.semantics.proofs.Prelude.{_∙_, needs, sfits-of, w32, sfits-lit}
+use Rattle.semantics.proofs.Prelude.{_∙_, needs, sfits-of, sfits-lit}
 use Rattle.semantics.specs.Layout.{top-word}
 use Rattle.words.proofs.Words.{told, told-eqb}
 use Rattle.transfer.specs.Transfer.{assign-at}

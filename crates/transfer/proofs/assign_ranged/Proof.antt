@@ -1,5 +1,5 @@
 -- `transfer::assign_ranged` meets its contract. Assumes nothing.
-use Rattle.semantics.proofs.Prelude.{_≡_, sym, ap, _∙_, needs, not-true, not-false, w32, w64, SFits, toZ-ofZ}
+use Rattle.semantics.proofs.Prelude.{_≡_, sym, ap, _∙_, needs, not-true, not-false, w32, w64, toZ-ofZ}
 use Rattle.transfer.specs.Transfer.{in-range-at, assign-ranged}
 use Rattle.transfer.proofs.assign_ranged.Statement.{statement}
 use Rattle.transfer.proofs.assign_ranged.Tie as tie

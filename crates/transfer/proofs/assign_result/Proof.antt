@@ -1,5 +1,5 @@
 -- `transfer::assign_result` meets its contract. Assumes nothing.
-use Rattle.semantics.proofs.Prelude.{_≡_, sym, ap, _∙_, _&&_, needs, sfits-of, not-true, not-false, w32, w64, SFits, toZ-ofZ}
+use Rattle.semantics.proofs.Prelude.{_≡_, sym, ap, _∙_, _&&_, needs, sfits-of, not-true, not-false, w32, w64, toZ-ofZ}
 use Rattle.semantics.proofs.Bools.{left-true}
 use Rattle.transfer.specs.Transfer.{in-range-at, assign-result}
 use Rattle.transfer.proofs.assign_result.Statement.{statement}

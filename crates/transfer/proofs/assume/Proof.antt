@@ -4,7 +4,7 @@ use Rattle.semantics.specs.Layout.{top-word}
 use Rattle.words.proofs.Words.{bits-eq, bits-ne, told}
 use Rattle.semantics.specs.Lists.{pick}
 use Rattle.semantics.specs.Chart.{eqZ}
-use Rattle.semantics.specs.Algorithm.{halt, to}
+use Rattle.semantics.specs.Algorithm.{blocked, to}
 use Rattle.state.specs.Rows.{value-at}
 use Rattle.transfer.specs.Transfer.{first-at, target-at, holds-by, refine-by, tested-by, assume-at}
 use Rattle.transfer.proofs.assume.Statement.{statement}
@@ -60,7 +60,7 @@ returns-2 c =
 
 -- neither side is at top: the test decides
 decided : (c : tie.After-holds) (t : Bool) → c .holds .result ≡ t →
-    let a = start (c .before .before .before) .args in pick t (to (a .row .now)) halt ≡ assume-at (a .chart .now) (a .n) (a .edge .at) (a .row .now)
+    let a = start (c .before .before .before) .args in pick t (to (a .row .now)) blocked ≡ assume-at (a .chart .now) (a .n) (a .edge .at) (a .row .now)
 unfolding assume-at tested-by
 decided c t e =
     let o = c .before .before .before in
@@ -69,7 +69,7 @@ decided c t e =
     let q = told (right-fits o) (o .first-operand .ensures) in
     let h = c .holds .ensures ∙ λ i. holds-by (a .n) (p i) (q i) in
     let known : eqZ (y o) top-word ≡ false = rw (o .first-operand .ensures) at (bits-ne w32 {b = top-word} (right-fits o) (sfits-lit tt) (c .before .if2 .left)) in
-    rw (left-known o (c .before .before .if1 .left), known) (ap (λ (b : Bool). pick b (to (a .row .now)) halt) (sym e ∙ h))
+    rw (left-known o (c .before .before .if1 .left), known) (ap (λ (b : Bool). pick b (to (a .row .now)) blocked) (sym e ∙ h))
 
 pub assume-spec : {M : Type 1} → statement M
 assume-spec =
