@@ -3,7 +3,7 @@
 //! An abstract state (document 01's entry) is a row of words: its location,
 //! then for each variable a value or `TOP`. A concrete state is a row without `TOP`.
 
-use crate::chart::{Chart, Edge, Operand, Operation, Relation, MAX_VARIABLES};
+use crate::chart::{Chart, Edge, Operand, Operation, Relation, Variable, MAX_VARIABLES};
 
 /// Document 01's "unspecific", as the lent words write it; no variable can hold it.
 pub const TOP: i32 = 32_768;
@@ -42,33 +42,46 @@ pub fn join_into(row: &mut [i32], other: &[i32]) -> bool {
     is_changed
 }
 
-/// One abstract move of `source` along `edge`, written to `successor`; false when there is none.
-pub fn transfer(chart: &Chart, edge: &Edge, source: &[i32], successor: &mut [i32]) -> bool {
+/// What one abstract move comes to.
+#[derive(Clone, Copy, Debug, PartialEq, Eq)]
+pub enum Move {
+    /// A condition that cannot hold: no successor.
+    Halt,
+    /// A result may lie outside the target's range.
+    Overrun,
+    /// Written where the caller wanted it.
+    Successor,
+}
+
+/// What an operand or a result may be, from its lowest to its highest value.
+#[derive(Clone, Copy, Debug, PartialEq, Eq)]
+pub struct Span {
+    pub low: i32,
+    pub high: i32,
+    /// How many operands of it are not known; one of a range of one value is not known either.
+    pub unknown: usize,
+}
+
+/// One abstract move of `source` along `edge`; a successor is written to `successor`.
+pub fn transfer(chart: &Chart, edge: &Edge, source: &[i32], successor: &mut [i32]) -> Move {
     successor.copy_from_slice(source);
     successor[0] = edge.to.0 as i32;
+    if let Some((target, result)) = result(&chart.variables, edge.operation, source) {
+        let Variable { low, high, .. } = chart.variables[target];
+        if result.low < low || high < result.high {
+            return Move::Overrun;
+        }
+        successor[target + 1] = if result.unknown == 0 { result.low } else { TOP };
+        return Move::Successor;
+    }
     match edge.operation {
-        Operation::Skip => true,
-        Operation::Set { target, value } => {
-            let result = known(source, value);
-            assign(chart, target, result, successor)
-        }
-        Operation::Add { target, left, right } => {
-            let result =
-                known(source, left).zip(known(source, right)).map(|(left, right)| left + right);
-            assign(chart, target, result, successor)
-        }
-        Operation::Sub { target, left, right } => {
-            let result =
-                known(source, left).zip(known(source, right)).map(|(left, right)| left - right);
-            assign(chart, target, result, successor)
-        }
         Operation::In { target, low, high } => {
             successor[target + 1] = if low == high { low } else { TOP };
-            true
+            Move::Successor
         }
         Operation::If { target, relation, right } => {
             let left = Operand::Variable(target);
-            match (known(source, left), known(source, right)) {
+            let passes = match (known(source, left), known(source, right)) {
                 (Some(left), Some(right)) => relation.holds(left, right),
                 (Some(value), None) if relation == Relation::Eq => {
                     specify(chart, right, value, successor)
@@ -77,8 +90,56 @@ pub fn transfer(chart: &Chart, edge: &Edge, source: &[i32], successor: &mut [i32
                     specify(chart, left, value, successor)
                 }
                 _ => true,
+            };
+            if passes {
+                Move::Successor
+            } else {
+                Move::Halt
             }
         }
+        _ => Move::Successor,
+    }
+}
+
+/// The target of set, add or sub and what it may become, the operands taken independently, even
+/// where they are one variable. Numbers and values take 16 bits, so no sum of two leaves 32.
+pub fn result(
+    variables: &[Variable],
+    operation: Operation,
+    source: &[i32],
+) -> Option<(usize, Span)> {
+    let span = |operand| span(variables, source, operand);
+    match operation {
+        Operation::Set { target, value } => Some((target, span(value))),
+        Operation::Add { target, left, right } => {
+            let (left, right) = (span(left), span(right));
+            let (low, high) = (left.low + right.low, left.high + right.high);
+            Some((target, Span { low, high, unknown: left.unknown + right.unknown }))
+        }
+        Operation::Sub { target, left, right } => {
+            let (left, right) = (span(left), span(right));
+            let (low, high) = (left.low - right.high, left.high - right.low);
+            Some((target, Span { low, high, unknown: left.unknown + right.unknown }))
+        }
+        Operation::Skip | Operation::In { .. } | Operation::If { .. } => None,
+    }
+}
+
+/// The known value, or all of the declared range.
+fn span(variables: &[Variable], source: &[i32], operand: Operand) -> Span {
+    match operand {
+        Operand::Variable(variable) if source[variable + 1] == TOP => {
+            let Variable { low, high, .. } = variables[variable];
+            Span { low, high, unknown: 1 }
+        }
+        Operand::Variable(variable) => Span::of(source[variable + 1]),
+        Operand::Number(number) => Span::of(number),
+    }
+}
+
+impl Span {
+    fn of(value: i32) -> Self {
+        Span { low: value, high: value, unknown: 0 }
     }
 }
 
@@ -87,12 +148,6 @@ fn known(state: &[i32], operand: Operand) -> Option<i32> {
         Operand::Number(number) => Some(number),
         Operand::Variable(variable) => Some(state[variable + 1]).filter(|&value| value != TOP),
     }
-}
-
-/// A known result halts the machine when it is out of range; an unknown one always goes on.
-fn assign(chart: &Chart, target: usize, result: Option<i32>, successor: &mut [i32]) -> bool {
-    successor[target + 1] = result.unwrap_or(TOP);
-    result.is_none_or(|value| chart.variables[target].contains(value))
 }
 
 /// Gives the unspecific side of a passed `eq` the value of the known side.
