@@ -1,10 +1,16 @@
 //! The generators reach everything there is to compare: every operation and
-//! relation, every refusal number, every verdict and every corner of an analysis.
+//! relation, every refusal number, every verdict and every corner of an analysis;
+//! and neither overruns nor safe charts are rare.
 
+use std::ops::RangeInclusive;
+
+use reference::analysis::{Analysis, Verdict};
 use reference::chart::{Chart, Operand, Operation};
 use reference::coverage::{corner_labels, corner_labels_of, program_label, program_labels, Met};
+use reference::explorer::Explorer;
 use reference::program::{printed, walk};
-use reference::random::{count_at_least, inputs, seed, Random};
+use reference::random::charts::small;
+use reference::random::{count_at_least, inputs, permitted_settings, seed, Random};
 
 const INPUTS: usize = 14_000;
 /// Of each, so that another seed finds it too.
@@ -23,6 +29,47 @@ fn inputs_meet_every_refusal_verdict_and_corner() {
     }
     met.assert_exactly(&program_labels(), FEWEST);
     corners.assert_exactly(&corner_labels(), FEWEST);
+}
+
+fn assert_share(what: &str, part: usize, whole: usize, percent: RangeInclusive<usize>) {
+    println!("{what}: {part} of {whole}");
+    let range = whole * percent.start()..=whole * percent.end();
+    assert!(range.contains(&(part * 100)), "{what}: {part} of {whole}, not {percent:?} percent");
+}
+
+/// Of small charts and what is made of them with enough room.
+#[test]
+fn overruns_are_neither_rare_nor_the_rule() {
+    let mut random = Random::new(seed() ^ 2);
+    let charts = count_at_least(3_000);
+    let (mut overrunning, mut erring, mut false_alarms) = (0, 0, 0);
+    let mut by_settings = permitted_settings().map(|settings| (settings, 0, 0, 0));
+    for _ in 0..charts {
+        let chart = small(&mut random);
+        let explorer = Explorer::new(&chart, 10_000).expect("small charts have few states");
+        overrunning += usize::from(explorer.overruns());
+        erring += usize::from(explorer.reaches_error());
+        for (settings, safe, alarms, overruns) in &mut by_settings {
+            let mut analysis = Analysis::start(&chart, *settings, 256);
+            analysis.run(&chart, 60_000);
+            *safe += usize::from(analysis.verdict == Verdict::Safe);
+            *alarms += usize::from(analysis.verdict == Verdict::Alarm);
+            // An alarm along an edge to an ordinary location.
+            let is_overrun =
+                analysis.edge.is_some_and(|id| !chart.location(chart.edge(id).to).is_error);
+            *overruns += usize::from(is_overrun);
+            false_alarms += usize::from(is_overrun && !explorer.overruns());
+        }
+    }
+    assert_share("charts with a run that overruns", overrunning, charts, 15..=85);
+    assert_share("charts with a run to an error location", erring, charts, 15..=85);
+    let mut all_overruns = 0;
+    for (settings, safe, alarms, overruns) in by_settings {
+        assert_share(&format!("{settings:?}, safe"), safe, charts, 15..=85);
+        assert_share(&format!("{settings:?}, overruns"), overruns, alarms, 15..=85);
+        all_overruns += overruns;
+    }
+    assert_share("overruns of no run", false_alarms, all_overruns, 5..=85);
 }
 
 #[test]
