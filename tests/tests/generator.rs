@@ -61,15 +61,15 @@ fn overruns_are_neither_rare_nor_the_rule() {
             false_alarms += usize::from(is_overrun && !explorer.overruns());
         }
     }
-    assert_share("charts with a run that overruns", overrunning, charts, 15..=85);
-    assert_share("charts with a run to an error location", erring, charts, 15..=85);
+    assert_share("charts with a run that overruns", overrunning, charts, 20..=50);
+    assert_share("charts with a run to an error location", erring, charts, 12..=40);
     let mut all_overruns = 0;
     for (settings, safe, alarms, overruns) in by_settings {
-        assert_share(&format!("{settings:?}, safe"), safe, charts, 15..=85);
-        assert_share(&format!("{settings:?}, overruns"), overruns, alarms, 15..=85);
+        assert_share(&format!("{settings:?}, safe"), safe, charts, 35..=70);
+        assert_share(&format!("{settings:?}, overruns"), overruns, alarms, 35..=75);
         all_overruns += overruns;
     }
-    assert_share("overruns of no run", false_alarms, all_overruns, 5..=85);
+    assert_share("overruns of no run", false_alarms, all_overruns, 3..=25);
 }
 
 #[test]

@@ -174,10 +174,10 @@ pub fn brink(random: &mut Random) -> Chart {
         to: LocationId(to),
         operation,
     };
-    // Behind a condition no run need come so far.
-    let from = if random.percent(70) { 0 } else { 1 };
+    // Behind a condition on an unknown variable, of which the analysis knows no more there, runs may fit.
+    let (unknown, from) = (random.pick(&[1, 2]), random.pick(&[0, 1]));
     let mut edges = vec![
-        lead(0, 1, operations.condition(random)),
+        lead(0, 1, operations.condition(random, unknown)),
         lead(from, random.below(count), computation),
     ];
     for _ in 0..random.below(5) {
@@ -301,7 +301,7 @@ fn edges(
     for to in (1..locations.len()).take(wanted) {
         let from = random.below(to);
         let operation = match locations[to].is_error {
-            true => operations.condition(random),
+            true => operations.any_condition(random),
             false => operations.passing(random),
         };
         edges.push(Edge { from: LocationId(from), to: LocationId(to), operation });
@@ -311,7 +311,7 @@ fn edges(
         let to = if random.percent(30) { from } else { random.below(locations.len()) };
         // Conditions keep an error location from ending most analyses at once.
         let operation = match locations[to].is_error && random.percent(80) {
-            true => operations.condition(random),
+            true => operations.any_condition(random),
             false => operations.any(random),
         };
         edges.push(Edge { from: LocationId(from), to: LocationId(to), operation });

@@ -30,12 +30,19 @@ pub fn program_input(random: &mut Random) -> Vec<u8> {
 /// when its iteration ends in an alarm or in a full table, or an overrun of each sort.
 fn corner_input(random: &mut Random) -> Vec<u8> {
     let (sep, join) = (&permitted_settings()[..2], &permitted_settings()[2..]);
-    let (chart, settings, is_largest) = match random.below(10) {
-        0 | 1 => (charts::fan(random), random.pick(sep), true),
-        2..=5 => (charts::hub(random), random.pick(join), false),
-        _ => (charts::brink(random), random.settings(), false),
+    let (chart, settings, capacity) = match random.below(10) {
+        0 | 1 => (charts::fan(random), random.pick(sep), 256),
+        2..=5 => {
+            let (chart, settings) = (charts::hub(random), random.pick(join));
+            let capacity = tight_capacity(random, &chart, settings);
+            (chart, settings, capacity)
+        }
+        _ => {
+            let (chart, settings) = (charts::brink(random), random.settings());
+            let capacity = capacity(random, &chart, settings);
+            (chart, settings, capacity)
+        }
     };
-    let capacity = if is_largest { 256 } else { tight_capacity(random, &chart, settings) };
     let budget = match random.percent(10) {
         true => tight_budget(random, &chart, settings, capacity),
         false => 60_000,
@@ -49,8 +56,8 @@ pub fn chart(random: &mut Random) -> Chart {
         0..=2 => charts::LARGE,
         3..=5 => charts::DEEP,
         6..=8 => return charts::hub(random),
-        9..=13 => return charts::brink(random),
-        14 | 15 => return charts::fan(random),
+        9..=12 => return charts::brink(random),
+        13..=15 => return charts::fan(random),
         _ => charts::SMALL,
     };
     charts::chart(random, shape)

@@ -19,7 +19,7 @@ impl Operations<'_> {
     pub fn any(&self, random: &mut Random) -> Operation {
         match random.below(10) {
             0 => Operation::Skip,
-            1..=3 => self.condition(random),
+            1..=3 => self.any_condition(random),
             4..=6 => self.passing(random),
             _ => self.computation(random),
         }
@@ -52,10 +52,14 @@ impl Operations<'_> {
         }
     }
 
-    pub fn condition(&self, random: &mut Random) -> Operation {
-        let Some(target) = self.target(random) else {
-            return Operation::Skip;
-        };
+    pub fn any_condition(&self, random: &mut Random) -> Operation {
+        match self.target(random) {
+            Some(target) => self.condition(random, target),
+            None => Operation::Skip,
+        }
+    }
+
+    pub fn condition(&self, random: &mut Random, target: usize) -> Operation {
         let relation = random.pick(&Relation::ALL);
         let right = match random.percent(40) {
             true => self.variable(random),
