@@ -150,18 +150,19 @@ impl Analysis {
         self.iterations += 1;
         let taken = self.waitlist.take(self.settings.order);
         source.copy_from_slice(self.reached.row(taken));
-        let used = self.reached.len();
-        let (mut is_widened, mut is_any_widened) = (false, false);
+        let used_before = self.reached.len();
+        let (mut is_taken_widened, mut is_any_widened) = (false, false);
         for &id in outgoing.of(location_of(source)) {
             let edge = chart.edge(id);
             let moved = domain::transfer(chart, edge, source, successor);
-            corner::note_result(&mut self.corners, chart, edge.operation, source);
             match moved {
                 Move::Halt => continue,
                 Move::Overrun => {
-                    self.note_overrun(edge.to, self.reached.len() > used, is_any_widened)
+                    corner::note_result(&mut self.corners, chart, edge.operation, source);
+                    let is_any_stored = self.reached.len() > used_before;
+                    self.note_overrun(edge.to, is_any_stored, is_any_widened);
                 }
-                Move::Successor if is_widened => self.note_copy(chart, edge, taken),
+                Move::Successor if is_taken_widened => self.note_copy(chart, edge, taken),
                 Move::Successor => {}
             }
             // Before merging and the capacity, or a full table would hide an alarm.
@@ -169,19 +170,24 @@ impl Analysis {
                 self.edge = Some(id);
                 return self.break_off(taken, Verdict::Alarm);
             }
-            is_any_widened |= self.merge(successor);
+            let is_widening = self.merge(successor);
+            is_any_widened |= is_widening;
             if self.reached.row(taken) != source {
-                is_widened = true;
+                is_taken_widened = true;
                 self.corners.insert(Corner::SelfLoop);
             }
-            if self.stops(successor) {
-                continue;
+            let is_new = !self.stops(successor);
+            if is_new {
+                if self.reached.len() == self.capacity {
+                    return self.break_off(taken, Verdict::Full);
+                }
+                let slot = self.reached.push(successor);
+                self.waitlist.add(slot);
             }
-            if self.reached.len() == self.capacity {
-                return self.break_off(taken, Verdict::Full);
+            // Only of a successor that is left in the table: others come by far too often.
+            if is_new || is_widening {
+                corner::note_result(&mut self.corners, chart, edge.operation, source);
             }
-            let slot = self.reached.push(successor);
-            self.waitlist.add(slot);
         }
         if self.waitlist.is_empty() {
             self.verdict = Verdict::Safe;
@@ -197,16 +203,16 @@ impl Analysis {
         self.waitlist.put_next(taken, self.settings.order);
     }
 
-    /// What an overrun along an edge to `to` has left as it was.
-    fn note_overrun(&mut self, to: LocationId, is_after_stored: bool, is_after_widened: bool) {
+    /// What an overrun along an edge to `to` comes before, and after which edges of the iteration.
+    fn note_overrun(&mut self, to: LocationId, is_any_stored: bool, is_any_widened: bool) {
         let has_slot = self.reached.rows().any(|row| location_of(row) == to);
         let is_full = self.reached.len() == self.capacity;
         let is_joining = self.settings.merge == Merge::Join;
         let corners = [
             (Corner::OverrunFull, is_full && !has_slot),
             (Corner::OverrunUnmerged, is_joining && has_slot),
-            (Corner::OverrunAfterStored, is_after_stored),
-            (Corner::OverrunAfterWidened, is_after_widened),
+            (Corner::OverrunAfterStored, is_any_stored),
+            (Corner::OverrunAfterWidened, is_any_widened),
         ];
         self.corners.extend(corners.iter().filter(|(_, is_met)| *is_met).map(|(corner, _)| corner));
     }

@@ -126,13 +126,13 @@ fn moved_to_the_place_taken_next() {
 /// edges after it are not followed.
 #[test]
 fn an_overrun_stores_and_merges_nothing() {
-    let edges = "E 0 1 skip\nE 0 1 set $0 2\nE 0 2 skip\nE 0 2 add $0 $1 7\nE 0 3 skip";
+    let edges = "E 0 1 skip\nE 0 1 set $0 2\nE 0 2 set $0 1\nE 0 2 add $0 $1 7\nE 0 3 skip";
     let chart = chart(&format!("V x 0 9 0\nV y 0 3 *\nL a o\nL b o\nL c o\nL d o\n{edges}"));
     let (widened, kept) = ([1, TOP, TOP], [1, 0, TOP, 1, 2, TOP]);
     for (merge, capacity, from_b, used) in
         [("join", 8, &widened[..], 3), ("join", 3, &widened, 3), ("sep", 8, &kept, 4)]
     {
-        let table = [&[0, 0, TOP], from_b, &[2, 0, TOP]].concat();
+        let table = [&[0, 0, TOP], from_b, &[2, 1, TOP]].concat();
         for order in ["old", "new"] {
             let mut memory = started(&chart, &format!("{merge} sep {order}"), capacity);
             assert_eq!(memory.run(9), DONE);
