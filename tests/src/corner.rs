@@ -17,7 +17,7 @@ pub enum Corner {
     CopyFits,
     /// The taken slot waits again, elsewhere, when an alarm or a full table moves it to the place taken next.
     PutBack,
-    /// A result of set, add or sub, of unknown operands or out of range.
+    /// A result of set, add or sub that overruns, or has unknown operands and is left in the table.
     Result { operation: &'static str, unknown: usize, low: End, high: End },
     /// An operand of it that is unspecific, though its range has one value.
     OneValue { overruns: bool },

@@ -16,7 +16,7 @@ pub struct Shape {
     pub edges: usize,
     /// The most values in a variable's range.
     pub span: i32,
-    /// Of which one is the percentage of sets, adds and subs that may overrun: the more edges, the fewer must.
+    /// One of these is the percentage of sets, adds and subs that may overrun; a chart with many edges bears few.
     pub risks: [usize; 5],
 }
 
