@@ -227,7 +227,8 @@ impl Analysis {
         }
     }
 
-    /// Tells whether a slot was widened.
+    /// Tells whether a slot was widened. Made one with the iteration, it takes more instructions for each slot.
+    #[inline(never)]
     fn merge(&mut self, successor: &[i32]) -> bool {
         let mut is_widened = false;
         if self.settings.merge == Merge::Sep {

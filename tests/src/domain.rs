@@ -3,6 +3,8 @@
 //! An abstract state (document 01's entry) is a row of words: its location,
 //! then for each variable a value or `TOP`. A concrete state is a row without `TOP`.
 
+use std::ops::{Add, Sub};
+
 use crate::chart::{Chart, Edge, Operand, Operation, Relation, Variable, MAX_VARIABLES};
 
 /// Document 01's "unspecific", as the lent words write it; no variable can hold it.
@@ -66,15 +68,16 @@ pub struct Span {
 pub fn transfer(chart: &Chart, edge: &Edge, source: &[i32], successor: &mut [i32]) -> Move {
     successor.copy_from_slice(source);
     successor[0] = edge.to.0 as i32;
-    if let Some((target, result)) = result(&chart.variables, edge.operation, source) {
-        let Variable { low, high, .. } = chart.variables[target];
-        if result.low < low || high < result.high {
-            return Move::Overrun;
-        }
-        successor[target + 1] = if result.unknown == 0 { result.low } else { TOP };
-        return Move::Successor;
-    }
+    let span = |operand| span(&chart.variables, source, operand);
     match edge.operation {
+        Operation::Skip => Move::Successor,
+        Operation::Set { target, value } => assign(chart, target, span(value), successor),
+        Operation::Add { target, left, right } => {
+            assign(chart, target, span(left) + span(right), successor)
+        }
+        Operation::Sub { target, left, right } => {
+            assign(chart, target, span(left) - span(right), successor)
+        }
         Operation::In { target, low, high } => {
             successor[target + 1] = if low == high { low } else { TOP };
             Move::Successor
@@ -97,12 +100,20 @@ pub fn transfer(chart: &Chart, edge: &Edge, source: &[i32], successor: &mut [i32
                 Move::Halt
             }
         }
-        _ => Move::Successor,
     }
 }
 
-/// The target of set, add or sub and what it may become, the operands taken independently, even
-/// where they are one variable. Numbers and values take 16 bits, so no sum of two leaves 32.
+/// Overruns where some result is out of range; else the target is known where all operands are.
+fn assign(chart: &Chart, target: usize, result: Span, successor: &mut [i32]) -> Move {
+    let Variable { low, high, .. } = chart.variables[target];
+    if result.low < low || high < result.high {
+        return Move::Overrun;
+    }
+    successor[target + 1] = if result.unknown == 0 { result.low } else { TOP };
+    Move::Successor
+}
+
+/// The target of set, add or sub, and what it may become.
 pub fn result(
     variables: &[Variable],
     operation: Operation,
@@ -111,16 +122,8 @@ pub fn result(
     let span = |operand| span(variables, source, operand);
     match operation {
         Operation::Set { target, value } => Some((target, span(value))),
-        Operation::Add { target, left, right } => {
-            let (left, right) = (span(left), span(right));
-            let (low, high) = (left.low + right.low, left.high + right.high);
-            Some((target, Span { low, high, unknown: left.unknown + right.unknown }))
-        }
-        Operation::Sub { target, left, right } => {
-            let (left, right) = (span(left), span(right));
-            let (low, high) = (left.low - right.high, left.high - right.low);
-            Some((target, Span { low, high, unknown: left.unknown + right.unknown }))
-        }
+        Operation::Add { target, left, right } => Some((target, span(left) + span(right))),
+        Operation::Sub { target, left, right } => Some((target, span(left) - span(right))),
         Operation::Skip | Operation::In { .. } | Operation::If { .. } => None,
     }
 }
@@ -140,6 +143,32 @@ fn span(variables: &[Variable], source: &[i32], operand: Operand) -> Span {
 impl Span {
     fn of(value: i32) -> Self {
         Span { low: value, high: value, unknown: 0 }
+    }
+}
+
+/// The operands are taken independently, even where they are one variable. Numbers and values take
+/// 16 bits, so no sum of two leaves 32.
+impl Add for Span {
+    type Output = Span;
+
+    fn add(self, right: Span) -> Span {
+        Span {
+            low: self.low + right.low,
+            high: self.high + right.high,
+            unknown: self.unknown + right.unknown,
+        }
+    }
+}
+
+impl Sub for Span {
+    type Output = Span;
+
+    fn sub(self, right: Span) -> Span {
+        Span {
+            low: self.low - right.high,
+            high: self.high - right.low,
+            unknown: self.unknown + right.unknown,
+        }
     }
 }
 
