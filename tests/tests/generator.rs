@@ -4,7 +4,7 @@
 
 use std::ops::RangeInclusive;
 
-use reference::analysis::{Analysis, Verdict};
+use reference::analysis::{Analysis, Merge, Verdict};
 use reference::chart::{Chart, Operand, Operation};
 use reference::coverage::{corner_labels, corner_labels_of, program_label, program_labels, Met};
 use reference::explorer::Explorer;
@@ -35,6 +35,26 @@ fn assert_share(what: &str, part: usize, whole: usize, percent: RangeInclusive<u
     println!("{what}: {part} of {whole}");
     let range = whole * percent.start()..=whole * percent.end();
     assert!(range.contains(&(part * 100)), "{what}: {part} of {whole}, not {percent:?} percent");
+}
+
+/// A count, an error location or an overrun must not end most walks early: with `sep` hundreds of slots
+/// are followed, with `join` one slot after the other is widened and followed again.
+#[test]
+fn long_walks_are_not_rare() {
+    let mut random = Random::new(seed() ^ 3);
+    let (mut walks, mut long_walks) = ([0, 0], [0, 0]);
+    for _ in 0..count_at_least(INPUTS) {
+        if let Ok((_, analysis)) = walk(&inputs::program_input(&mut random)) {
+            let (place, long) = match analysis.settings.merge {
+                Merge::Sep => (0, 100),
+                Merge::Join => (1, 8),
+            };
+            walks[place] += 1;
+            long_walks[place] += usize::from(analysis.iterations >= long);
+        }
+    }
+    assert_share("with sep, 100 iterations", long_walks[0], walks[0], 5..=30);
+    assert_share("with join, 8 iterations", long_walks[1], walks[1], 2..=20);
 }
 
 /// Of small charts and what is made of them with enough room.
@@ -76,7 +96,7 @@ fn overruns_are_neither_rare_nor_the_rule() {
 fn charts_have_every_operation() {
     let mut random = Random::new(seed() ^ 1);
     let mut met = Met::new();
-    for _ in 0..count_at_least(3_000) {
+    for _ in 0..count_at_least(4_000) {
         let chart = inputs::chart(&mut random);
         for label in labels(&chart) {
             met.add(label);

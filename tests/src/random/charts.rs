@@ -30,7 +30,7 @@ pub const LARGE: Shape = Shape {
     locations: MAX_LOCATIONS,
     edges: MAX_EDGES,
     span: 65_536,
-    risks: [0, 0, 0, 1, 5],
+    risks: [0, 0, 0, 0, 3],
 };
 
 /// Few locations with long counts, for full tables and many joins.
@@ -44,7 +44,7 @@ pub fn chart(random: &mut Random, shape: Shape) -> Chart {
     let operations = Operations {
         variables: &variables,
         risk: random.pick(&shape.risks),
-        has_long_counts: random.percent(50),
+        has_long_counts: random.percent(30),
     };
     let edges = edges(random, shape, &operations, &locations);
     Chart { variables, locations, edges }

@@ -53,8 +53,8 @@ fn corner_input(random: &mut Random) -> Vec<u8> {
 /// A chart of any shape.
 pub fn chart(random: &mut Random) -> Chart {
     let shape = match random.below(20) {
-        0..=2 => charts::LARGE,
-        3..=5 => charts::DEEP,
+        0..=3 => charts::LARGE,
+        4 | 5 => charts::DEEP,
         6..=8 => return charts::hub(random),
         9..=12 => return charts::brink(random),
         13..=15 => return charts::fan(random),
