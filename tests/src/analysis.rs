@@ -2,8 +2,9 @@
 
 use std::collections::{BTreeSet, VecDeque};
 
-use crate::chart::{Chart, EdgeId, LocationId, SlotId};
-use crate::domain::{self, MAX_WIDTH};
+use crate::chart::{Chart, Edge, EdgeId, LocationId, SlotId};
+use crate::corner::{self, Corner};
+use crate::domain::{self, Move, MAX_WIDTH};
 use crate::refusal::Reason;
 
 pub const MAX_CAPACITY: usize = 256;
@@ -43,19 +44,6 @@ pub enum Verdict {
     Full,
     /// Document 01's "unfinished".
     Open,
-}
-
-/// What few iterations meet and much can go wrong at.
-#[derive(Clone, Copy, Debug, PartialEq, Eq, PartialOrd, Ord)]
-pub enum Corner {
-    /// A slot that waits before another is widened, and keeps its place.
-    KeepsPlace,
-    /// A self-loop widens the taken slot.
-    SelfLoop,
-    /// After that a later edge has a successor, which is the copy's.
-    CopyFollowed,
-    /// The taken slot waits again, elsewhere, when an alarm or a full table moves it to the place taken next.
-    PutBack,
 }
 
 /// Document 01's walk.
@@ -162,33 +150,44 @@ impl Analysis {
         self.iterations += 1;
         let taken = self.waitlist.take(self.settings.order);
         source.copy_from_slice(self.reached.row(taken));
-        let mut is_widened = false;
+        let used_before = self.reached.len();
+        let (mut is_taken_widened, mut is_any_widened) = (false, false);
         for &id in outgoing.of(location_of(source)) {
             let edge = chart.edge(id);
-            if !domain::transfer(chart, edge, source, successor) {
-                continue;
+            let moved = domain::transfer(chart, edge, source, successor);
+            match moved {
+                Move::Halt => continue,
+                Move::Overrun => {
+                    corner::note_result(&mut self.corners, chart, edge.operation, source);
+                    let is_any_stored = self.reached.len() > used_before;
+                    self.note_overrun(edge.to, is_any_stored, is_any_widened);
+                }
+                Move::Successor if is_taken_widened => self.note_copy(chart, edge, taken),
+                Move::Successor => {}
             }
-            if is_widened {
-                self.corners.insert(Corner::CopyFollowed);
-            }
-            // Before the capacity, or a full table would hide an alarm.
-            if chart.location(edge.to).is_error {
+            // Before merging and the capacity, or a full table would hide an alarm.
+            if moved == Move::Overrun || chart.location(edge.to).is_error {
                 self.edge = Some(id);
                 return self.break_off(taken, Verdict::Alarm);
             }
-            self.merge(successor);
+            let is_widening = self.merge(successor);
+            is_any_widened |= is_widening;
             if self.reached.row(taken) != source {
-                is_widened = true;
+                is_taken_widened = true;
                 self.corners.insert(Corner::SelfLoop);
             }
-            if self.stops(successor) {
-                continue;
+            let is_new = !self.stops(successor);
+            if is_new {
+                if self.reached.len() == self.capacity {
+                    return self.break_off(taken, Verdict::Full);
+                }
+                let slot = self.reached.push(successor);
+                self.waitlist.add(slot);
             }
-            if self.reached.len() == self.capacity {
-                return self.break_off(taken, Verdict::Full);
+            // Only of a successor that is left in the table: others come by far too often.
+            if is_new || is_widening {
+                corner::note_result(&mut self.corners, chart, edge.operation, source);
             }
-            let slot = self.reached.push(successor);
-            self.waitlist.add(slot);
         }
         if self.waitlist.is_empty() {
             self.verdict = Verdict::Safe;
@@ -204,9 +203,36 @@ impl Analysis {
         self.waitlist.put_next(taken, self.settings.order);
     }
 
-    fn merge(&mut self, successor: &[i32]) {
+    /// What an overrun along an edge to `to` comes before, and after which edges of the iteration.
+    fn note_overrun(&mut self, to: LocationId, is_any_stored: bool, is_any_widened: bool) {
+        let has_slot = self.reached.rows().any(|row| location_of(row) == to);
+        let is_full = self.reached.len() == self.capacity;
+        let is_joining = self.settings.merge == Merge::Join;
+        let corners = [
+            (Corner::OverrunFull, is_full && !has_slot),
+            (Corner::OverrunUnmerged, is_joining && has_slot),
+            (Corner::OverrunAfterStored, is_any_stored),
+            (Corner::OverrunAfterWidened, is_any_widened),
+        ];
+        self.corners.extend(corners.iter().filter(|(_, is_met)| *is_met).map(|(corner, _)| corner));
+    }
+
+    /// An edge has followed the copy of the taken slot, which is wider now.
+    fn note_copy(&mut self, chart: &Chart, edge: &Edge, taken: SlotId) {
+        self.corners.insert(Corner::CopyFollowed);
+        let mut words = [0; MAX_WIDTH];
+        let slot = self.reached.row(taken);
+        if domain::transfer(chart, edge, slot, &mut words[..slot.len()]) == Move::Overrun {
+            self.corners.insert(Corner::CopyFits);
+        }
+    }
+
+    /// Tells whether a slot was widened. Made one with the iteration, it takes more instructions for each slot.
+    #[inline(never)]
+    fn merge(&mut self, successor: &[i32]) -> bool {
+        let mut is_widened = false;
         if self.settings.merge == Merge::Sep {
-            return;
+            return is_widened;
         }
         for (slot, row) in self.reached.rows_mut().enumerate() {
             if row[0] == successor[0] && domain::join_into(row, successor) {
@@ -215,8 +241,10 @@ impl Analysis {
                     self.corners.insert(Corner::KeepsPlace);
                 }
                 self.waitlist.add(slot);
+                is_widened = true;
             }
         }
+        is_widened
     }
 
     fn stops(&self, successor: &[i32]) -> bool {

@@ -1,9 +1,10 @@
 //! What a comparison has met, so that a test can tell that it has met everything.
 
-use std::collections::BTreeMap;
+use std::collections::{BTreeMap, BTreeSet};
 use std::fmt::Debug;
 
-use crate::analysis::{Analysis, Corner, Merge, Order, Settings, Verdict, MAX_CAPACITY};
+use crate::analysis::{Analysis, Merge, Order, Settings, Verdict, MAX_CAPACITY};
+use crate::corner::{Corner, End};
 use crate::random::permitted_settings;
 
 /// How often each label was met.
@@ -80,22 +81,48 @@ pub fn analysis_labels() -> Vec<String> {
 
 /// What a run has met that few meet, by the analysis as the run left it: corners, and a table of which
 /// every slot is used, the largest one too.
-pub fn corner_labels_of(analysis: &Analysis) -> Vec<String> {
+pub fn corner_labels_of(analysis: &Analysis) -> BTreeSet<String> {
     let Settings { merge, order, .. } = analysis.settings;
     let (order, verdict) = (order.word(), analysis.verdict.word());
-    let mut labels: Vec<String> = analysis
-        .corners
-        .iter()
-        .map(|corner| match corner {
-            Corner::PutBack => format!("{corner:?} {order} {verdict}"),
-            _ => format!("{corner:?} {order}"),
-        })
-        .collect();
+    let mut labels = BTreeSet::new();
+    for corner in &analysis.corners {
+        match *corner {
+            Corner::PutBack => labels.extend([format!("{corner:?} {order} {verdict}")]),
+            Corner::Result { operation, unknown, low, high } => {
+                labels.extend(result_labels(operation, unknown, low, high));
+            }
+            Corner::OneValue { .. } => labels.extend([format!("{corner:?}")]),
+            _ => labels.extend([format!("{corner:?} {order}")]),
+        }
+    }
     let used = analysis.reached.len();
     if analysis.iterations > 0 && used == analysis.capacity {
-        labels.push(format!("used = room {} {verdict}", merge.word()));
+        labels.insert(format!("used = room {} {verdict}", merge.word()));
         if used == MAX_CAPACITY {
-            labels.push(format!("used = 256 {verdict}"));
+            labels.insert(format!("used = 256 {verdict}"));
+        }
+    }
+    labels
+}
+
+/// At which ends a result overruns, with so many unknown operands; or, unknown, at which it just fits
+/// or is one past.
+fn result_labels(operation: &str, unknown: usize, low: End, high: End) -> Vec<String> {
+    let mut labels = Vec::new();
+    let ends = match (low.is_past(), high.is_past()) {
+        (true, true) => Some("both"),
+        (true, false) => Some("low"),
+        (false, true) => Some("high"),
+        (false, false) => None,
+    };
+    if let Some(ends) = ends {
+        labels.push(format!("{operation} overruns, {unknown} unknown, {ends}"));
+    }
+    for (name, end) in [("low", low), ("high", high)] {
+        match end {
+            End::OnePast if unknown > 0 => labels.push(format!("{operation} one past, {name}")),
+            End::AtBound if ends.is_none() => labels.push(format!("{operation} just fits, {name}")),
+            _ => {}
         }
     }
     labels
@@ -105,7 +132,16 @@ pub fn corner_labels_of(analysis: &Analysis) -> Vec<String> {
 pub fn corner_labels() -> Vec<String> {
     let mut labels = Vec::new();
     for order in Order::ALL.map(Order::word) {
-        for corner in [Corner::KeepsPlace, Corner::SelfLoop, Corner::CopyFollowed] {
+        for corner in [
+            Corner::KeepsPlace,
+            Corner::SelfLoop,
+            Corner::CopyFollowed,
+            Corner::CopyFits,
+            Corner::OverrunFull,
+            Corner::OverrunUnmerged,
+            Corner::OverrunAfterStored,
+            Corner::OverrunAfterWidened,
+        ] {
             labels.push(format!("{corner:?} {order}"));
         }
         for verdict in [Verdict::Alarm, Verdict::Full] {
@@ -116,5 +152,20 @@ pub fn corner_labels() -> Vec<String> {
         labels.extend(Merge::ALL.map(|merge| format!("used = room {} {verdict}", merge.word())));
         labels.push(format!("used = 256 {verdict}"));
     }
+    for (operation, operands) in [("set", 1), ("add", 2), ("sub", 2)] {
+        for end in ["low", "high"] {
+            labels.push(format!("{operation} just fits, {end}"));
+            labels.push(format!("{operation} one past, {end}"));
+            labels.extend(
+                (0..=operands)
+                    .map(|unknown| format!("{operation} overruns, {unknown} unknown, {end}")),
+            );
+        }
+        // A known result is past one end alone.
+        labels.extend(
+            (1..=operands).map(|unknown| format!("{operation} overruns, {unknown} unknown, both")),
+        );
+    }
+    labels.extend([true, false].map(|overruns| format!("{:?}", Corner::OneValue { overruns })));
     labels
 }

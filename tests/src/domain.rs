@@ -3,7 +3,9 @@
 //! An abstract state (document 01's entry) is a row of words: its location,
 //! then for each variable a value or `TOP`. A concrete state is a row without `TOP`.
 
-use crate::chart::{Chart, Edge, Operand, Operation, Relation, MAX_VARIABLES};
+use std::ops::{Add, Sub};
+
+use crate::chart::{Chart, Edge, Operand, Operation, Relation, Variable, MAX_VARIABLES};
 
 /// Document 01's "unspecific", as the lent words write it; no variable can hold it.
 pub const TOP: i32 = 32_768;
@@ -42,33 +44,47 @@ pub fn join_into(row: &mut [i32], other: &[i32]) -> bool {
     is_changed
 }
 
-/// One abstract move of `source` along `edge`, written to `successor`; false when there is none.
-pub fn transfer(chart: &Chart, edge: &Edge, source: &[i32], successor: &mut [i32]) -> bool {
+/// What one abstract move comes to.
+#[derive(Clone, Copy, Debug, PartialEq, Eq)]
+pub enum Move {
+    /// A condition that cannot hold: no successor.
+    Halt,
+    /// A result may lie outside the target's range.
+    Overrun,
+    /// Written where the caller wanted it.
+    Successor,
+}
+
+/// What an operand or a result may be, from its lowest to its highest value.
+#[derive(Clone, Copy, Debug, PartialEq, Eq)]
+pub struct Span {
+    pub low: i32,
+    pub high: i32,
+    /// How many operands of it are not known; one of a range of one value is not known either.
+    pub unknown: usize,
+}
+
+/// One abstract move of `source` along `edge`; a successor is written to `successor`.
+pub fn transfer(chart: &Chart, edge: &Edge, source: &[i32], successor: &mut [i32]) -> Move {
     successor.copy_from_slice(source);
     successor[0] = edge.to.0 as i32;
+    let span = |operand| span(&chart.variables, source, operand);
     match edge.operation {
-        Operation::Skip => true,
-        Operation::Set { target, value } => {
-            let result = known(source, value);
-            assign(chart, target, result, successor)
-        }
+        Operation::Skip => Move::Successor,
+        Operation::Set { target, value } => assign(chart, target, span(value), successor),
         Operation::Add { target, left, right } => {
-            let result =
-                known(source, left).zip(known(source, right)).map(|(left, right)| left + right);
-            assign(chart, target, result, successor)
+            assign(chart, target, span(left) + span(right), successor)
         }
         Operation::Sub { target, left, right } => {
-            let result =
-                known(source, left).zip(known(source, right)).map(|(left, right)| left - right);
-            assign(chart, target, result, successor)
+            assign(chart, target, span(left) - span(right), successor)
         }
         Operation::In { target, low, high } => {
             successor[target + 1] = if low == high { low } else { TOP };
-            true
+            Move::Successor
         }
         Operation::If { target, relation, right } => {
             let left = Operand::Variable(target);
-            match (known(source, left), known(source, right)) {
+            let passes = match (known(source, left), known(source, right)) {
                 (Some(left), Some(right)) => relation.holds(left, right),
                 (Some(value), None) if relation == Relation::Eq => {
                     specify(chart, right, value, successor)
@@ -77,7 +93,81 @@ pub fn transfer(chart: &Chart, edge: &Edge, source: &[i32], successor: &mut [i32
                     specify(chart, left, value, successor)
                 }
                 _ => true,
+            };
+            if passes {
+                Move::Successor
+            } else {
+                Move::Halt
             }
+        }
+    }
+}
+
+/// Overruns where some result is out of range; else the target is known where all operands are.
+fn assign(chart: &Chart, target: usize, result: Span, successor: &mut [i32]) -> Move {
+    let Variable { low, high, .. } = chart.variables[target];
+    if result.low < low || high < result.high {
+        return Move::Overrun;
+    }
+    successor[target + 1] = if result.unknown == 0 { result.low } else { TOP };
+    Move::Successor
+}
+
+/// The target of set, add or sub, and what it may become.
+pub fn result(
+    variables: &[Variable],
+    operation: Operation,
+    source: &[i32],
+) -> Option<(usize, Span)> {
+    let span = |operand| span(variables, source, operand);
+    match operation {
+        Operation::Set { target, value } => Some((target, span(value))),
+        Operation::Add { target, left, right } => Some((target, span(left) + span(right))),
+        Operation::Sub { target, left, right } => Some((target, span(left) - span(right))),
+        Operation::Skip | Operation::In { .. } | Operation::If { .. } => None,
+    }
+}
+
+/// The known value, or all of the declared range.
+fn span(variables: &[Variable], source: &[i32], operand: Operand) -> Span {
+    match operand {
+        Operand::Variable(variable) if source[variable + 1] == TOP => {
+            let Variable { low, high, .. } = variables[variable];
+            Span { low, high, unknown: 1 }
+        }
+        Operand::Variable(variable) => Span::of(source[variable + 1]),
+        Operand::Number(number) => Span::of(number),
+    }
+}
+
+impl Span {
+    fn of(value: i32) -> Self {
+        Span { low: value, high: value, unknown: 0 }
+    }
+}
+
+/// The operands are taken independently, even where they are one variable. Numbers and values take
+/// 16 bits, so no sum of two leaves 32.
+impl Add for Span {
+    type Output = Span;
+
+    fn add(self, right: Span) -> Span {
+        Span {
+            low: self.low + right.low,
+            high: self.high + right.high,
+            unknown: self.unknown + right.unknown,
+        }
+    }
+}
+
+impl Sub for Span {
+    type Output = Span;
+
+    fn sub(self, right: Span) -> Span {
+        Span {
+            low: self.low - right.high,
+            high: self.high - right.low,
+            unknown: self.unknown + right.unknown,
         }
     }
 }
@@ -87,12 +177,6 @@ fn known(state: &[i32], operand: Operand) -> Option<i32> {
         Operand::Number(number) => Some(number),
         Operand::Variable(variable) => Some(state[variable + 1]).filter(|&value| value != TOP),
     }
-}
-
-/// A known result halts the machine when it is out of range; an unknown one always goes on.
-fn assign(chart: &Chart, target: usize, result: Option<i32>, successor: &mut [i32]) -> bool {
-    successor[target + 1] = result.unwrap_or(TOP);
-    result.is_none_or(|value| chart.variables[target].contains(value))
 }
 
 /// Gives the unspecific side of a passed `eq` the value of the known side.

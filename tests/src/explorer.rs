@@ -3,7 +3,7 @@
 use std::ops::ControlFlow;
 
 use crate::analysis::{location_of, Analysis, Verdict};
-use crate::chart::{Chart, Edge, Operand, Operation};
+use crate::chart::{Chart, Edge, EdgeId, Operand, Operation};
 use crate::domain::covers;
 
 /// A location and one value for each variable, in a row of words.
@@ -14,16 +14,20 @@ pub type State = Vec<i32>;
 pub enum Violation {
     /// Called safe, though a run stands at an error location.
     ErrorReachable(State),
+    /// Called safe, though a run comes to the state and overruns along the edge.
+    OverrunReachable(State, EdgeId),
     /// Called safe, though no abstract state covers a reachable state.
     NotCovered(State),
     /// Not covered, and the run met no state on its way that a waiting abstract state covers.
     NotAwaited(State),
+    /// A run to the state met no state that a waiting abstract state covers, and overruns along the edge.
+    OverrunNotAwaited(State, EdgeId),
 }
 
 pub struct Explorer<'a> {
     chart: &'a Chart,
     /// The edges leaving each location.
-    outgoing: Vec<Vec<Edge>>,
+    outgoing: Vec<Vec<EdgeId>>,
     /// The number of values of each variable.
     spans: Vec<usize>,
     size: usize,
@@ -43,26 +47,31 @@ impl<'a> Explorer<'a> {
             .try_fold(chart.locations.len(), |size, &span| size.checked_mul(span))
             .filter(|&size| size <= max_states)?;
         let mut outgoing = vec![Vec::new(); chart.locations.len()];
-        for edge in &chart.edges {
-            outgoing[edge.from.0].push(*edge);
+        for id in (1..=chart.edges.len()).map(EdgeId) {
+            outgoing[chart.edge(id).from.0].push(id);
         }
         let mut explorer = Explorer { chart, outgoing, spans, size, reachable: Vec::new() };
         let mut reachable = Vec::new();
         let _ = explorer.explore(|state| {
             reachable.push(state.to_vec());
-            ControlFlow::Continue(true)
+            ControlFlow::<(), _>::Continue(true)
         });
         explorer.reachable = reachable;
         Some(explorer)
     }
 
-    /// The last states of all runs.
+    /// The last states of all runs; a move that overruns has no state after it.
     pub fn reachable(&self) -> &[State] {
         &self.reachable
     }
 
     pub fn reaches_error(&self) -> bool {
         self.error_state().is_some()
+    }
+
+    /// Whether a run has a move that overruns.
+    pub fn overruns(&self) -> bool {
+        self.overrun().is_some()
     }
 
     pub fn check(&self, analysis: &Analysis) -> Result<(), Violation> {
@@ -76,6 +85,9 @@ impl<'a> Explorer<'a> {
         if let Some(state) = self.error_state() {
             return Err(Violation::ErrorReachable(state.clone()));
         }
+        if let Some((state, edge)) = self.overrun() {
+            return Err(Violation::OverrunReachable(state.clone(), edge));
+        }
         let is_covered = |state: &&State| analysis.reached.rows().any(|row| covers(row, state));
         match self.reachable.iter().find(|state| !is_covered(state)) {
             Some(state) => Err(Violation::NotCovered(state.clone())),
@@ -84,21 +96,26 @@ impl<'a> Explorer<'a> {
     }
 
     /// A run need not be followed beyond a state that a waiting abstract state
-    /// covers; up to there each of its states is covered.
+    /// covers; up to there each of its states is covered, and none of its moves overruns.
     fn check_awaited(&self, analysis: &Analysis) -> Result<(), Violation> {
         let met = self.explore(|state| {
             let is_awaited =
                 analysis.waitlist.slots().any(|slot| covers(analysis.reached.row(slot), state));
             if is_awaited {
-                ControlFlow::Continue(false)
-            } else if analysis.reached.rows().any(|row| covers(row, state)) {
-                ControlFlow::Continue(true)
-            } else {
-                ControlFlow::Break(state.to_vec())
+                return ControlFlow::Continue(false);
+            }
+            if !analysis.reached.rows().any(|row| covers(row, state)) {
+                return ControlFlow::Break(Violation::NotAwaited(state.to_vec()));
+            }
+            match self.overrun_from(state) {
+                Some(edge) => {
+                    ControlFlow::Break(Violation::OverrunNotAwaited(state.to_vec(), edge))
+                }
+                None => ControlFlow::Continue(true),
             }
         });
         match met {
-            ControlFlow::Break(state) => Err(Violation::NotAwaited(state)),
+            ControlFlow::Break(violation) => Err(violation),
             ControlFlow::Continue(()) => Ok(()),
         }
     }
@@ -107,12 +124,23 @@ impl<'a> Explorer<'a> {
         self.reachable.iter().find(|state| self.chart.location(location_of(state)).is_error)
     }
 
+    /// A reachable state, and an edge along which it overruns.
+    fn overrun(&self) -> Option<(&State, EdgeId)> {
+        self.reachable.iter().find_map(|state| Some((state, self.overrun_from(state)?)))
+    }
+
+    fn overrun_from(&self, state: &[i32]) -> Option<EdgeId> {
+        let overruns = |edge: &Edge| {
+            assigned(edge.operation, state)
+                .is_some_and(|(target, value)| !self.chart.variables[target].contains(value))
+        };
+        let mut leaving = self.outgoing[location_of(state).0].iter().copied();
+        leaving.find(|&id| overruns(self.chart.edge(id)))
+    }
+
     /// Visits states breadth-first, each once. `visit` says whether to move on
     /// from the state, or breaks off.
-    fn explore(
-        &self,
-        mut visit: impl FnMut(&[i32]) -> ControlFlow<State, bool>,
-    ) -> ControlFlow<State> {
+    fn explore<B>(&self, mut visit: impl FnMut(&[i32]) -> ControlFlow<B, bool>) -> ControlFlow<B> {
         let width = self.chart.width();
         let mut is_met = vec![false; self.size];
         let mut queue: Vec<i32> = Vec::new();
@@ -128,7 +156,8 @@ impl<'a> Explorer<'a> {
             state.copy_from_slice(&queue[next..next + width]);
             next += width;
             if visit(&state)? {
-                for edge in &self.outgoing[location_of(&state).0] {
+                for &id in &self.outgoing[location_of(&state).0] {
+                    let edge = self.chart.edge(id);
                     for_each_move(self.chart, edge, &state, |moved| enqueue(&mut queue, moved));
                 }
             }
@@ -160,30 +189,47 @@ fn for_each_initial(chart: &Chart, mut visit: impl FnMut(&[i32])) {
     states.iter().for_each(|state| visit(state));
 }
 
-/// The concrete moves of one edge.
+/// The concrete moves of one edge to a state after it.
 fn for_each_move(chart: &Chart, edge: &Edge, state: &[i32], mut visit: impl FnMut(&[i32])) {
-    let value_of = |operand| match operand {
-        Operand::Number(number) => number,
-        Operand::Variable(variable) => state[variable + 1],
-    };
     let mut moved = state.to_vec();
     moved[0] = edge.to.0 as i32;
-    let mut assign = |target: usize, value: i32| {
+    if let Some((target, value)) = assigned(edge.operation, state) {
         if chart.variables[target].contains(value) {
             moved[target + 1] = value;
             visit(&moved);
         }
-    };
+        return;
+    }
     match edge.operation {
-        Operation::Skip => visit(&moved),
-        Operation::Set { target, value } => assign(target, value_of(value)),
-        Operation::Add { target, left, right } => assign(target, value_of(left) + value_of(right)),
-        Operation::Sub { target, left, right } => assign(target, value_of(left) - value_of(right)),
-        Operation::In { target, low, high } => (low..=high).for_each(|value| assign(target, value)),
-        Operation::If { target, relation, right } => {
-            if relation.holds(state[target + 1], value_of(right)) {
+        Operation::In { target, low, high } => {
+            for value in low..=high {
+                moved[target + 1] = value;
                 visit(&moved);
             }
         }
+        Operation::If { target, relation, right } => {
+            if relation.holds(state[target + 1], value_of(right, state)) {
+                visit(&moved);
+            }
+        }
+        _ => visit(&moved),
+    }
+}
+
+/// The target of set, add or sub, and the exact result, which may be out of its range.
+fn assigned(operation: Operation, state: &[i32]) -> Option<(usize, i32)> {
+    let value_of = |operand| value_of(operand, state);
+    match operation {
+        Operation::Set { target, value } => Some((target, value_of(value))),
+        Operation::Add { target, left, right } => Some((target, value_of(left) + value_of(right))),
+        Operation::Sub { target, left, right } => Some((target, value_of(left) - value_of(right))),
+        _ => None,
+    }
+}
+
+fn value_of(operand: Operand, state: &[i32]) -> i32 {
+    match operand {
+        Operand::Number(number) => number,
+        Operand::Variable(variable) => state[variable + 1],
     }
 }

@@ -13,7 +13,7 @@ pub struct Worked {
 
 /// The worked cases of `tests/cases`.
 pub fn cases() -> Vec<Worked> {
-    in_folder("cases", 250)
+    in_folder("cases", 305)
 }
 
 /// The charts of `examples` that a trainer would know.

@@ -1,10 +1,16 @@
 //! The generators reach everything there is to compare: every operation and
-//! relation, every refusal number, every verdict and every corner of an analysis.
+//! relation, every refusal number, every verdict and every corner of an analysis;
+//! and neither overruns nor safe charts are rare.
 
+use std::ops::RangeInclusive;
+
+use reference::analysis::{Analysis, Merge, Verdict};
 use reference::chart::{Chart, Operand, Operation};
 use reference::coverage::{corner_labels, corner_labels_of, program_label, program_labels, Met};
+use reference::explorer::Explorer;
 use reference::program::{printed, walk};
-use reference::random::{count_at_least, inputs, seed, Random};
+use reference::random::charts::small;
+use reference::random::{count_at_least, inputs, permitted_settings, seed, Random};
 
 const INPUTS: usize = 14_000;
 /// Of each, so that another seed finds it too.
@@ -25,11 +31,72 @@ fn inputs_meet_every_refusal_verdict_and_corner() {
     corners.assert_exactly(&corner_labels(), FEWEST);
 }
 
+fn assert_share(what: &str, part: usize, whole: usize, percent: RangeInclusive<usize>) {
+    println!("{what}: {part} of {whole}");
+    let range = whole * percent.start()..=whole * percent.end();
+    assert!(range.contains(&(part * 100)), "{what}: {part} of {whole}, not {percent:?} percent");
+}
+
+/// A count, an error location or an overrun must not end most walks early: with `sep` hundreds of slots
+/// are followed, with `join` one slot after the other is widened and followed again.
+#[test]
+fn long_walks_are_not_rare() {
+    let mut random = Random::new(seed() ^ 3);
+    let (mut walks, mut long_walks) = ([0, 0], [0, 0]);
+    for _ in 0..count_at_least(INPUTS) {
+        if let Ok((_, analysis)) = walk(&inputs::program_input(&mut random)) {
+            let (place, long) = match analysis.settings.merge {
+                Merge::Sep => (0, 100),
+                Merge::Join => (1, 8),
+            };
+            walks[place] += 1;
+            long_walks[place] += usize::from(analysis.iterations >= long);
+        }
+    }
+    assert_share("with sep, 100 iterations", long_walks[0], walks[0], 5..=30);
+    assert_share("with join, 8 iterations", long_walks[1], walks[1], 2..=20);
+}
+
+/// Of small charts and what is made of them with enough room.
+#[test]
+fn overruns_are_neither_rare_nor_the_rule() {
+    let mut random = Random::new(seed() ^ 2);
+    let charts = count_at_least(3_000);
+    let (mut overrunning, mut erring, mut false_alarms) = (0, 0, 0);
+    let mut by_settings = permitted_settings().map(|settings| (settings, 0, 0, 0));
+    for _ in 0..charts {
+        let chart = small(&mut random);
+        let explorer = Explorer::new(&chart, 10_000).expect("small charts have few states");
+        overrunning += usize::from(explorer.overruns());
+        erring += usize::from(explorer.reaches_error());
+        for (settings, safe, alarms, overruns) in &mut by_settings {
+            let mut analysis = Analysis::start(&chart, *settings, 256);
+            analysis.run(&chart, 60_000);
+            *safe += usize::from(analysis.verdict == Verdict::Safe);
+            *alarms += usize::from(analysis.verdict == Verdict::Alarm);
+            // An alarm along an edge to an ordinary location.
+            let is_overrun =
+                analysis.edge.is_some_and(|id| !chart.location(chart.edge(id).to).is_error);
+            *overruns += usize::from(is_overrun);
+            false_alarms += usize::from(is_overrun && !explorer.overruns());
+        }
+    }
+    assert_share("charts with a run that overruns", overrunning, charts, 20..=50);
+    assert_share("charts with a run to an error location", erring, charts, 12..=40);
+    let mut all_overruns = 0;
+    for (settings, safe, alarms, overruns) in by_settings {
+        assert_share(&format!("{settings:?}, safe"), safe, charts, 35..=70);
+        assert_share(&format!("{settings:?}, overruns"), overruns, alarms, 35..=75);
+        all_overruns += overruns;
+    }
+    assert_share("overruns of no run", false_alarms, all_overruns, 3..=25);
+}
+
 #[test]
 fn charts_have_every_operation() {
     let mut random = Random::new(seed() ^ 1);
     let mut met = Met::new();
-    for _ in 0..count_at_least(3_000) {
+    for _ in 0..count_at_least(4_000) {
         let chart = inputs::chart(&mut random);
         for label in labels(&chart) {
             met.add(label);

@@ -1,11 +1,12 @@
-//! Document 01's marked and worked cases, on the modules and the calls themselves.
+//! Document 01's marked and worked cases, and what request 2.1 makes of them, on the modules and the
+//! calls themselves.
 
 mod common;
 
 use common::{chart, settings, CASE_A};
 use reference::analysis::{Analysis, Verdict};
 use reference::chart::Chart;
-use reference::domain::{covers, join_into, leq, transfer, TOP};
+use reference::domain::{covers, join_into, leq, transfer, Move, TOP};
 use reference::listing::listing;
 
 const MEET: i32 = 3;
@@ -21,12 +22,15 @@ fn waiting(analysis: &Analysis) -> Vec<usize> {
     analysis.waitlist.slots().map(|slot| slot.0).collect()
 }
 
-/// The values after the one edge of a chart, from given values.
-fn step(lines: &str, values: &[i32]) -> Option<Vec<i32>> {
+/// The values after the one edge of a chart, from given values; or what comes instead.
+fn step(lines: &str, values: &[i32]) -> Result<Vec<i32>, Move> {
     let chart = chart(lines);
     let source: Vec<i32> = [&[0], values].concat();
     let mut successor = vec![0; source.len()];
-    transfer(&chart, &chart.edges[0], &source, &mut successor).then(|| successor[1..].to_vec())
+    match transfer(&chart, &chart.edges[0], &source, &mut successor) {
+        Move::Successor => Ok(successor[1..].to_vec()),
+        other => Err(other),
+    }
 }
 
 #[test]
@@ -116,28 +120,111 @@ fn what_lies_under_what() {
 fn conditions_on_an_unspecific_variable() {
     let with =
         |condition: &str| step(&format!("V y 0 9 *\nL a o\nE 0 0 if $0 {condition}"), &[TOP]);
-    assert_eq!(with("eq 1"), Some(vec![1]));
-    assert_eq!(with("eq 12"), None);
-    assert_eq!(with("ne 1"), Some(vec![TOP]));
+    assert_eq!(with("eq 1"), Ok(vec![1]));
+    assert_eq!(with("eq 12"), Err(Move::Halt));
+    assert_eq!(with("ne 1"), Ok(vec![TOP]));
 }
 
 #[test]
-fn results_out_of_range_halt() {
+fn known_results_out_of_range_overrun() {
     let set = |value: i32| step(&format!("V x 0 3 0\nL a o\nE 0 0 set $0 {value}"), &[0]);
-    assert_eq!(set(3), Some(vec![3]));
-    assert_eq!(set(5), None);
+    assert_eq!(set(3), Ok(vec![3]));
+    assert_eq!(set(5), Err(Move::Overrun));
     let widest = "V x -32768 32767 0\nL a o\n";
-    assert_eq!(step(&format!("{widest}E 0 0 sub $0 $0 1"), &[-32_768]), None);
-    assert_eq!(step(&format!("{widest}E 0 0 add $0 $0 1"), &[32_767]), None);
-    assert_eq!(step(&format!("{widest}E 0 0 sub $0 -1 $0"), &[-32_768]), Some(vec![32_767]));
-    assert_eq!(step(&format!("{widest}E 0 0 add $0 $0 -32768"), &[-32_768]), None);
+    let with = |operation: &str, value: i32| step(&format!("{widest}E 0 0 {operation}"), &[value]);
+    assert_eq!(with("sub $0 $0 1", -32_768), Err(Move::Overrun));
+    assert_eq!(with("add $0 $0 1", 32_767), Err(Move::Overrun));
+    assert_eq!(with("sub $0 -1 $0", -32_768), Ok(vec![32_767]));
+    assert_eq!(with("add $0 $0 -32768", -32_768), Err(Move::Overrun));
+    assert_eq!(with("sub $0 32767 $0", -32_768), Err(Move::Overrun));
+}
+
+/// From values of a variable `x` and a variable `y` of the given ranges.
+fn step_of_two((x, y): (&str, &str), operation: &str, values: [i32; 2]) -> Result<Vec<i32>, Move> {
+    step(&format!("V x {x} *\nV y {y} *\nL a o\nE 0 0 {operation}"), &values)
 }
 
 #[test]
-fn an_unknown_operand_makes_the_target_unspecific() {
-    assert_eq!(step("V x 0 3 *\nL a o\nE 0 0 sub $0 $0 $0", &[TOP]), Some(vec![TOP]));
-    // Even where no value could fit.
-    let apart = "V x 0 3 0\nV y 10 20 *\nL a o\nE 0 0 set $0 $1";
-    assert_eq!(step(apart, &[0, TOP]), Some(vec![TOP, TOP]));
-    assert_eq!(step(apart, &[0, 10]), None);
+fn an_unknown_operand_is_anything_in_its_range() {
+    let overrun = Err(Move::Overrun);
+    // Within the target's range all of it makes the target unspecific, one value past an end overruns.
+    for (y, expected) in [
+        ("0 3", Ok(vec![TOP, TOP])),
+        ("1 2", Ok(vec![TOP, TOP])),
+        ("0 4", overrun.clone()),
+        ("-1 3", overrun.clone()),
+        ("-1 4", overrun.clone()),
+        ("10 20", overrun.clone()),
+    ] {
+        assert_eq!(step_of_two(("0 3", y), "set $0 $1", [0, TOP]), expected, "{y}");
+    }
+    let apart = ("0 3", "10 20");
+    assert_eq!(step_of_two(apart, "set $0 $1", [0, 10]), overrun);
+    for (operation, x, values, expected) in [
+        ("add $0 $1 2", "1 5", [1, TOP], Ok(vec![TOP, TOP])),
+        ("add $0 2 $1", "2 5", [2, TOP], Ok(vec![TOP, TOP])),
+        ("add $0 $1 2", "3 5", [3, TOP], overrun.clone()),
+        ("add $0 $1 2", "2 4", [2, TOP], overrun.clone()),
+        ("sub $0 $1 2", "-2 1", [0, TOP], Ok(vec![TOP, TOP])),
+        ("sub $0 2 $1", "-1 2", [0, TOP], Ok(vec![TOP, TOP])),
+        ("sub $0 2 $1", "0 2", [0, TOP], overrun.clone()),
+        ("sub $0 2 $1", "-1 1", [0, TOP], overrun.clone()),
+        // Known beside unknown, and each variable unknown beside itself.
+        ("add $0 $0 $1", "0 9", [6, TOP], Ok(vec![TOP, TOP])),
+        ("add $0 $0 $1", "0 9", [7, TOP], overrun.clone()),
+        ("sub $0 $0 $1", "0 9", [3, TOP], Ok(vec![TOP, TOP])),
+        ("sub $0 $0 $1", "0 9", [2, TOP], overrun.clone()),
+        ("add $0 $1 $1", "0 6", [0, TOP], Ok(vec![TOP, TOP])),
+        ("add $0 $1 $1", "0 5", [0, TOP], overrun.clone()),
+        ("sub $0 $1 $1", "-3 3", [0, TOP], Ok(vec![TOP, TOP])),
+        ("sub $0 $1 $1", "-2 3", [0, TOP], overrun.clone()),
+        ("sub $0 $1 $1", "-3 2", [0, TOP], overrun.clone()),
+        ("add $0 $0 1", "0 9", [TOP, 0], overrun.clone()),
+        ("add $0 $0 0", "0 9", [TOP, 0], Ok(vec![TOP, 0])),
+        // Other unknown variables do not count.
+        ("add $0 $0 1", "0 9", [8, TOP], Ok(vec![9, TOP])),
+        ("set $0 3", "0 9", [TOP, TOP], Ok(vec![3, TOP])),
+    ] {
+        assert_eq!(step_of_two((x, "0 3"), operation, values), expected, "{operation}, {x}");
+    }
+}
+
+#[test]
+fn an_unspecific_variable_less_itself_overruns_but_on_0() {
+    let with = |range: &str, value: i32| {
+        step(&format!("V x {range} *\nL a o\nE 0 0 sub $0 $0 $0"), &[value])
+    };
+    assert_eq!(with("0 0", TOP), Ok(vec![TOP]));
+    for range in ["0 1", "-1 0", "0 3", "-5 5", "-32768 32767"] {
+        assert_eq!(with(range, TOP), Err(Move::Overrun), "{range}");
+    }
+    assert_eq!(with("1 1", TOP), Err(Move::Overrun), "0 is not in the range");
+    assert_eq!(with("0 3", 3), Ok(vec![0]));
+}
+
+/// It spans its one value, and still is not known.
+#[test]
+fn an_unspecific_variable_of_one_value() {
+    let with = |x: &str, operation: &str| step_of_two((x, "3 3"), operation, [0, TOP]);
+    assert_eq!(with("0 6", "add $0 $1 $1"), Ok(vec![TOP, TOP]));
+    assert_eq!(with("0 5", "add $0 $1 $1"), Err(Move::Overrun));
+    assert_eq!(with("0 3", "set $0 $1"), Ok(vec![TOP, TOP]));
+    assert_eq!(with("0 2", "set $0 $1"), Err(Move::Overrun));
+    assert_eq!(with("0 0", "sub $0 $1 $1"), Ok(vec![TOP, TOP]));
+    assert_eq!(with("0 0", "sub $0 3 $1"), Ok(vec![TOP, TOP]));
+}
+
+/// Conditions and inputs never overrun, whatever they compare with.
+#[test]
+fn conditions_and_inputs_do_not_overrun() {
+    for (operation, expected) in [
+        ("if $0 eq 9", Err(Move::Halt)),
+        ("if $0 gt 32767", Ok(vec![TOP, TOP])),
+        ("if $0 lt $1", Ok(vec![TOP, TOP])),
+        ("in $0 0 3", Ok(vec![TOP, TOP])),
+        ("in $0 3 3", Ok(vec![3, TOP])),
+        ("skip", Ok(vec![TOP, TOP])),
+    ] {
+        assert_eq!(step_of_two(("0 3", "10 20"), operation, [TOP, TOP]), expected, "{operation}");
+    }
 }

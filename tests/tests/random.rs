@@ -1,6 +1,6 @@
 //! Random charts, checked against their concrete states: what is called safe
-//! has no run to an error location, and every run is covered as far as the
-//! analysis has come.
+//! has no run to an error location and none that overruns, and every run is covered
+//! as far as the analysis has come.
 
 use reference::analysis::{Analysis, Settings, Verdict};
 use reference::chart::Chart;
@@ -10,7 +10,7 @@ use reference::coverage::{
 };
 use reference::explorer::Explorer;
 use reference::program::respond;
-use reference::random::charts::{chart, hub, SMALL};
+use reference::random::charts::small;
 use reference::random::{count, count_at_least, inputs, permitted_settings, seed, Random};
 use reference::renderer::render;
 use reference::text;
@@ -19,13 +19,6 @@ const MAX_STATES: usize = 10_000;
 const ENOUGH: u32 = 60_000;
 /// Of each verdict and corner, so that another seed finds it too.
 const FEWEST: usize = 20;
-
-fn small_chart(random: &mut Random) -> Chart {
-    match random.percent(15) {
-        true => hub(random),
-        false => chart(random, SMALL),
-    }
-}
 
 /// Fails with all that is needed to see it again.
 fn check(explorer: &Explorer, chart: &Chart, analysis: &Analysis) {
@@ -46,7 +39,7 @@ fn runs_are_covered_and_safe_is_safe() {
     let mut random = Random::new(seed());
     let (mut met, mut corners) = (Met::new(), Met::new());
     for _ in 0..count_at_least(10_000) {
-        let chart = small_chart(&mut random);
+        let chart = small(&mut random);
         let explorer = Explorer::new(&chart, MAX_STATES).expect("small charts have few states");
         for settings in permitted_settings() {
             for (capacity, budget) in [
@@ -61,24 +54,31 @@ fn runs_are_covered_and_safe_is_safe() {
                 analysis.run(&chart, budget);
                 check(&explorer, &chart, &analysis);
                 let verdict = analysis_label(settings, analysis.verdict);
-                met.add(format!("{verdict}, error reached: {}", explorer.reaches_error()));
+                met.add(run_label(&verdict, explorer.reaches_error(), explorer.overruns()));
                 corners.add_all(
                     corner_labels_of(&analysis).into_iter().filter(|label| is_small(label)),
                 );
             }
         }
     }
-    let wanted: Vec<String> = analysis_labels()
-        .iter()
-        .flat_map(|verdict| [true, false].map(|is_reached| (verdict, is_reached)))
-        .filter(|(verdict, is_reached)| !(*is_reached && verdict.ends_with("safe")))
-        .map(|(verdict, is_reached)| format!("{verdict}, error reached: {is_reached}"))
-        .collect();
+    let mut wanted = Vec::new();
+    for verdict in analysis_labels() {
+        wanted.push(run_label(&verdict, false, false));
+        if !verdict.ends_with("safe") {
+            let wrong = [(true, false), (false, true), (true, true)];
+            wanted.extend(wrong.map(|(error, overrun)| run_label(&verdict, error, overrun)));
+        }
+    }
     met.assert_exactly(&wanted, FEWEST);
     corners.assert_exactly(
         &corner_labels().into_iter().filter(|label| is_small(label)).collect::<Vec<_>>(),
         FEWEST,
     );
+}
+
+/// Beside a verdict, what some run of the chart comes to.
+fn run_label(verdict: &str, reaches_error: bool, overruns: bool) -> String {
+    format!("{verdict}, error reached: {reaches_error}, overrun: {overruns}")
 }
 
 /// Few small charts have states for 256 slots.
@@ -91,7 +91,7 @@ fn is_small(label: &str) -> bool {
 fn runs_are_covered_at_every_iteration() {
     let mut random = Random::new(seed() ^ 1);
     for _ in 0..count(4_000) {
-        let chart = small_chart(&mut random);
+        let chart = small(&mut random);
         let explorer = Explorer::new(&chart, MAX_STATES).expect("small charts have few states");
         let settings: Settings = random.settings();
         let capacity = inputs::capacity(&mut random, &chart, settings) as usize;

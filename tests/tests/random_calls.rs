@@ -84,7 +84,7 @@ fn assert_holds(memory: &Memory, analysis: &Analysis) {
 fn whole_walks() {
     let mut random = Random::new(seed());
     let (mut met, mut corners) = (Met::new(), Met::new());
-    for _ in 0..count_at_least(3_000) {
+    for _ in 0..count_at_least(4_000) {
         let chart = inputs::chart(&mut random);
         let mut memory = Memory::new(&chart, 256 * chart.width(), 256);
         let mut analysis = None;

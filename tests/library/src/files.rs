@@ -40,13 +40,16 @@ pub struct Ring {
     /// Edges from a location besides, which is not arrived at.
     pub idle: usize,
     pub laps: usize,
+    /// Whether the last variable counts the laps; else it is set to the number of the last one.
+    pub is_counted: bool,
 }
 
-/// With `sep` a slot and an iteration for each location in each lap: the last variable counts the
-/// laps, and each other that changes takes over the value of the one after it. With `join` one slot
-/// for each location, and a lap for each changing variable to become unspecific. The verdict is safe.
+/// Counted, for `sep`: a slot and an iteration for each location in each lap; each other variable that
+/// changes takes over the value of the one after it, and the count overruns in the last iteration. Not
+/// counted, for `join`, where a count would overrun as soon as it is unspecific: one slot for each location,
+/// and a lap for each changing variable to become unspecific; the verdict is safe.
 pub fn ring(ring: Ring) -> Vec<u8> {
-    let Ring { variables, changing, locations, followed, idle, laps } = ring;
+    let Ring { variables, changing, locations, followed, idle, laps, is_counted } = ring;
     let last = variables - 1;
     let mut file = String::new();
     for index in 0..variables {
@@ -59,7 +62,8 @@ pub fn ring(ring: Ring) -> Vec<u8> {
         let to = (from + 1) % locations;
         for edge in 0..followed {
             let operation = match locations - 1 - from {
-                0 => format!("add\t${last}\t${last}\t1"),
+                0 if is_counted => format!("add\t${last}\t${last}\t1"),
+                0 => format!("set\t${last}\t{}", 9_999 + laps),
                 turn if turn < changing => format!("set\t${}\t${}", last - turn, last - turn + 1),
                 _ => idle_operation(from + edge, (from + edge) % variables),
             };

@@ -11,7 +11,7 @@ use reference::program::{printed, respond, walk};
 use reference::random::{count_at_least, inputs, seed, Random};
 use reference::worked::{cases, examples, Worked};
 
-const INPUTS: usize = 3_000;
+const INPUTS: usize = 4_000;
 /// Of each verdict and refusal, so that another seed finds it too.
 const FEWEST: usize = 5;
 const PIECED_INPUTS: usize = 150;

@@ -1,10 +1,12 @@
 //! Random charts that reading accepts.
 
+use super::operations::{self, Operations};
 use super::Random;
 use crate::chart::{
     Chart, Edge, Location, LocationId, Name, Operand, Operation, Relation, Variable, MAX_EDGES,
     MAX_LOCATIONS, MAX_VARIABLES, NUMBERS,
 };
+use crate::domain::{self, TOP};
 
 /// Bounds on a random chart.
 #[derive(Clone, Copy, Debug)]
@@ -14,23 +16,37 @@ pub struct Shape {
     pub edges: usize,
     /// The most values in a variable's range.
     pub span: i32,
+    /// One of these is the percentage of sets, adds and subs that may overrun; a chart with many edges bears few.
+    pub risks: [usize; 5],
 }
 
 /// Few enough states to go through all of them.
-pub const SMALL: Shape = Shape { variables: 3, locations: 6, edges: 14, span: 5 };
+pub const SMALL: Shape =
+    Shape { variables: 3, locations: 6, edges: 14, span: 5, risks: [0, 0, 5, 15, 40] };
 
 /// Up to what a file may hold; long counts fill even the largest table.
-pub const LARGE: Shape =
-    Shape { variables: MAX_VARIABLES, locations: MAX_LOCATIONS, edges: MAX_EDGES, span: 65_536 };
+pub const LARGE: Shape = Shape {
+    variables: MAX_VARIABLES,
+    locations: MAX_LOCATIONS,
+    edges: MAX_EDGES,
+    span: 65_536,
+    risks: [0, 0, 0, 0, 3],
+};
 
 /// Few locations with long counts, for full tables and many joins.
-pub const DEEP: Shape = Shape { variables: 4, locations: 4, edges: 12, span: 400 };
+pub const DEEP: Shape =
+    Shape { variables: 4, locations: 4, edges: 12, span: 400, risks: [0, 0, 0, 5, 15] };
 
 pub fn chart(random: &mut Random, shape: Shape) -> Chart {
     let count = up_to(random, shape.variables);
     let variables: Vec<Variable> = (0..count).map(|index| variable(random, shape, index)).collect();
     let locations = locations(random, shape);
-    let edges = edges(random, shape, &variables, &locations);
+    let operations = Operations {
+        variables: &variables,
+        risk: random.pick(&shape.risks),
+        has_long_counts: random.percent(30),
+    };
+    let edges = edges(random, shape, &operations, &locations);
     Chart { variables, locations, edges }
 }
 
@@ -93,16 +109,109 @@ pub fn hub(random: &mut Random) -> Chart {
         let place = random.below(ends.len());
         ends.insert(place, (random.below(count), random.below(count)));
     }
+    let operations = Operations {
+        variables: &variables,
+        risk: random.pick(&[0, 20, 50]),
+        has_long_counts: false,
+    };
     let edge = |(from, to)| {
         let target = random.below(variables.len());
         let operation = match from == to {
-            true => counting(random, target),
-            false => passing(random, &variables),
+            true => operations.widening(random, target),
+            false if random.percent(15) => operations::counting(random, target),
+            false => operations.passing(random),
         };
         Edge { from: LocationId(from), to: LocationId(to), operation }
     };
     let edges = ends.into_iter().map(edge).collect();
     Chart { variables, locations, edges }
+}
+
+/// As small as `SMALL`, with a set, add or sub whose target's range is put beside its results: they fit, or
+/// are past it at the low end, at the high end or at both.
+pub fn brink(random: &mut Random) -> Chart {
+    let variable = |random: &mut Random, index: usize, (low, high): (i32, i32), is_known: bool| {
+        let init = is_known.then(|| random.between(low, high));
+        Variable { name: name(random, index), low, high, init }
+    };
+    // The target, two that are unknown and one that is known.
+    let mut variables: Vec<Variable> = [true, false, false, true]
+        .iter()
+        .enumerate()
+        .map(|(index, &is_known)| {
+            let low = random.between(-3, 3);
+            let range = (low, low + random.pick(&[0, 1, 2, 3, 4]));
+            variable(random, index, range, is_known)
+        })
+        .collect();
+    let target = 0;
+    let operand = |random: &mut Random| match random.below(20) {
+        0..=10 => Operand::Variable(random.pick(&[1, 2])),
+        11..=14 => Operand::Variable(3),
+        _ => Operand::Number(random.between(-4, 4)),
+    };
+    let (left, right) = (operand(random), operand(random));
+    let computation = match random.below(8) {
+        0 | 1 => Operation::Set { target, value: left },
+        2..=4 => Operation::Add { target, left, right },
+        _ => Operation::Sub { target, left, right },
+    };
+    let range = beside(random, &variables, computation);
+    let is_known = random.percent(60);
+    variables[target] = variable(random, target, range, is_known);
+
+    let count = random.pick(&[2, 3, 4]);
+    let has_error = random.percent(20);
+    let locations: Vec<Location> = (0..count)
+        .map(|index| {
+            let is_error = has_error && index + 1 == count;
+            Location { name: name(random, index), is_error }
+        })
+        .collect();
+    let operations = Operations { variables: &variables, risk: 0, has_long_counts: false };
+    let lead = |from: usize, to: usize, operation: Operation| Edge {
+        from: LocationId(from),
+        to: LocationId(to),
+        operation,
+    };
+    // Behind a condition on an unknown variable, of which the analysis knows no more there, runs may fit.
+    let (unknown, from) = (random.pick(&[1, 2]), random.pick(&[0, 1]));
+    let mut edges = vec![
+        lead(0, 1, operations.condition(random, unknown)),
+        lead(from, random.below(count), computation),
+    ];
+    for _ in 0..random.below(5) {
+        let (from, to) = (random.below(count), random.below(count));
+        edges.push(lead(from, to, operations.any(random)));
+    }
+    random.shuffle(&mut edges);
+    Chart { variables, locations, edges }
+}
+
+/// A range at whose ends the results of `computation` from the initial values fit, just so mostly, or are past.
+fn beside(random: &mut Random, variables: &[Variable], computation: Operation) -> (i32, i32) {
+    let initial: Vec<i32> = std::iter::once(0)
+        .chain(variables.iter().map(|variable| variable.init.unwrap_or(TOP)))
+        .collect();
+    let (_, result) =
+        domain::result(variables, computation, &initial).expect("a set, add or sub has a result");
+    let (low, high) = (result.low - random.pick(&[0, 0, 1]), result.high + random.pick(&[0, 0, 1]));
+    let past = random.pick(&[1, 1, 2]);
+    match random.below(8) {
+        0 | 1 => (result.low + past, high.max(result.low + past)),
+        2 | 3 => (low.min(result.high - past), result.high - past),
+        4..=6 if result.high - result.low > past => (result.low + 1, result.high - past),
+        _ => (low, high),
+    }
+}
+
+/// Any of those that have few enough states to go through all of them.
+pub fn small(random: &mut Random) -> Chart {
+    match random.below(20) {
+        0..=2 => hub(random),
+        3..=5 => brink(random),
+        _ => chart(random, SMALL),
+    }
 }
 
 /// From 0 to `most`, the upper half and `most` itself more often.
@@ -183,7 +292,7 @@ fn name(random: &mut Random, index: usize) -> Name {
 fn edges(
     random: &mut Random,
     shape: Shape,
-    variables: &[Variable],
+    operations: &Operations,
     locations: &[Location],
 ) -> Vec<Edge> {
     let wanted = up_to(random, shape.edges);
@@ -192,8 +301,8 @@ fn edges(
     for to in (1..locations.len()).take(wanted) {
         let from = random.below(to);
         let operation = match locations[to].is_error {
-            true => condition(random, variables),
-            false => passing(random, variables),
+            true => operations.any_condition(random),
+            false => operations.passing(random),
         };
         edges.push(Edge { from: LocationId(from), to: LocationId(to), operation });
     }
@@ -202,100 +311,11 @@ fn edges(
         let to = if random.percent(30) { from } else { random.below(locations.len()) };
         // Conditions keep an error location from ending most analyses at once.
         let operation = match locations[to].is_error && random.percent(80) {
-            true => condition(random, variables),
-            false => operation(random, variables),
+            true => operations.any_condition(random),
+            false => operations.any(random),
         };
         edges.push(Edge { from: LocationId(from), to: LocationId(to), operation });
     }
     random.shuffle(&mut edges);
     edges
-}
-
-fn operation(random: &mut Random, variables: &[Variable]) -> Operation {
-    match random.below(10) {
-        0 => Operation::Skip,
-        1..=3 => condition(random, variables),
-        4..=6 => passing(random, variables),
-        _ => computation(random, variables),
-    }
-}
-
-/// An operation that seldom halts.
-fn passing(random: &mut Random, variables: &[Variable]) -> Operation {
-    let Some(target) = target(random, variables) else {
-        return Operation::Skip;
-    };
-    let variable = &variables[target];
-    match random.below(10) {
-        0 | 1 => Operation::Skip,
-        2..=5 => {
-            let value = Operand::Number(random.between(variable.low, variable.high));
-            Operation::Set { target, value }
-        }
-        6 | 7 => {
-            let low = random.between(variable.low, variable.high);
-            let high = if random.percent(40) { low } else { random.between(low, variable.high) };
-            Operation::In { target, low, high }
-        }
-        _ => counting(random, target),
-    }
-}
-
-/// Counting up and down is what makes many abstract states.
-fn counting(random: &mut Random, target: usize) -> Operation {
-    let (left, right) = (Operand::Variable(target), Operand::Number(1));
-    match random.below(3) {
-        0 => Operation::Sub { target, left, right },
-        _ => Operation::Add { target, left, right },
-    }
-}
-
-/// An operation of any operands.
-fn computation(random: &mut Random, variables: &[Variable]) -> Operation {
-    let Some(target) = target(random, variables) else {
-        return Operation::Skip;
-    };
-    if random.percent(40) {
-        return counting(random, target);
-    }
-    let left = operand(random, variables, target);
-    let right = operand(random, variables, target);
-    match random.below(3) {
-        0 => Operation::Set { target, value: left },
-        1 => Operation::Add { target, left, right },
-        _ => Operation::Sub { target, left, right },
-    }
-}
-
-fn condition(random: &mut Random, variables: &[Variable]) -> Operation {
-    let Some(target) = target(random, variables) else {
-        return Operation::Skip;
-    };
-    let relation = random.pick(&Relation::ALL);
-    Operation::If { target, relation, right: operand(random, variables, target) }
-}
-
-fn target(random: &mut Random, variables: &[Variable]) -> Option<usize> {
-    (!variables.is_empty()).then(|| random.below(variables.len()))
-}
-
-fn operand(random: &mut Random, variables: &[Variable], target: usize) -> Operand {
-    if random.percent(40) {
-        Operand::Variable(random.below(variables.len()))
-    } else {
-        Operand::Number(literal(random, &variables[target]))
-    }
-}
-
-/// Inside the range, beside it, or at the ends of all numbers.
-fn literal(random: &mut Random, variable: &Variable) -> i32 {
-    let (lowest, highest) = (*NUMBERS.start(), *NUMBERS.end());
-    match random.below(16) {
-        0..=7 => random.between(variable.low, variable.high),
-        8 => (variable.low - 1).max(lowest),
-        9 => (variable.high + 1).min(highest),
-        10 => lowest,
-        11 => highest,
-        _ => random.between(-2, 3),
-    }
 }

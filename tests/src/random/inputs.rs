@@ -5,9 +5,9 @@ use crate::analysis::{Analysis, Settings, MAX_CAPACITY, MAX_ITERATIONS};
 use crate::chart::Chart;
 use crate::renderer::render;
 
-/// A go line and a chart, of which about half have been damaged.
+/// A go line and a chart, of which about a third have been damaged.
 pub fn program_input(random: &mut Random) -> Vec<u8> {
-    if random.percent(15) {
+    if random.percent(30) {
         return corner_input(random);
     }
     let chart = chart(random);
@@ -26,28 +26,38 @@ pub fn program_input(random: &mut Random) -> Vec<u8> {
     input
 }
 
-/// An accepted input for what few others meet: all 256 slots used, or a taken slot that waits again
-/// when its iteration ends in an alarm or in a full table.
+/// An accepted input for what few others meet: all 256 slots used, a taken slot that waits again
+/// when its iteration ends in an alarm or in a full table, or an overrun of each sort.
 fn corner_input(random: &mut Random) -> Vec<u8> {
     let (sep, join) = (&permitted_settings()[..2], &permitted_settings()[2..]);
-    let (chart, settings, capacity) = if random.percent(40) {
-        (charts::fan(random), random.pick(sep), 256)
-    } else {
-        let (chart, settings) = (charts::hub(random), random.pick(join));
-        let capacity = tight_capacity(random, &chart, settings);
-        (chart, settings, capacity)
+    let (chart, settings, capacity) = match random.below(10) {
+        0 | 1 => (charts::fan(random), random.pick(sep), 256),
+        2..=5 => {
+            let (chart, settings) = (charts::hub(random), random.pick(join));
+            let capacity = tight_capacity(random, &chart, settings);
+            (chart, settings, capacity)
+        }
+        _ => {
+            let (chart, settings) = (charts::brink(random), random.settings());
+            let capacity = capacity(random, &chart, settings);
+            (chart, settings, capacity)
+        }
     };
-    let budget = if random.percent(25) { random.between(1, 100) } else { 60_000 };
+    let budget = match random.percent(10) {
+        true => tight_budget(random, &chart, settings, capacity),
+        false => 60_000,
+    };
     [go_line_of(settings, capacity, budget), render(&chart)].concat()
 }
 
 /// A chart of any shape.
 pub fn chart(random: &mut Random) -> Chart {
     let shape = match random.below(20) {
-        0 | 1 => charts::LARGE,
-        2..=5 => charts::DEEP,
-        6..=9 => return charts::hub(random),
-        10 | 11 => return charts::fan(random),
+        0..=3 => charts::LARGE,
+        4 | 5 => charts::DEEP,
+        6..=8 => return charts::hub(random),
+        9..=12 => return charts::brink(random),
+        13..=15 => return charts::fan(random),
         _ => charts::SMALL,
     };
     charts::chart(random, shape)
@@ -56,7 +66,11 @@ pub fn chart(random: &mut Random) -> Chart {
 fn go_line(random: &mut Random, chart: &Chart) -> Vec<u8> {
     let settings = random.settings();
     let capacity = capacity(random, chart, settings);
-    go_line_of(settings, capacity, budget(random))
+    let budget = match random.percent(5) {
+        true => tight_budget(random, chart, settings, capacity),
+        false => budget(random),
+    };
+    go_line_of(settings, capacity, budget)
 }
 
 fn go_line_of(settings: Settings, capacity: i32, budget: i32) -> Vec<u8> {
@@ -81,6 +95,13 @@ fn tight_capacity(random: &mut Random, chart: &Chart, settings: Settings) -> i32
     let mut analysis = Analysis::start(chart, settings, MAX_CAPACITY);
     analysis.run(chart, MAX_ITERATIONS);
     (analysis.reached.len() as i32 - random.between(0, 1)).max(1)
+}
+
+/// One to three iterations fewer than an analysis takes, as far as there are so many.
+fn tight_budget(random: &mut Random, chart: &Chart, settings: Settings, capacity: i32) -> i32 {
+    let mut analysis = Analysis::start(chart, settings, capacity as usize);
+    analysis.run(chart, MAX_ITERATIONS);
+    (analysis.iterations as i32 - random.between(1, 3)).max(0)
 }
 
 pub fn budget(random: &mut Random) -> i32 {

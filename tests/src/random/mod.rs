@@ -4,6 +4,7 @@ pub mod calls;
 pub mod charts;
 pub mod damage;
 pub mod inputs;
+pub mod operations;
 
 use crate::analysis::{Merge, Order, Settings, Stop};
 

@@ -1,30 +1,32 @@
 //! Abstract moves, seen in the words that a run writes.
 
 use reference::analysis::Verdict;
+use reference::calls::Record;
 use reference::domain::TOP;
 
 use crate::common::chart;
 use crate::support::{started, DONE};
 
-/// The values behind the one edge of a chart, from the given values at its start.
-fn step(lines: &str, values: [i32; 2]) -> Option<[i32; 2]> {
+/// No successor, and nothing else to follow.
+const HALT: Result<[i32; 2], Verdict> = Err(Verdict::Safe);
+const OVERRUN: Result<[i32; 2], Verdict> = Err(Verdict::Alarm);
+
+/// The values behind the one edge of a chart, from the given values at its start; or the verdict
+/// without a successor.
+fn step(lines: &str, values: [i32; 2]) -> Result<[i32; 2], Verdict> {
     let mut memory = started(&chart(lines), "sep sep old", 2);
     memory.table[1..3].copy_from_slice(&values);
     assert_eq!(memory.run(1), DONE);
     assert_eq!(memory.table[..3], [0, values[0], values[1]], "the slot taken stays as it is");
-    match memory.record.used {
-        1 => {
-            assert_eq!(
-                (memory.table[3..6].to_vec(), memory.record.verdict),
-                (vec![0; 3], Verdict::Safe)
-            );
-            None
-        }
-        _ => {
-            assert_eq!((memory.table[3], memory.record.verdict), (1, Verdict::Open));
-            Some([memory.table[4], memory.table[5]])
-        }
+    let Record { used, waiting, verdict, edge, .. } = memory.record;
+    if used == 2 {
+        assert_eq!((memory.table[3], waiting, verdict, edge), (1, 1, Verdict::Open, 0));
+        return Ok([memory.table[4], memory.table[5]]);
     }
+    assert_eq!((used, memory.table[3..6].to_vec()), (1, vec![0; 3]));
+    let is_alarm = u32::from(verdict == Verdict::Alarm);
+    assert_eq!((waiting, edge), (is_alarm, is_alarm), "the slot waits again, for the one edge");
+    Err(verdict)
 }
 
 #[test]
@@ -70,32 +72,74 @@ fn if_moves() {
         [([6, 7], ["ne", "lt", "le"]), ([7, 7], ["eq", "le", "ge"]), ([8, 7], ["ne", "gt", "ge"])]
     {
         for relation in RELATIONS {
-            let expected = passing.contains(&relation).then_some(values);
+            let expected = passing.contains(&relation).then_some(values).ok_or(Verdict::Safe);
             assert_eq!(with(relation, "$1", values), expected, "{relation} {values:?}");
             let literal = values[1].to_string();
             assert_eq!(with(relation, &literal, values), expected, "{relation} {values:?}");
         }
     }
     // With eq the unspecific side takes the known one's value if it can, on either side.
-    assert_eq!(with("eq", "$1", [TOP, 9]), Some([9, 9]));
-    assert_eq!(with("eq", "$1", [TOP, 10]), None);
-    assert_eq!(with("eq", "$1", [5, TOP]), Some([5, 5]));
-    assert_eq!(with("eq", "$1", [4, TOP]), None);
-    assert_eq!(with("eq", "0", [TOP, TOP]), Some([0, TOP]));
-    assert_eq!(with("eq", "-1", [TOP, TOP]), None);
+    assert_eq!(with("eq", "$1", [TOP, 9]), Ok([9, 9]));
+    assert_eq!(with("eq", "$1", [TOP, 10]), HALT);
+    assert_eq!(with("eq", "$1", [5, TOP]), Ok([5, 5]));
+    assert_eq!(with("eq", "$1", [4, TOP]), HALT);
+    assert_eq!(with("eq", "0", [TOP, TOP]), Ok([0, TOP]));
+    assert_eq!(with("eq", "-1", [TOP, TOP]), HALT);
     // Every other case passes unchanged, even where no value could hold.
     for relation in &RELATIONS[1..] {
         for right in ["$1", "12", "-1", "4"] {
-            assert_eq!(with(relation, right, [TOP, 9]), Some([TOP, 9]));
-            assert_eq!(with(relation, right, [TOP, TOP]), Some([TOP, TOP]));
+            assert_eq!(with(relation, right, [TOP, 9]), Ok([TOP, 9]));
+            assert_eq!(with(relation, right, [TOP, TOP]), Ok([TOP, TOP]));
         }
-        assert_eq!(with(relation, "$1", [4, TOP]), Some([4, TOP]));
+        assert_eq!(with(relation, "$1", [4, TOP]), Ok([4, TOP]));
     }
-    assert_eq!(with("eq", "$1", [TOP, TOP]), Some([TOP, TOP]));
+    assert_eq!(with("eq", "$1", [TOP, TOP]), Ok([TOP, TOP]));
     // A variable against itself: known it decides, unspecific it passes.
     for relation in RELATIONS {
         let holds = ["eq", "le", "ge"].contains(&relation);
-        assert_eq!(with(relation, "$0", [3, TOP]), holds.then_some([3, TOP]));
-        assert_eq!(with(relation, "$0", [TOP, 9]), Some([TOP, 9]));
+        assert_eq!(with(relation, "$0", [3, TOP]), holds.then_some([3, TOP]).ok_or(Verdict::Safe));
+        assert_eq!(with(relation, "$0", [TOP, 9]), Ok([TOP, 9]));
+    }
+}
+
+#[test]
+fn set_add_and_sub_moves() {
+    let with = |operation: &str, values: [i32; 2]| {
+        step(&format!("V a 0 9 *\nV b 2 5 *\nL from o\nL to o\nE 0 1 {operation}"), values)
+    };
+    for (operation, values, expected) in [
+        ("set $0 9", [TOP, TOP], Ok([9, TOP])),
+        ("set $0 10", [TOP, TOP], OVERRUN),
+        ("set $0 -1", [0, 2], OVERRUN),
+        ("set $0 $1", [TOP, 3], Ok([3, 3])),
+        ("set $0 $1", [0, TOP], Ok([TOP, TOP])),
+        ("set $1 $0", [5, TOP], Ok([5, 5])),
+        ("set $1 $0", [6, TOP], OVERRUN),
+        ("set $1 $0", [TOP, 2], OVERRUN),
+        ("add $0 $0 1", [8, TOP], Ok([9, TOP])),
+        ("add $0 $0 1", [9, TOP], OVERRUN),
+        ("add $0 $0 1", [TOP, 2], OVERRUN),
+        ("add $0 $0 0", [TOP, 2], Ok([TOP, 2])),
+        ("add $0 $1 4", [0, TOP], Ok([TOP, TOP])),
+        ("add $0 5 $1", [0, TOP], OVERRUN),
+        ("add $0 -2 $1", [0, TOP], Ok([TOP, TOP])),
+        ("add $0 $1 -3", [0, TOP], OVERRUN),
+        ("add $0 $0 $1", [4, TOP], Ok([TOP, TOP])),
+        ("add $0 $0 $1", [5, TOP], OVERRUN),
+        ("add $0 $1 $1", [0, 4], Ok([8, 4])),
+        ("add $0 $1 $1", [0, TOP], OVERRUN),
+        ("sub $0 $0 1", [1, TOP], Ok([0, TOP])),
+        ("sub $0 $0 1", [0, TOP], OVERRUN),
+        ("sub $0 $1 2", [0, TOP], Ok([TOP, TOP])),
+        ("sub $0 $1 3", [0, TOP], OVERRUN),
+        ("sub $0 5 $1", [0, TOP], Ok([TOP, TOP])),
+        ("sub $0 4 $1", [0, TOP], OVERRUN),
+        ("sub $0 11 $1", [0, TOP], Ok([TOP, TOP])),
+        ("sub $0 12 $1", [0, TOP], OVERRUN),
+        ("sub $0 $1 $1", [0, 4], Ok([0, 4])),
+        // Never below 0 as runs have it, but the operands are taken independently.
+        ("sub $0 $1 $1", [0, TOP], OVERRUN),
+    ] {
+        assert_eq!(with(operation, values), expected, "{operation} on {values:?}");
     }
 }

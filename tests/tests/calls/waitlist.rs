@@ -6,7 +6,7 @@ use reference::domain::TOP;
 use reference::memory::JUNK;
 
 use crate::common::{chart, settings, CASE_A};
-use crate::support::{list, started, DONE};
+use crate::support::{list, refused, started, DONE};
 
 #[test]
 fn keeps_its_place() {
@@ -55,13 +55,19 @@ fn a_widened_slot_waits_again_at_the_end() {
 
 #[test]
 fn a_self_loop_returns_the_taken_slot_to_the_list() {
-    let chart = chart("V x 0 9 0\nL only o\nE 0 0 add $0 $0 1");
-    let mut memory = started(&chart, "join sep new", 2);
-    memory.run(1);
-    assert_eq!((memory.table[..4].to_vec(), list(&memory)), (vec![0, TOP, 0, 0], &[0, 0][..]));
-    assert_eq!((memory.record.waiting, memory.record.verdict), (1, Verdict::Open));
-    memory.run(1);
-    assert_eq!((memory.record.waiting, memory.record.verdict), (0, Verdict::Safe));
+    // Widened, the slot overruns where it counts on, and nowhere else.
+    for (operation, waiting, verdict, edge) in
+        [("set $0 1", 0, Verdict::Safe, 0), ("add $0 $0 1", 1, Verdict::Alarm, 1)]
+    {
+        let chart = chart(&format!("V x 0 9 0\nL only o\nE 0 0 {operation}"));
+        let mut memory = started(&chart, "join sep new", 2);
+        memory.run(1);
+        assert_eq!((memory.table[..4].to_vec(), list(&memory)), (vec![0, TOP, 0, 0], &[0, 0][..]));
+        assert_eq!((memory.record.waiting, memory.record.verdict), (1, Verdict::Open));
+        memory.run(1);
+        assert_eq!((memory.record.waiting, memory.record.verdict), (waiting, verdict));
+        assert_eq!((memory.record.used, memory.record.edge), (1, edge));
+    }
 }
 
 #[test]
@@ -72,6 +78,8 @@ fn moved_to_the_place_taken_next() {
     let loop_last = "E 0 1 skip\nE 0 0 add $0 $0 1\n";
     let loop_first = "E 0 0 add $0 $0 1\nE 0 1 skip\n";
     let (alarm, full) = ("E 0 2 skip", "E 0 3 skip");
+    // From the copy, where x is 0: the least past its range, to a location without a slot.
+    let overrun = "E 0 3 sub $0 $0 1";
     let joined = [0, TOP, 1, 0];
     for (edges, last, merge, capacity, words, old, new) in [
         // Moved: the self-loop had put the slot back behind slot 1, or before it.
@@ -79,10 +87,16 @@ fn moved_to_the_place_taken_next() {
         (loop_first, alarm, "join", 8, &joined, &[0, 1], &[1, 0]),
         (loop_last, full, "join", 2, &joined, &[0, 1], &[1, 0]),
         (loop_first, full, "join", 2, &joined, &[0, 1], &[1, 0]),
+        (loop_last, overrun, "join", 8, &joined, &[0, 1], &[1, 0]),
+        (loop_first, overrun, "join", 8, &joined, &[0, 1], &[1, 0]),
+        // In a full table too: its capacity is not judged.
+        (loop_last, overrun, "join", 2, &joined, &[0, 1], &[1, 0]),
         // Gone back: with sep the slot was not on the list.
         (loop_last, alarm, "sep", 8, &[0, 0, 1, 0, 0, 1], &[0, 1, 2], &[1, 2, 0]),
         (loop_last, full, "sep", 3, &[0, 0, 1, 0, 0, 1], &[0, 1, 2], &[1, 2, 0]),
         (loop_last, full, "sep", 2, &[0, 0, 1, 0], &[0, 1], &[1, 0]),
+        (loop_last, overrun, "sep", 8, &[0, 0, 1, 0, 0, 1], &[0, 1, 2], &[1, 2, 0]),
+        (loop_last, overrun, "sep", 3, &[0, 0, 1, 0, 0, 1], &[0, 1, 2], &[1, 2, 0]),
     ] {
         for (order, expected) in [("old", old), ("new", new)] {
             let chart = lines(&format!("{edges}{last}"));
@@ -90,9 +104,9 @@ fn moved_to_the_place_taken_next() {
             assert_eq!(memory.run(9), DONE);
             assert_eq!(memory.table[..words.len()], *words);
             assert_eq!(list(&memory)[..expected.len()], *expected);
-            let (verdict, edge) = match last == alarm {
-                true => (Verdict::Alarm, 3),
-                false => (Verdict::Full, 0),
+            let (verdict, edge) = match last == full {
+                true => (Verdict::Full, 0),
+                false => (Verdict::Alarm, 3),
             };
             let expected = Record {
                 settings: memory.record.settings,
@@ -106,6 +120,68 @@ fn moved_to_the_place_taken_next() {
             assert_eq!(memory.record, expected);
         }
     }
+}
+
+/// An overrun leaves every slot as the edges before it did, also one that its successor would join;
+/// edges after it are not followed.
+#[test]
+fn an_overrun_stores_and_merges_nothing() {
+    let edges = "E 0 1 skip\nE 0 1 set $0 2\nE 0 2 set $0 1\nE 0 2 add $0 $1 7\nE 0 3 skip";
+    let chart = chart(&format!("V x 0 9 0\nV y 0 3 *\nL a o\nL b o\nL c o\nL d o\n{edges}"));
+    let (widened, kept) = ([1, TOP, TOP], [1, 0, TOP, 1, 2, TOP]);
+    for (merge, capacity, from_b, used) in
+        [("join", 8, &widened[..], 3), ("join", 3, &widened, 3), ("sep", 8, &kept, 4)]
+    {
+        let table = [&[0, 0, TOP], from_b, &[2, 1, TOP]].concat();
+        for order in ["old", "new"] {
+            let mut memory = started(&chart, &format!("{merge} sep {order}"), capacity);
+            assert_eq!(memory.run(9), DONE);
+            assert_eq!(memory.table[..table.len()], table);
+            let others = 1..used;
+            let expected: Vec<i32> = match order {
+                "old" => [0].into_iter().chain(others).collect(),
+                _ => others.chain([0]).collect(),
+            };
+            assert_eq!(list(&memory)[..expected.len()], expected);
+            let expected = Record {
+                settings: memory.record.settings,
+                capacity: capacity as u32,
+                iterations: 1,
+                used: used as u32,
+                waiting: used as u32,
+                verdict: Verdict::Alarm,
+                edge: 4,
+            };
+            assert_eq!(memory.record, expected);
+            assert_eq!(memory.run(9), refused(22));
+        }
+    }
+}
+
+/// With the one slot used, an edge without an overrun is out of room, one with an overrun is not.
+#[test]
+fn an_overrun_comes_before_the_capacity() {
+    for (value, verdict, edge) in [(3, Verdict::Full, 0), (4, Verdict::Alarm, 1)] {
+        let chart = chart(&format!("V x 0 3 0\nL a o\nL b o\nE 0 1 set $0 {value}"));
+        let mut memory = started(&chart, "sep sep old", 1);
+        assert_eq!(memory.run(9), DONE);
+        assert_eq!((memory.record.verdict, memory.record.edge), (verdict, edge));
+        assert_eq!((memory.record.used, memory.table[..2].to_vec()), (1, vec![0, 0]));
+        assert_eq!(list(&memory), [0]);
+    }
+}
+
+/// A later edge is judged from the copy: of the taken slot as the self-loop left it `sub $0 $0 1` would overrun.
+#[test]
+fn an_overrun_is_judged_by_the_copy() {
+    let chart = chart("V x 0 9 5\nL a o\nL b o\nE 0 0 set $0 6\nE 0 1 sub $0 $0 1");
+    let mut memory = started(&chart, "join join old", 4);
+    assert_eq!(memory.run(1), DONE);
+    assert_eq!(memory.table[..4], [0, TOP, 1, 4]);
+    assert_eq!((memory.record.verdict, memory.record.waiting), (Verdict::Open, 2));
+    assert_eq!(memory.run(1), DONE);
+    assert_eq!((memory.record.verdict, memory.record.edge), (Verdict::Alarm, 2));
+    assert_eq!(memory.table[..4], [0, TOP, 1, 4], "nothing is joined");
 }
 
 #[test]

@@ -10,14 +10,19 @@ const MOST_ITERATIONS: i32 = 60_000;
 const SEP: Settings = Settings { merge: 0, stop: 0, order: 0 };
 const JOIN: Settings = Settings { merge: 1, stop: 1, order: 0 };
 
-const MIDDLE: Ring =
-    Ring { variables: 4, changing: 4, locations: 16, followed: 3, idle: 0, laps: 4 };
-const LARGEST: Ring =
-    Ring { variables: 8, changing: 8, locations: 64, followed: 4, idle: 0, laps: 4 };
+const MIDDLE: Ring = Ring {
+    variables: 4,
+    changing: 4,
+    locations: 16,
+    followed: 3,
+    idle: 0,
+    laps: 4,
+    is_counted: true,
+};
+const LARGEST: Ring = Ring { variables: 8, changing: 8, locations: 64, followed: 4, ..MIDDLE };
 /// One location with every edge, and slots that differ in their last word alone: an iteration does
 /// as much as it can.
-const COSTLIEST: Ring =
-    Ring { variables: 8, changing: 1, locations: 1, followed: 256, idle: 0, laps: 256 };
+const COSTLIEST: Ring = Ring { changing: 1, locations: 1, followed: 256, laps: 256, ..LARGEST };
 
 /// A call, or start and run as one.
 #[derive(Clone, Copy)]
@@ -110,8 +115,20 @@ pub fn charts() -> Vec<Subject> {
     const WITHOUT_JOIN: &[Call] = &[READ, WALK_SEP, LISTING];
     vec![
         Subject::new("case A", files::case_a(), 16, ALL),
-        Subject::new("middle", &files::ring(MIDDLE), 64, ALL),
-        Subject::new("largest", &files::ring(LARGEST), 256, ALL),
+        Subject::new("middle", &files::ring(MIDDLE), 64, WITHOUT_JOIN),
+        Subject::new(
+            "middle",
+            &files::ring(Ring { is_counted: false, ..MIDDLE }),
+            64,
+            &[WALK_JOIN],
+        ),
+        Subject::new("largest", &files::ring(LARGEST), 256, WITHOUT_JOIN),
+        Subject::new(
+            "largest",
+            &files::ring(Ring { is_counted: false, ..LARGEST }),
+            256,
+            &[WALK_JOIN],
+        ),
         Subject::new("fan", &files::fan(), 256, WITHOUT_JOIN),
         Subject {
             budget: 1,
@@ -151,11 +168,11 @@ pub fn growth() -> Vec<Subject> {
         add(format!("variables {variables}, slots 256, all of one location"), ring, &[WALK_SEP]);
     }
     for locations in [16, 32, 64] {
-        let ring = Ring { locations, ..LARGEST };
+        let ring = Ring { locations, is_counted: false, ..LARGEST };
         add(format!("slots {locations}, edges {}", 4 * locations), ring, &[WALK_JOIN]);
     }
     for variables in [1, 2, 4, 8] {
-        let ring = Ring { variables, changing: variables, ..LARGEST };
+        let ring = Ring { variables, changing: variables, is_counted: false, ..LARGEST };
         add(format!("variables {variables}, slots 64, edges 256"), ring, &[WALK_JOIN]);
     }
     subjects

@@ -1,0 +1,92 @@
+//! What few iterations meet and much can go wrong at; for tests alone.
+
+use std::collections::BTreeSet;
+
+use crate::chart::{Chart, Operand, Operation, Variable};
+use crate::domain::{self, TOP};
+
+#[derive(Clone, Copy, Debug, PartialEq, Eq, PartialOrd, Ord)]
+pub enum Corner {
+    /// A slot that waits before another is widened, and keeps its place.
+    KeepsPlace,
+    /// A self-loop widens the taken slot.
+    SelfLoop,
+    /// After that a later edge has a successor, which is the copy's.
+    CopyFollowed,
+    /// It fits the target's range, which from the widened slot it would not.
+    CopyFits,
+    /// The taken slot waits again, elsewhere, when an alarm or a full table moves it to the place taken next.
+    PutBack,
+    /// A result of set, add or sub that overruns, or has unknown operands and is left in the table.
+    Result { operation: &'static str, unknown: usize, low: End, high: End },
+    /// An operand of it that is unspecific, though its range has one value.
+    OneValue { overruns: bool },
+    /// An overrun in a full table without a slot of that location: else the capacity would be judged.
+    OverrunFull,
+    /// An overrun under join to a location with a slot, which would be joined else.
+    OverrunUnmerged,
+    /// An overrun after an earlier edge of the iteration took a slot.
+    OverrunAfterStored,
+    /// An overrun after an earlier edge of the iteration widened a slot.
+    OverrunAfterWidened,
+}
+
+/// Where a result ends, beside the target's range.
+#[derive(Clone, Copy, Debug, PartialEq, Eq, PartialOrd, Ord)]
+pub enum End {
+    Inside,
+    AtBound,
+    OnePast,
+    FarPast,
+}
+
+impl End {
+    pub fn is_past(self) -> bool {
+        self >= End::OnePast
+    }
+
+    fn beyond_bound_by(distance: i32) -> Self {
+        match distance {
+            ..0 => End::Inside,
+            0 => End::AtBound,
+            1 => End::OnePast,
+            _ => End::FarPast,
+        }
+    }
+}
+
+/// How the result of a set, add or sub lies to its target's range, if operands are unknown or it overruns.
+pub fn note_result(
+    corners: &mut BTreeSet<Corner>,
+    chart: &Chart,
+    operation: Operation,
+    source: &[i32],
+) {
+    let (word, operands) = match operation {
+        Operation::Set { value, .. } => ("set", [value, value]),
+        Operation::Add { left, right, .. } => ("add", [left, right]),
+        Operation::Sub { left, right, .. } => ("sub", [left, right]),
+        Operation::Skip | Operation::In { .. } | Operation::If { .. } => return,
+    };
+    let Some((target, result)) = domain::result(&chart.variables, operation, source) else {
+        return;
+    };
+    let target = &chart.variables[target];
+    let low = End::beyond_bound_by(target.low - result.low);
+    let high = End::beyond_bound_by(result.high - target.high);
+    let overruns = low.is_past() || high.is_past();
+    if result.unknown == 0 && !overruns {
+        return;
+    }
+    corners.insert(Corner::Result { operation: word, unknown: result.unknown, low, high });
+    let is_of_one_value = |operand: Operand| match operand {
+        Operand::Number(_) => false,
+        Operand::Variable(variable) => {
+            let Variable { low, high, .. } = chart.variables[variable];
+            source[variable + 1] == TOP && low == high
+        }
+    };
+    if operands.into_iter().any(is_of_one_value) {
+        corners.insert(Corner::OneValue { overruns });
+    }
+}
