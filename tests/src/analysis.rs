@@ -156,7 +156,7 @@ impl Analysis {
             let edge = chart.edge(id);
             let moved = domain::transfer(chart, edge, source, successor);
             match moved {
-                Move::Halt => continue,
+                Move::Blocked => continue,
                 Move::Overrun => {
                     corner::note_result(&mut self.corners, chart, edge.operation, source);
                     let is_any_stored = self.reached.len() > used_before;

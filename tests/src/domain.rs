@@ -48,7 +48,7 @@ pub fn join_into(row: &mut [i32], other: &[i32]) -> bool {
 #[derive(Clone, Copy, Debug, PartialEq, Eq)]
 pub enum Move {
     /// A condition that cannot hold: no successor.
-    Halt,
+    Blocked,
     /// A result may lie outside the target's range.
     Overrun,
     /// Written where the caller wanted it.
@@ -97,7 +97,7 @@ pub fn transfer(chart: &Chart, edge: &Edge, source: &[i32], successor: &mut [i32
             if passes {
                 Move::Successor
             } else {
-                Move::Halt
+                Move::Blocked
             }
         }
     }

@@ -28,15 +28,19 @@ fn assert_prints(all: &[Worked]) {
 /// location or overruns, which is found out by going through all concrete states.
 #[test]
 fn every_example_means_what_its_description_says() {
-    const DESCRIBED: [(&str, &str, bool); 10] = [
+    const DESCRIBED: [(&str, &str, bool); 14] = [
+        ("axis", "alarm", true),
+        ("axis-join", "alarm", false),
+        ("axis-mended", "safe", false),
         ("feeder-pitch", "safe", false),
         ("feeder-pitch-open", "open", false),
         ("head-nozzle", "alarm", true),
         ("head-nozzle-mended", "safe", false),
         ("nozzle", "alarm", true),
         ("nozzle-mended", "safe", false),
-        ("tape-advance", "alarm", true),
-        ("tape-advance-sep", "room", true),
+        ("tape-advance", "safe", false),
+        ("tape-count", "room", false),
+        ("tape-count-join", "alarm", false),
         ("two-lanes", "safe", false),
         ("two-lanes-join", "alarm", false),
     ];

@@ -121,7 +121,7 @@ fn conditions_on_an_unspecific_variable() {
     let with =
         |condition: &str| step(&format!("V y 0 9 *\nL a o\nE 0 0 if $0 {condition}"), &[TOP]);
     assert_eq!(with("eq 1"), Ok(vec![1]));
-    assert_eq!(with("eq 12"), Err(Move::Halt));
+    assert_eq!(with("eq 12"), Err(Move::Blocked));
     assert_eq!(with("ne 1"), Ok(vec![TOP]));
 }
 
@@ -218,7 +218,7 @@ fn an_unspecific_variable_of_one_value() {
 #[test]
 fn conditions_and_inputs_do_not_overrun() {
     for (operation, expected) in [
-        ("if $0 eq 9", Err(Move::Halt)),
+        ("if $0 eq 9", Err(Move::Blocked)),
         ("if $0 gt 32767", Ok(vec![TOP, TOP])),
         ("if $0 lt $1", Ok(vec![TOP, TOP])),
         ("in $0 0 3", Ok(vec![TOP, TOP])),
