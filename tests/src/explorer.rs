@@ -193,13 +193,6 @@ fn for_each_initial(chart: &Chart, mut visit: impl FnMut(&[i32])) {
 fn for_each_move(chart: &Chart, edge: &Edge, state: &[i32], mut visit: impl FnMut(&[i32])) {
     let mut moved = state.to_vec();
     moved[0] = edge.to.0 as i32;
-    if let Some((target, value)) = assigned(edge.operation, state) {
-        if chart.variables[target].contains(value) {
-            moved[target + 1] = value;
-            visit(&moved);
-        }
-        return;
-    }
     match edge.operation {
         Operation::In { target, low, high } => {
             for value in low..=high {
@@ -212,7 +205,16 @@ fn for_each_move(chart: &Chart, edge: &Edge, state: &[i32], mut visit: impl FnMu
                 visit(&moved);
             }
         }
-        _ => visit(&moved),
+        Operation::Skip => visit(&moved),
+        Operation::Set { .. } | Operation::Add { .. } | Operation::Sub { .. } => {
+            let result = assigned(edge.operation, state);
+            let is_inside =
+                |&(target, value): &(usize, i32)| chart.variables[target].contains(value);
+            if let Some((target, value)) = result.filter(is_inside) {
+                moved[target + 1] = value;
+                visit(&moved);
+            }
+        }
     }
 }
 
@@ -223,7 +225,7 @@ fn assigned(operation: Operation, state: &[i32]) -> Option<(usize, i32)> {
         Operation::Set { target, value } => Some((target, value_of(value))),
         Operation::Add { target, left, right } => Some((target, value_of(left) + value_of(right))),
         Operation::Sub { target, left, right } => Some((target, value_of(left) - value_of(right))),
-        _ => None,
+        Operation::Skip | Operation::In { .. } | Operation::If { .. } => None,
     }
 }
 

@@ -151,7 +151,7 @@ between vars k low z high p q s t = go (get vars k) s t
         (leZ-trans z high (v .hi) q (and-right (leZ (v .lo) high) (leZ high (v .hi)) t))
 
 -- a span with a number outside the range has an end outside it
-pub span-outside : (vars : List Var) (k : ℕ) (r : Span) (z : ℤ) → Among r z → T (not (in-range vars k z)) → span-in-range vars k r ≡ false
+span-outside : (vars : List Var) (k : ℕ) (r : Span) (z : ℤ) → Among r z → T (not (in-range vars k z)) → span-in-range vars k r ≡ false
 span-outside vars k r z h t =
     to-false (span-in-range vars k r)
     (λ s. not-both (in-range vars k z)

@@ -3,7 +3,7 @@
 use Rattle.semantics.proofs.Prelude.{_≡_, refl, ap, _∙_, subst, _⊎_, inl, inr, Bool, true, false, _&&_, not, List, [], _∷_, ℕ, zero, suc, _<_, arith, T, eqb, eqb→eq, ltb, ltb→lt, length, set, ℤ, _+ℤ_, _-ℤ_, leZ}
 use Rattle.semantics.specs.declared.Span.{Span}
 use Rattle.semantics.specs.Lists.{pick, all}
-use Rattle.semantics.specs.Chart.{Value, known, top, Var, Operand, num, var, Op, assign, add, sub, input, assume, skip, Edge, Chart, in-range, Ranged, value, Becomes, result-outside, Overruns, holds, Rel, eq, ne, lt, le, gt, ge}
+use Rattle.semantics.specs.Chart.{Value, known, top, Var, Operand, num, var, Op, assign, add, sub, input, assume, skip, Edge, Chart, in-range, Ranged, value, Becomes, result-outside, holds, Rel, eq, ne, lt, le, gt, ge}
 use Rattle.semantics.specs.Algorithm.{Step, blocked, fault, to}
 use Rattle.semantics.specs.Constants.{AbstractState, operand-value, range-of, value-span, operand-span, sums, differences, assign-value, one-known, tested, effect, arrive-at, post}
 use Rattle.semantics.specs.Encoding.{var-ok, operand-ok, op-ok, edge-ok, chart-ok}
@@ -53,7 +53,7 @@ else-moves vars skip xs r s h = absurd s
 
 pub overruns-exactly : OverrunsExactly
 overruns-exactly = record {
-  only = λ c g s o. (can-overrun (c .vars) (g .op) (s .vals) (o .outside), o .leaves);
+  only-these = λ c g s o. (can-overrun (c .vars) (g .op) (s .vals) (o .outside), o .leaves);
   no-move = λ c g s t o m. no-move (c .vars) (g .op) (s .vals) (t .vals) (m .ranged) (m .becomes) (o .outside);
   else-moves = λ c g s r a l h.
       let u = else-moves (c .vars) (g .op) (s .vals) r a (λ t. h (record { leaves = l; outside = t })) in

@@ -14,15 +14,15 @@ abbrev pub any-digit : Var
 any-digit = record { lo = negsuc 8; hi = pos 9; init = top }
 
 -- an edge by the operation, from the first location to the second
-abbrev pub between : Op → Edge
-between o = record { from = 0; to = 1; op = o }
+abbrev pub edge-by : Op → Edge
+edge-by o = record { from = 0; to = 1; op = o }
 
 -- two such variables, and that edge
 abbrev pub one-edge : Op → Chart
 one-edge o = record {
   vars = any-digit ∷ any-digit ∷ [];
   locs = record { name = bytes "a"; error = false } ∷ record { name = bytes "b"; error = false } ∷ [];
-  edges = between o ∷ [];
+  edges = edge-by o ∷ [];
 }
 
 -- an operation, the values of the two variables before it, and those after it
@@ -58,7 +58,7 @@ some-moves =
     ∷ takes (add 0 (var 0) (var 1)) (pos 7) (pos 2) (pos 9) (pos 2)
     ∷ takes (sub 0 (num (pos 1)) (var 1)) (pos 9) (pos 3) (negsuc 1) (pos 3)
     ∷ takes (sub 1 (var 0) (num (pos 1))) (negsuc 7) (pos 0) (negsuc 7) (negsuc 8)
-    -- `in` at p, at q, between them, and where p = q
+    -- `in` at p, at q, edge-by them, and where p = q
     ∷ takes (input 0 (negsuc 1) (pos 7)) (pos 1) (pos 2) (negsuc 1) (pos 2)
     ∷ takes (input 0 (negsuc 1) (pos 7)) (pos 1) (pos 2) (pos 7) (pos 2)
     ∷ takes (input 0 (negsuc 1) (pos 7)) (pos 1) (pos 2) (pos 0) (pos 2)
@@ -97,7 +97,7 @@ pub record ErrorMet : Type 0 where
 
 -- at the values x y, which are a run, the operation overruns
 abbrev pub RunOverruns : Op → ℤ → ℤ → Type 0
-RunOverruns o x y = let s : State = record { loc = 0; vals = x ∷ y ∷ [] } in Execution (system (one-edge o)) (s ∷ []) × Overruns (one-edge o) (between o) s
+RunOverruns o x y = let s : State = record { loc = 0; vals = x ∷ y ∷ [] } in Execution (system (one-edge o)) (s ∷ []) × Overruns (one-edge o) (edge-by o) s
 
 -- set, add and sub, one past the high end and one below the low one
 pub record OverrunsMet : Type 0 where

@@ -41,15 +41,6 @@ edges-from g (suc n) = g ∷ edges-from (suc g) n
 
 -- ---- values
 
--- both ends are words
-abbrev pub Narrow : Span → Type 0
-Narrow r = SFits w32 (r .low) × SFits w32 (r .high)
-
--- what an operation makes of a number of each, "the two taken independently"
-abbrev pub results-by : Arithmetic → Span → Span → Span
-results-by Add a b = sums a b
-results-by Sub a b = differences a b
-
 -- z lies in the range of variable k
 abbrev pub in-range-at : List ℤ → ℕ → ℤ → Bool
 in-range-at c k z = within (word-at c (variable-at k)) (word-at c (variable-at k + high-place)) z
@@ -58,9 +49,19 @@ in-range-at c k z = within (word-at c (variable-at k)) (word-at c (variable-at k
 abbrev pub operand-by : ℤ → ℤ → List ℤ → ℤ
 operand-by tag z e = pick (eqZ tag number-tag) z (value-at e (natAbs z))
 
--- what variable k may be where its word is x: "its known value or anything in its declared range"
+-- what variable k may be where its word is x: "its known value or anything in its declared range". Of an operand that is
+-- a number, which in a chart in form is not top, k says nothing
 abbrev pub span-at : List ℤ → ℕ → ℤ → Span
 span-at c k x = pick (eqZ x top-word) (record { low = word-at c (variable-at k); high = word-at c (variable-at k + high-place) }) (only x)
+
+-- both ends are words
+abbrev pub Narrow : Span → Type 0
+Narrow r = SFits w32 (r .low) × SFits w32 (r .high)
+
+-- what an operation makes of a number of each, "the two taken independently"
+abbrev pub results-by : Arithmetic → Span → Span → Span
+results-by Add a b = sums a b
+results-by Sub a b = differences a b
 
 -- variable k becomes a result that may be any number of r: top, or the one number that it is. "if some result lies outside
 -- the target's range, that edge raises alarm"

@@ -24,23 +24,6 @@ pub enum Move {
 
 // ---- values
 
-// What the operation makes of a number of each, the two taken independently.
-fn results(s: Arithmetic, a: Span, b: Span) -> Span
-    requires { ⌜ Narrow a × Narrow b ⌝ }
-    ensures { λ r. ⌜ r ≡ results-by s a b ⌝ }
-{
-    match s {
-        Arithmetic::Add => Span {
-            low: a.low + b.low,
-            high: a.high + b.high,
-        },
-        Arithmetic::Sub => Span {
-            low: a.low - b.high,
-            high: a.high - b.low,
-        },
-    }
-}
-
 // Whether z lies in the range of variable k; if so it is a word.
 fn in_range(chart: &[i32], k: usize, z: i64) -> bool
     requires { ⌜ k < index-limit ⌝ }
@@ -84,7 +67,8 @@ fn second_operand(chart: &[i32], edge: EdgeRow, row: &[i32]) -> i32
     operand(tag, w, row)
 }
 
-// What variable k may be where its word is x: that number, or at top any number of its range.
+// What variable k may be where its word is x: that number, or at top any number of its range. Of an operand that is a
+// number, which in a chart in form is not top, k says nothing.
 fn span_of(chart: &[i32], k: usize, x: i32) -> Span
     requires { ⌜ k < index-limit ⌝ }
     ensures span { λ r. ⌜ r ≡ span-at (now (chart .entry)) k x ⌝ }
@@ -101,6 +85,23 @@ fn span_of(chart: &[i32], k: usize, x: i32) -> Span
     Span {
         low: words::wide(x),
         high: words::wide(x),
+    }
+}
+
+// What the operation makes of a number of each, the two taken independently.
+fn results(s: Arithmetic, a: Span, b: Span) -> Span
+    requires { ⌜ Narrow a × Narrow b ⌝ }
+    ensures { λ r. ⌜ r ≡ results-by s a b ⌝ }
+{
+    match s {
+        Arithmetic::Add => Span {
+            low: a.low + b.low,
+            high: a.high + b.high,
+        },
+        Arithmetic::Sub => Span {
+            low: a.low - b.high,
+            high: a.high - b.low,
+        },
     }
 }
 
@@ -130,8 +131,8 @@ fn assign(chart: &[i32], edge: EdgeRow, row: &mut [i32]) -> Move
 {
     let k = chart::edge_target(chart, edge);
     let a = first_operand(chart, edge, row);
-    let j = chart::first_variable(chart, edge);
-    let span = span_of(chart, j, a);
+    let i = chart::first_variable(chart, edge);
+    let span = span_of(chart, i, a);
     assign_result(chart, k, a == words::TOP, span, row)
 }
 

@@ -8,7 +8,7 @@ use crate::common::chart;
 use crate::support::{started, DONE};
 
 /// No successor, and nothing else to follow.
-const HALT: Result<[i32; 2], Verdict> = Err(Verdict::Safe);
+const BLOCKED: Result<[i32; 2], Verdict> = Err(Verdict::Safe);
 const OVERRUN: Result<[i32; 2], Verdict> = Err(Verdict::Alarm);
 
 /// The values behind the one edge of a chart, from the given values at its start; or the verdict
@@ -80,11 +80,11 @@ fn if_moves() {
     }
     // With eq the unspecific side takes the known one's value if it can, on either side.
     assert_eq!(with("eq", "$1", [TOP, 9]), Ok([9, 9]));
-    assert_eq!(with("eq", "$1", [TOP, 10]), HALT);
+    assert_eq!(with("eq", "$1", [TOP, 10]), BLOCKED);
     assert_eq!(with("eq", "$1", [5, TOP]), Ok([5, 5]));
-    assert_eq!(with("eq", "$1", [4, TOP]), HALT);
+    assert_eq!(with("eq", "$1", [4, TOP]), BLOCKED);
     assert_eq!(with("eq", "0", [TOP, TOP]), Ok([0, TOP]));
-    assert_eq!(with("eq", "-1", [TOP, TOP]), HALT);
+    assert_eq!(with("eq", "-1", [TOP, TOP]), BLOCKED);
     // Every other case passes unchanged, even where no value could hold.
     for relation in &RELATIONS[1..] {
         for right in ["$1", "12", "-1", "4"] {
