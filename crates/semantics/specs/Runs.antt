@@ -81,7 +81,7 @@ abbrev pub into-error : Chart
 into-error = record {
   vars = [];
   locs = record { name = bytes "a"; error = false } ∷ record { name = bytes "b"; error = true } ∷ [];
-  edges = record { from = 0; to = 1; op = skip } ∷ [];
+  edges = edge-by skip ∷ [];
 }
 
 -- a state of that chart is a location

@@ -82,10 +82,11 @@ first-at c i e = operand-by (word-at c (i + first-tag-place)) (word-at c (i + fi
 abbrev pub second-at : List ℤ → ℕ → List ℤ → ℤ
 second-at c i e = operand-by (word-at c (i + second-tag-place)) (word-at c (i + second-value-place)) e
 
--- the variable that an operand at top is
+-- the variable that the first operand is, where it is one
 abbrev pub first-variable-at : List ℤ → ℕ → ℕ
 first-variable-at c i = count c (i + first-value-place)
 
+-- and the second
 abbrev pub second-variable-at : List ℤ → ℕ → ℕ
 second-variable-at c i = count c (i + second-value-place)
 
