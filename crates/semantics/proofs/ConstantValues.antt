@@ -1,10 +1,10 @@
 -- Facts of values, of any number of variables. Assumes nothing.
-use Rattle.semantics.proofs.Prelude.{_≡_, refl, sym, ap, _∙_, subst, _⊎_, inl, inr, Bool, true, false, not, List, [], _∷_, Option, none, some, ℕ, zero, suc, arith, T, eqb, eqb→eq, length, getD, set, ℤ, pos, negsuc, _+ℤ_, _-ℤ_, leZ}
+use Rattle.semantics.proofs.Prelude.{_≡_, refl, sym, ap, _∙_, subst, _⊎_, inl, inr, Bool, true, false, not, List, [], _∷_, Option, none, some, ℕ, zero, suc, _<_, arith, T, eqb, eqb→eq, length, getD, set, ℤ, pos, negsuc, _+ℤ_, _-ℤ_, leZ}
 use Rattle.semantics.specs.declared.Span.{Span}
 use Rattle.semantics.specs.Lists.{all-pairs, get, map-or, pick}
 use Rattle.semantics.specs.Chart.{Value, known, top, Var, Operand, num, var, Rel, eq, ne, lt, le, gt, ge, Op, assign, add, sub, input, assume, skip, Edge, Chart, eqZ, within, holds, Ranged, Matches₁, Matches, value, Becomes, result-outside, in-range}
 use Rattle.semantics.specs.Algorithm.{Step, blocked, fault, to}
-use Rattle.semantics.specs.Constants.{AbstractState, equal-value, leq-value, join-values, operand-value, both, only, value-span, operand-span, sums, differences, span-in-range, assign-value, refine, one-known, tested, one-of, effect, arrive-at, post}
+use Rattle.semantics.specs.Constants.{AbstractState, equal-value, leq-value, join-values, operand-value, both, only, range-of, value-span, operand-span, sums, differences, span-in-range, assign-value, computed, refine, one-known, tested, one-of, effect, arrive-at, post}
 use Rattle.semantics.proofs.Bools.{from-true, to-false, and-left, and-right, both-true, not-both}
 use Rattle.semantics.proofs.Integers.{leZ-refl, leZ-antisym, leZ-trans, add-mono, sub-mono}
 use Rattle.semantics.proofs.Covering.{blocked-to, fault-to}
@@ -140,6 +140,12 @@ among-sums a b x y h k = (add-mono (a .low) x (b .low) y (h .0) (k .0), add-mono
 pub among-differences : (a b : Span) (x y : ℤ) → Among a x → Among b y → Among (differences a b) (x -ℤ y)
 among-differences a b x y h k = (sub-mono (a .low) x y (b .high) (h .0) (k .1), sub-mono x (a .high) (b .low) y (h .1) (k .0))
 
+-- the test of a range by its ends
+pub in-range-of : (vars : List Var) (k : ℕ) (z : ℤ) → k < length vars → in-range vars k z ≡ within (range-of vars k .low) (range-of vars k .high) z
+in-range-of [] k z h = absurd (omega arith)
+in-range-of (v ∷ vs) zero z h = refl
+in-range-of (v ∷ vs) (suc k) z h = in-range-of vs k z (omega arith)
+
 -- a number between two of the range is of it
 between : (vars : List Var) (k : ℕ) (low z high : ℤ) → T (leZ low z) → T (leZ z high) → T (in-range vars k low) → T (in-range vars k high) → T (in-range vars k z)
 between vars k low z high p q s t = go (get vars k) s t
@@ -180,14 +186,22 @@ operand-among vars (var k) vs xs r m = value-among vars vs xs k r m
 pub assign-faults : (vars : List Var) (k : ℕ) (r : Span) (v : Value) (vs : List Value) (z : ℤ) → Among r z → T (not (in-range vars k z)) → assign-value vars k r v vs ≡ fault
 assign-faults vars k r v vs z h t = ap (λ (b : Bool). pick b (to (set vs k v)) fault) (span-outside vars k r z h t)
 
+-- numbers of two spans make, by f, a number of what g makes of the spans
+abbrev pub Within : (Span → Span → Span) → (ℤ → ℤ → ℤ) → Type 0
+Within g f = (a b : Span) (x y : ℤ) → Among a x → Among b y → Among (g a b) (f x y)
+
+pub computed-faults : (vars : List Var) (k : ℕ) (g : Span → Span → Span) (f : ℤ → ℤ → ℤ) → Within g f → (a b : Operand) (vs : List Value) (x y : ℤ)
+    → Among (operand-span vars a vs) x → Among (operand-span vars b vs) y → T (not (in-range vars k (f x y))) → computed vars k g f a b vs ≡ fault
+computed-faults vars k g f w a b vs x y p q t =
+    assign-faults vars k (g (operand-span vars a vs) (operand-span vars b vs)) (both f (operand-value a vs) (operand-value b vs)) vs (f x y)
+    (w (operand-span vars a vs) (operand-span vars b vs) x y p q) t
+
 pub effect-faults : (vars : List Var) (o : Op) (vs : List Value) (xs : List ℤ) → Ranged vars xs → Matches vs xs → T (result-outside vars o xs) → effect vars o vs ≡ fault
 effect-faults vars (assign v a) vs xs r m t = assign-faults vars v (operand-span vars a vs) (operand-value a vs) vs (value a xs) (operand-among vars a vs xs r m) t
 effect-faults vars (add v a b) vs xs r m t =
-    assign-faults vars v (sums (operand-span vars a vs) (operand-span vars b vs)) (both _+ℤ_ (operand-value a vs) (operand-value b vs)) vs (value a xs +ℤ value b xs)
-    (among-sums (operand-span vars a vs) (operand-span vars b vs) (value a xs) (value b xs) (operand-among vars a vs xs r m) (operand-among vars b vs xs r m)) t
+    computed-faults vars v sums _+ℤ_ among-sums a b vs (value a xs) (value b xs) (operand-among vars a vs xs r m) (operand-among vars b vs xs r m) t
 effect-faults vars (sub v a b) vs xs r m t =
-    assign-faults vars v (differences (operand-span vars a vs) (operand-span vars b vs)) (both _-ℤ_ (operand-value a vs) (operand-value b vs)) vs (value a xs -ℤ value b xs)
-    (among-differences (operand-span vars a vs) (operand-span vars b vs) (value a xs) (value b xs) (operand-among vars a vs xs r m) (operand-among vars b vs xs r m)) t
+    computed-faults vars v differences _-ℤ_ among-differences a b vs (value a xs) (value b xs) (operand-among vars a vs xs r m) (operand-among vars b vs xs r m) t
 effect-faults vars (input v p q) vs xs r m t = absurd t
 effect-faults vars (assume v g a) vs xs r m t = absurd t
 effect-faults vars skip vs xs r m t = absurd t
@@ -218,6 +232,11 @@ assign-gives vars k r v vs xs z m h = go (span-in-range vars k r)
     go true = inr (set vs k v, refl, matches-set vs xs k v z m h)
     go false = inl refl
 
+computed-gives : (vars : List Var) (k : ℕ) (g : Span → Span → Span) (f : ℤ → ℤ → ℤ) (a b : Operand) (vs : List Value) (xs : List ℤ) → Matches vs xs → Gives (computed vars k g f a b vs) (set xs k (f (value a xs) (value b xs)))
+computed-gives vars k g f a b vs xs m =
+    assign-gives vars k (g (operand-span vars a vs) (operand-span vars b vs)) (both f (operand-value a vs) (operand-value b vs)) vs xs (f (value a xs) (value b xs)) m
+    (both-matches f (operand-value a vs) (operand-value b vs) (value a xs) (value b xs) (known-matches a vs xs m) (known-matches b vs xs m))
+
 refine-gives : (vars : List Var) (a : Operand) (z : ℤ) (vs : List Value) (xs : List ℤ) → Ranged vars xs → Matches vs xs → value a xs ≡ z → Gives (refine vars a z vs) xs
 refine-gives vars (num a) z vs xs r m h = to-gives vs xs m
 refine-gives vars (var k) z vs xs r m h =
@@ -241,10 +260,8 @@ pub effect-gives : (vars : List Var) (o : Op) (vs : List Value) (xs ys : List �
 unfolding Gives
 effect-gives vars (assign v a) vs xs ys r m b =
     rw b (assign-gives vars v (operand-span vars a vs) (operand-value a vs) vs xs (value a xs) m (known-matches a vs xs m))
-effect-gives vars (add v a b) vs xs ys r m h =
-    rw h (assign-gives vars v (sums (operand-span vars a vs) (operand-span vars b vs)) (both _+ℤ_ (operand-value a vs) (operand-value b vs)) vs xs (value a xs +ℤ value b xs) m (both-matches _+ℤ_ (operand-value a vs) (operand-value b vs) (value a xs) (value b xs) (known-matches a vs xs m) (known-matches b vs xs m)))
-effect-gives vars (sub v a b) vs xs ys r m h =
-    rw h (assign-gives vars v (differences (operand-span vars a vs) (operand-span vars b vs)) (both _-ℤ_ (operand-value a vs) (operand-value b vs)) vs xs (value a xs -ℤ value b xs) m (both-matches _-ℤ_ (operand-value a vs) (operand-value b vs) (value a xs) (value b xs) (known-matches a vs xs m) (known-matches b vs xs m)))
+effect-gives vars (add v a b) vs xs ys r m h = rw h (computed-gives vars v sums _+ℤ_ a b vs xs m)
+effect-gives vars (sub v a b) vs xs ys r m h = rw h (computed-gives vars v differences _-ℤ_ a b vs xs m)
 effect-gives vars (input v p u) vs xs ys r m h =
     rw (h .2) (to-gives (set vs v (one-of p u)) (set xs v (h .0)) (matches-set vs xs v (one-of p u) (h .0) m (one-of-matches p u (h .0) (eqZ p u) refl (h .1))))
 effect-gives vars (assume v t a) vs xs ys r m h =
@@ -272,17 +289,12 @@ spans-operand vars (var k) vs = go (operand-value (var k) vs)
     go (known z) = refl
     go top = tt
 
-pub spans-sums : (a b : Span) (v w : Value) → Spans a v → Spans b w → Spans (sums a b) (both _+ℤ_ v w)
-spans-sums a b (known x) (known y) h k = λ i. sums (h i) (k i)
-spans-sums a b (known x) top h k = tt
-spans-sums a b top (known y) h k = tt
-spans-sums a b top top h k = tt
-
-pub spans-differences : (a b : Span) (v w : Value) → Spans a v → Spans b w → Spans (differences a b) (both _-ℤ_ v w)
-spans-differences a b (known x) (known y) h k = λ i. differences (h i) (k i)
-spans-differences a b (known x) top h k = tt
-spans-differences a b top (known y) h k = tt
-spans-differences a b top top h k = tt
+-- so it is of what f and g make, where g is f on spans of one number
+pub spans-both : (g : Span → Span → Span) (f : ℤ → ℤ → ℤ) → ((x y : ℤ) → g (only x) (only y) ≡ only (f x y)) → (a b : Span) (v w : Value) → Spans a v → Spans b w → Spans (g a b) (both f v w)
+spans-both g f e a b (known x) (known y) h k = (λ i. g (h i) (k i)) ∙ e x y
+spans-both g f e a b (known x) top h k = tt
+spans-both g f e a b top (known y) h k = tt
+spans-both g f e a b top top h k = tt
 
 -- P is kept by a new value at variable k that is Ok there, as each number of k's range and top are
 module _ (c : Chart) (P : List Value → Type 0) (Ok : ℕ → Value → Type 0) (known-ok : (k : ℕ) (z : ℤ) → T (in-range (c .vars) k z) → Ok k (known z)) (top-ok : (k : ℕ) → Ok k top)
@@ -303,6 +315,11 @@ module _ (c : Chart) (P : List Value → Type 0) (Ok : ℕ → Value → Type 0)
       go : (b : Bool) → span-in-range (c .vars) k r ≡ b → Whenever P (pick b (to (set vs k v)) fault)
       go true e = set-keeps k v vs (fits v q (from-true e)) h
       go false e = tt
+
+  computed-keeps : (k : ℕ) (g : Span → Span → Span) (f : ℤ → ℤ → ℤ) → ((x y : ℤ) → g (only x) (only y) ≡ only (f x y)) → (a b : Operand) (vs : List Value) → P vs → Whenever P (computed (c .vars) k g f a b vs)
+  computed-keeps k g f e a b vs h =
+      assign-keeps k (g (operand-span (c .vars) a vs) (operand-span (c .vars) b vs)) (both f (operand-value a vs) (operand-value b vs)) vs
+      (spans-both g f e (operand-span (c .vars) a vs) (operand-span (c .vars) b vs) (operand-value a vs) (operand-value b vs) (spans-operand (c .vars) a vs) (spans-operand (c .vars) b vs)) h
 
   one-known-keeps : (r : Rel) (a : Operand) (z : ℤ) (vs : List Value) → P vs → Whenever P (one-known (c .vars) r a z vs)
   unfolding Whenever
@@ -328,12 +345,8 @@ module _ (c : Chart) (P : List Value → Type 0) (Ok : ℕ → Value → Type 0)
   effect-keeps : (o : Op) (vs : List Value) → InputOk o → P vs → Whenever P (effect (c .vars) o vs)
   unfolding Whenever
   effect-keeps (assign v a) vs i h = assign-keeps v (operand-span (c .vars) a vs) (operand-value a vs) vs (spans-operand (c .vars) a vs) h
-  effect-keeps (add v a b) vs i h =
-      assign-keeps v (sums (operand-span (c .vars) a vs) (operand-span (c .vars) b vs)) (both _+ℤ_ (operand-value a vs) (operand-value b vs)) vs
-      (spans-sums (operand-span (c .vars) a vs) (operand-span (c .vars) b vs) (operand-value a vs) (operand-value b vs) (spans-operand (c .vars) a vs) (spans-operand (c .vars) b vs)) h
-  effect-keeps (sub v a b) vs i h =
-      assign-keeps v (differences (operand-span (c .vars) a vs) (operand-span (c .vars) b vs)) (both _-ℤ_ (operand-value a vs) (operand-value b vs)) vs
-      (spans-differences (operand-span (c .vars) a vs) (operand-span (c .vars) b vs) (operand-value a vs) (operand-value b vs) (spans-operand (c .vars) a vs) (spans-operand (c .vars) b vs)) h
+  effect-keeps (add v a b) vs i h = computed-keeps v sums _+ℤ_ (λ x y. refl) a b vs h
+  effect-keeps (sub v a b) vs i h = computed-keeps v differences _-ℤ_ (λ x y. refl) a b vs h
   effect-keeps (input v p q) vs i h = set-keeps v (one-of p q) vs (i v p q refl) h
   effect-keeps (assume v r a) vs i h = tested-keeps r (var v) a (operand-value (var v) vs) (operand-value a vs) vs h
   effect-keeps skip vs i h = h

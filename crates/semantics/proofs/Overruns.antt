@@ -1,9 +1,9 @@
 -- Overruns are exact: of runs, what is without a move and nothing else; of abstract moves, by the ends of spans, what
 -- document 02 says of all results. Assumes nothing.
-use Rattle.semantics.proofs.Prelude.{_≡_, refl, ap, _∙_, subst, _⊎_, inl, inr, Bool, true, false, _&&_, not, List, [], _∷_, ℕ, zero, suc, _<_, arith, T, eqb, eqb→eq, ltb, ltb→lt, length, set, ℤ, _+ℤ_, _-ℤ_, leZ}
+use Rattle.semantics.proofs.Prelude.{_≡_, refl, ap, _∙_, subst, _⊎_, inl, inr, Bool, true, false, _&&_, not, List, [], _∷_, ℕ, zero, suc, _<_, T, eqb, eqb→eq, ltb, ltb→lt, length, set, ℤ, _+ℤ_, _-ℤ_, leZ}
 use Rattle.semantics.specs.declared.Span.{Span}
 use Rattle.semantics.specs.Lists.{pick, all}
-use Rattle.semantics.specs.Chart.{Value, known, top, Var, Operand, num, var, Op, assign, add, sub, input, assume, skip, Edge, Chart, in-range, Ranged, value, Becomes, result-outside, holds, Rel, eq, ne, lt, le, gt, ge}
+use Rattle.semantics.specs.Chart.{Value, known, top, Var, Operand, num, var, Op, assign, add, sub, input, assume, skip, Edge, Chart, within, in-range, Ranged, value, Becomes, result-outside, holds, Rel, eq, ne, lt, le, gt, ge}
 use Rattle.semantics.specs.Algorithm.{Step, blocked, fault, to}
 use Rattle.semantics.specs.Constants.{AbstractState, operand-value, range-of, value-span, operand-span, sums, differences, assign-value, one-known, tested, effect, arrive-at, post}
 use Rattle.semantics.specs.Encoding.{var-ok, operand-ok, op-ok, edge-ok, chart-ok}
@@ -11,7 +11,7 @@ use Rattle.semantics.specs.Exact.{CanOverrun, OverrunsExactly, MayBe, Op
 use Rattle.semantics.proofs.Bools.{from-true, and-left, and-right, both-true, not-both}
 use Rattle.semantics.proofs.Integers.{leZ-refl}
 use Rattle.semantics.proofs.Covering.{blocked-fault, fault-to}
-use Rattle.semantics.proofs.ConstantValues.{ranged-set, ranged-as-set, Among, among-only, among-sums, among-differences, assign-faults}
+use Rattle.semantics.proofs.ConstantValues.{ranged-set, ranged-as-set, Among, among-only, among-sums, among-differences, in-range-of, assign-faults, computed-faults}
 use Rattle.semantics.proofs.ConstantsSound.{along}
 use Rattle.semantics.proofs.StatesOk.{bounds}
 
@@ -72,9 +72,10 @@ range-ends (v ∷ vs) zero t =
 range-ends (v ∷ vs) (suc k) t = range-ends vs k (and-right (var-ok v) (all var-ok vs) t)
 
 among-range : (vars : List Var) (k : ℕ) (x : ℤ) → k < length vars → T (in-range vars k x) → Among (range-of vars k) x
-among-range [] k x l t = absurd (omega arith)
-among-range (v ∷ vs) zero x l t = (and-left (leZ (v .lo) x) (leZ x (v .hi)) t, and-right (leZ (v .lo) x) (leZ x (v .hi)) t)
-among-range (v ∷ vs) (suc k) x l t = among-range vs k x (omega arith) t
+among-range vars k x l t =
+    let r = range-of vars k in
+    let s : T (within (r .low) (r .high) x) = subst T (in-range-of vars k x l) t in
+    (and-left (leZ (r .low) x) (leZ x (r .high)) s, and-right (leZ (r .low) x) (leZ x (r .high)) s)
 
 module _ (vars : List Var) where
   among : (a : Operand) (vs : List Value) (x : ℤ) → T (operand-ok vars a) → OperandMayBe vars a vs x → Among (operand-span vars a vs) x
@@ -100,11 +101,9 @@ module _ (vars : List Var) where
   outside-faults (assign v a) vs ok s =
       assign-faults vars v (operand-span vars a vs) (operand-value a vs) vs (s .0) (among a vs (s .0) (search (and-left, and-right)) (s .1)) (s .2)
   outside-faults (add v a b) vs ok s =
-      assign-faults vars v (sums (operand-span vars a vs) (operand-span vars b vs)) _ vs (s .0 +ℤ s .1)
-      (among-sums (operand-span vars a vs) (operand-span vars b vs) (s .0) (s .1) (among a vs (s .0) (search (and-left, and-right)) (s .2)) (among b vs (s .1) (search (and-left, and-right)) (s .3))) (s .4)
+      computed-faults vars v sums _+ℤ_ among-sums a b vs (s .0) (s .1) (among a vs (s .0) (search (and-left, and-right)) (s .2)) (among b vs (s .1) (search (and-left, and-right)) (s .3)) (s .4)
   outside-faults (sub v a b) vs ok s =
-      assign-faults vars v (differences (operand-span vars a vs) (operand-span vars b vs)) _ vs (s .0 -ℤ s .1)
-      (among-differences (operand-span vars a vs) (operand-span vars b vs) (s .0) (s .1) (among a vs (s .0) (search (and-left, and-right)) (s .2)) (among b vs (s .1) (search (and-left, and-right)) (s .3))) (s .4)
+      computed-faults vars v differences _-ℤ_ among-differences a b vs (s .0) (s .1) (among a vs (s .0) (search (and-left, and-right)) (s .2)) (among b vs (s .1) (search (and-left, and-right)) (s .3)) (s .4)
   outside-faults (input v p q) vs ok s = absurd s
   outside-faults (assume v r a) vs ok s = absurd s
   outside-faults skip vs ok s = absurd s

@@ -58,7 +58,7 @@ some-moves =
     ∷ takes (add 0 (var 0) (var 1)) (pos 7) (pos 2) (pos 9) (pos 2)
     ∷ takes (sub 0 (num (pos 1)) (var 1)) (pos 9) (pos 3) (negsuc 1) (pos 3)
     ∷ takes (sub 1 (var 0) (num (pos 1))) (negsuc 7) (pos 0) (negsuc 7) (negsuc 8)
-    -- `in` at p, at q, edge-by them, and where p = q
+    -- `in` at p, at q, between them, and where p = q
     ∷ takes (input 0 (negsuc 1) (pos 7)) (pos 1) (pos 2) (negsuc 1) (pos 2)
     ∷ takes (input 0 (negsuc 1) (pos 7)) (pos 1) (pos 2) (pos 7) (pos 2)
     ∷ takes (input 0 (negsuc 1) (pos 7)) (pos 1) (pos 2) (pos 0) (pos 2)

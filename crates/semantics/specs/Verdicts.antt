@@ -1,6 +1,6 @@
 -- Why the edges of an iteration end as they do: a claim over the algorithm, at any domain, that no full table hides an
--- alarm of its own edge or an earlier one and that an alarm names its edge (`visit-all-caused`). Document 01, "One round", steps 1 and
--- 4; document 02, 2.1. Assumes nothing.
+-- alarm of its own edge or an earlier one, and that an alarm names its edge (`visit-all-caused`). Document 01, "One
+-- round", steps 1 and 4; document 02, 2.1. Assumes nothing.
 use mathlib.Core.Path.{_≡_}
 use mathlib.Core.Logic.{_⊎_}
 use mathlib.Core.Bool.{false}

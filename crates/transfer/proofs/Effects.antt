@@ -7,10 +7,10 @@ use Rattle.semantics.specs.Layout.{top-word, edge-size, operation-place, target
 use Rattle.semantics.specs.Lists.{pick, all}
 use Rattle.semantics.specs.Chart.{Value, known, top, Var, Operand, num, var, Rel, eq, ne, lt, le, gt, ge, Op, assign, add, sub, input, assume, skip, Chart, eqZ, holds, in-range}
 use Rattle.semantics.specs.Algorithm.{Step, blocked, fault, to}
-use Rattle.semantics.specs.Constants.{operand-value, both, value-span, operand-span, span-in-range, assign-value, one-of, refine, one-known, tested, effect}
+use Rattle.semantics.specs.Constants.{operand-value, both, only, value-span, operand-span, span-in-range, assign-value, computed, one-of, refine, one-known, tested, effect}
 use Rattle.semantics.specs.Encoding.{word, word-at, tag, operand-word, rel-code, op-words, encode, count, var-ok, operand-ok, op-ok, chart-ok}
 use Rattle.semantics.proofs.Bools.{and-left, and-right}
-use Rattle.semantics.proofs.ConstantValues.{Spans, spans-operand, spans-sums, spans-differences}
+use Rattle.semantics.proofs.ConstantValues.{Spans, spans-operand, spans-both}
 use Rattle.semantics.proofs.StatesOk.{ValOk, ValsOk}
 use Rattle.semantics.proofs.MemoryOf.{small-not-top, known-not-top}
 use Rattle.words.proofs.Words.{eqZ-true}
@@ -166,12 +166,12 @@ module _ (c : Chart) (ok : T (chart-ok c)) (rest : List ℤ) (l : ℤ) (xs : Lis
     Reads o = (j : ℕ) → j < edge-size → word-at ws (i + j) ≡ getD (from ∷ goal ∷ op-words o) j (pos 0)
 
     -- add and sub, by their code
-    compute-is : (s : Arithmetic) (f : ℤ → ℤ → ℤ) → ((a b : Span) (v w : Value) → Spans a v → Spans b w → Spans (results-by s a b) (both f v w))
+    compute-is : (s : Arithmetic) (f : ℤ → ℤ → ℤ) → ((x y : ℤ) → results-by s (only x) (only y) ≡ only (f x y))
         → (n v : ℕ) (a b : Operand) → T (op-ok (c .vars) (add v a b))
         → ((j : ℕ) → j < edge-size → word-at ws (i + j) ≡ getD (from ∷ goal ∷ pos n ∷ pos v ∷ tag a ∷ operand-word a ∷ tag b ∷ operand-word b ∷ []) j (pos 0))
-        → compute-at s ws i e ≡ row-step l (assign-value (c .vars) v (results-by s (operand-span (c .vars) a xs) (operand-span (c .vars) b xs)) (both f (operand-value a xs) (operand-value b xs)) xs)
+        → compute-at s ws i e ≡ row-step l (computed (c .vars) v (results-by s) f a b xs)
     unfolding compute-at
-    compute-is s f spans n v a b t r =
+    compute-is s f one n v a b t r =
         let k : v < length (c .vars) = ltb→lt v (length (c .vars)) (search (and-left, and-right)) in
         let u : T (operand-ok (c .vars) a) = search (and-left, and-right) in
         let w : T (operand-ok (c .vars) b) = search (and-left, and-right) in
@@ -181,7 +181,7 @@ module _ (c : Chart) (ok : T (chart-ok c)) (rest : List ℤ) (l : ℤ) (xs : Lis
         let q = operand-span (c .vars) b xs in
         rw (r target-place (omega arith), r first-tag-place (omega arith), r first-value-place (omega arith), r second-tag-place (omega arith), r second-value-place (omega arith), operand-is a, operand-is b, span-is a u, span-is b w)
         (assign-is v (results-by s p q) (eqZ (word x) top-word || eqZ (word y) top-word) (both f x y) k
-        (both-set-to f (results-by s p q) x y (spans p q x y (spans-operand (c .vars) a xs) (spans-operand (c .vars) b xs)) (operand-plain a u) (operand-plain b w)))
+        (both-set-to f (results-by s p q) x y (spans-both (results-by s) f one p q x y (spans-operand (c .vars) a xs) (spans-operand (c .vars) b xs)) (operand-plain a u) (operand-plain b w)))
 
     pub effect-is : (o : Op) → T (op-ok (c .vars) o) → Reads o → op-by (count ws (i + operation-place)) ws i e ≡ row-step l (effect (c .vars) o xs)
     unfolding op-by assign-at input-at assume-at
@@ -193,8 +193,8 @@ module _ (c : Chart) (ok : T (chart-ok c)) (rest : List ℤ) (l : ℤ) (xs : Lis
         let p = operand-span (c .vars) a xs in
         rw (r operation-place (omega arith), r target-place (omega arith), r first-tag-place (omega arith), r first-value-place (omega arith), operand-is a, span-is a u)
         (assign-is v p (eqZ (word x) top-word) x k (set-to p x (spans-operand (c .vars) a xs) (operand-plain a u)))
-    effect-is (add v a b) t r = rw (r operation-place (omega arith)) (compute-is Add _+ℤ_ spans-sums add-code v a b t r)
-    effect-is (sub v a b) t r = rw (r operation-place (omega arith)) (compute-is Sub _-ℤ_ spans-differences sub-code v a b t r)
+    effect-is (add v a b) t r = rw (r operation-place (omega arith)) (compute-is Add _+ℤ_ (λ x y. refl) add-code v a b t r)
+    effect-is (sub v a b) t r = rw (r operation-place (omega arith)) (compute-is Sub _-ℤ_ (λ x y. refl) sub-code v a b t r)
     effect-is (input v p q) t r = rw (r operation-place (omega arith), r target-place (omega arith), r first-value-place (omega arith), r second-value-place (omega arith)) (join-is v p q)
     effect-is (assume v g a) t r =
         let k : v < length (c .vars) = ltb→lt v (length (c .vars)) (search (and-left, and-right)) in

@@ -9,10 +9,11 @@ use Rattle.semantics.specs.declared.Span.{Span}
 use Rattle.semantics.specs.Constants.{range-of}
 use Rattle.semantics.specs.Tidy.{Every}
 use Rattle.semantics.specs.Encoding.{word-at, word, kind-word, var-words, loc-words, edge-words, encode, var-ok, chart-ok, variable-count, location-count}
+use Rattle.semantics.proofs.ConstantValues.{in-range-of}
 use Rattle.semantics.proofs.StatesOk.{Bounds, bounds}
 use Rattle.semantics.proofs.Encoded.{kind-back, each-length, every-of, loc-wide, edge-wide, every-any}
 use Rattle.state.specs.Rows.{location-in, row-at}
-use Rattle.transfer.specs.Transfer.{in-range-at, edge-at, error-row, initial-words, initial-row}
+use Rattle.transfer.specs.Transfer.{range-at, in-range-at, edge-at, error-row, initial-words, initial-row}
 
 pub at-some : {A : Type 0} (xs : List A) (n : ℕ) → n < length xs → (x : A) × At xs n x
 at-some [] n h = absurd (omega arith)
@@ -39,11 +40,6 @@ range-of-at : (vars : List Var) (k : ℕ) (v : Var) → At vars k v → range-of
 range-of-at [] k v a = absurd a
 range-of-at (u ∷ us) zero v a = ap (λ (w : Var). record { low = w .lo; high = w .hi }) a
 range-of-at (u ∷ us) (suc k) v a = range-of-at us k v a
-
-in-range-of : (vars : List Var) (k : ℕ) (z : ℤ) → k < length vars → in-range vars k z ≡ within (range-of vars k .low) (range-of vars k .high) z
-in-range-of [] k z h = absurd (omega arith)
-in-range-of (v ∷ vs) zero z h = refl
-in-range-of (v ∷ vs) (suc k) z h = in-range-of vs k z (omega arith)
 
 error-at : (locs : List Loc) (n : ℕ) (l : Loc) → At locs n l → error-location locs n ≡ l .error
 error-at [] n l a = absurd a
@@ -97,7 +93,7 @@ module _ (c : Chart) (ok : T (chart-ok c)) (rest : List ℤ) where
   var-word k v a i l = from-counts (variable-size * k + i) ∙ each-at var-words variable-size (λ v. T (var-ok v)) (λ v t. refl) (c .vars) after-vars k v (every-of var-ok (c .vars) (b .vars)) a i l
 
   -- a range, and the test of one, by the chart's words
-  pub range-of-is : (k : ℕ) → k < length (c .vars) → record { low = word-at ws (variable-at k); high = word-at ws (variable-at k + high-place) } ≡ range-of (c .vars) k
+  pub range-of-is : (k : ℕ) → k < length (c .vars) → range-at ws k ≡ range-of (c .vars) k
   range-of-is k h =
       let v = at-some (c .vars) k h in
       let e : variable-at k ≡ counts-size + (variable-size * k + low-place) = omega arith in

@@ -41,9 +41,17 @@ edges-from g (suc n) = g ∷ edges-from (suc g) n
 
 -- ---- values
 
+-- both ends are words
+abbrev pub Narrow : Span → Type 0
+Narrow r = SFits w32 (r .low) × SFits w32 (r .high)
+
+-- the range of variable k
+abbrev pub range-at : List ℤ → ℕ → Span
+range-at c k = record { low = word-at c (variable-at k); high = word-at c (variable-at k + high-place) }
+
 -- z lies in the range of variable k
 abbrev pub in-range-at : List ℤ → ℕ → ℤ → Bool
-in-range-at c k z = within (word-at c (variable-at k)) (word-at c (variable-at k + high-place)) z
+in-range-at c k z = within (range-at c k .low) (range-at c k .high) z
 
 -- an operand by its tag and its own word: a number, or the word of a variable
 abbrev pub operand-by : ℤ → ℤ → List ℤ → ℤ
@@ -52,11 +60,7 @@ operand-by tag z e = pick (eqZ tag number-tag) z (value-at e (natAbs z))
 -- what variable k may be where its word is x: "its known value or anything in its declared range". Of an operand that is
 -- a number, which in a chart in form is not top, k says nothing
 abbrev pub span-at : List ℤ → ℕ → ℤ → Span
-span-at c k x = pick (eqZ x top-word) (record { low = word-at c (variable-at k); high = word-at c (variable-at k + high-place) }) (only x)
-
--- both ends are words
-abbrev pub Narrow : Span → Type 0
-Narrow r = SFits w32 (r .low) × SFits w32 (r .high)
+span-at c k x = pick (eqZ x top-word) (range-at c k) (only x)
 
 -- what an operation makes of a number of each, "the two taken independently"
 abbrev pub results-by : Arithmetic → Span → Span → Span

@@ -12,7 +12,7 @@ ghost use mir.Val.{SFits};
 ghost use Rattle.semantics.specs.Layout.{operation-place, index-limit};
 ghost use Rattle.semantics.specs.Encoding.{count};
 ghost use Rattle.state.specs.Rows.{layout-of, width-of};
-ghost use Rattle.transfer.specs.Transfer.{step-of, Narrow, results-by, in-range-at, operand-by, first-at, second-at, span-at, assign-result, assign-at, compute-at, input-at, holds-by, assign-ranged, refine-by, assume-at, op-by, post-at, error-row, initial-row};
+ghost use Rattle.transfer.specs.Transfer.{step-of, Narrow, range-at, in-range-at, results-by, operand-by, first-at, second-at, span-at, assign-result, assign-at, compute-at, input-at, holds-by, assign-ranged, refine-by, assume-at, op-by, post-at, error-row, initial-row};
 
 // What a transfer answers, as the rules' `Step`: no successor; a fault, which is an overrun (request 2.1); or a successor,
 // which stands in the row lent.
@@ -24,15 +24,28 @@ pub enum Move {
 
 // ---- values
 
+// The range of variable k.
+fn range_of(chart: &[i32], k: usize) -> Span
+    requires { ⌜ k < index-limit ⌝ }
+    ensures range { λ r. ⌜ r ≡ range-at (now (chart .entry)) k ⌝ }
+    ensures narrow { λ r. ⌜ Narrow r ⌝ }
+{
+    let lo = chart::variable_low(chart, k);
+    let hi = chart::variable_high(chart, k);
+    Span {
+        low: words::wide(lo),
+        high: words::wide(hi),
+    }
+}
+
 // Whether z lies in the range of variable k; if so it is a word.
 fn in_range(chart: &[i32], k: usize, z: i64) -> bool
     requires { ⌜ k < index-limit ⌝ }
     ensures ranged { λ r. ⌜ r ≡ in-range-at (now (chart .entry)) k z ⌝ }
     ensures narrow { λ r. ⌜ (r ≡ true → SFits w32 z) ⌝ }
 {
-    let lo = chart::variable_low(chart, k);
-    let hi = chart::variable_high(chart, k);
-    (words::wide(lo) <= z) & (z <= words::wide(hi))
+    let range = range_of(chart, k);
+    (range.low <= z) & (z <= range.high)
 }
 
 // ---- operands
@@ -75,12 +88,7 @@ fn span_of(chart: &[i32], k: usize, x: i32) -> Span
     ensures narrow { λ r. ⌜ Narrow r ⌝ }
 {
     if x == words::TOP {
-        let lo = chart::variable_low(chart, k);
-        let hi = chart::variable_high(chart, k);
-        return Span {
-            low: words::wide(lo),
-            high: words::wide(hi),
-        };
+        return range_of(chart, k);
     }
     Span {
         low: words::wide(x),

@@ -1,8 +1,8 @@
 -- `transfer::refine` meets its contract. Assumes nothing.
-use Rattle.semantics.proofs.Prelude.{_≡_, sym, ap, _∙_, Bool, _&&_, not, needs, sfits-of, eqb, w32, w64, sfits-lit, ofZ, toZ-ofZ}
+use Rattle.semantics.proofs.Prelude.{_≡_, sym, ap, _∙_, Bool, _&&_, not, needs, sfits-of, eqb, w32, sfits-lit, ofZ}
 use Rattle.semantics.specs.Layout.{top-word, eq-code}
 use Rattle.semantics.specs.Chart.{eqZ}
-use Rattle.words.proofs.Words.{bits-eqb}
+use Rattle.words.proofs.Words.{bits-eqb, wide-told}
 use Rattle.transfer.specs.Transfer.{refine-by}
 use Rattle.transfer.proofs.refine.Statement.{statement}
 use Rattle.transfer.proofs.refine.Tie as tie
@@ -16,9 +16,8 @@ unfolding refine-by
 returns c =
     let w = c .before .before .before in
     let s = w .before .before in
-    let x = w .wide .result in
     rw (test-is s ∙ w .before .if1 .taken)
-    (c .before .assign-ranged .ensures ∙ rw (toZ-ofZ w64 x (sfits-of {z = x} (w .wide .ok)), w .wide .ensures, toZ-ofZ w32 (s .args .x) (s .fits .x)))
+    (c .before .assign-ranged .ensures ∙ rw (wide-told (sfits-of {z = w .wide .result} (w .wide .ok)) (s .fits .x) (w .wide .ensures)))
 
 returns-2 : tie.Need-returns-2
 unfolding refine-by
