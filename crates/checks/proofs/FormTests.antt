@@ -1,6 +1,6 @@
 -- Facts behind the form check: the loops' turns, the two parts of rule 21, and what 20, 14 and 21 ask.
 -- Assumes nothing.
-use Rattle.semantics.proofs.Prelude.{_≡_, refl, ap, sym, _∙_, Bool, true, false, _&&_, _||_, not, List, [], _∷_, _++_, ℕ, suc, _+_, _<_, add-zero, add-one, arith, ℤ, pos, length, take, drop, drop-cons, drop-drop, getD-drop}
+use Rattle.semantics.proofs.Prelude.{_≡_, refl, ap, sym, _∙_, Bool, true, false, _&&_, _||_, not, List, [], _∷_, _++_, ℕ, suc, _+_, _*_, _<_, add-zero, add-one, arith, ℤ, pos, length, take, drop, drop-cons, drop-drop, getD-drop}
 use Rattle.semantics.specs.Lists.{some-of, all, all-pairs, all-of}
 use Rattle.semantics.specs.Chart.{eqZ, within}
 use Rattle.semantics.specs.Layout.{top-word, counts-size, variable-size, high-place}
@@ -12,7 +12,10 @@ use Rattle.semantics.proofs.Decoded.{vars-count, locs-count, edges-count}
 use Rattle.semantics.proofs.Bools.{passed}
 use Rattle.semantics.proofs.FirstCase.{enough}
 use Rattle.chart.proofs.Rows.{interchange}
-use Rattle.state.specs.Rows.{location-word, values-of}
+use Rattle.state.specs.declared.Layout.{Layout}
+use Rattle.state.specs.Rows.{location-word, values-of, row-of}
+use Rattle.state.proofs.Layouts.{LayoutOf}
+use Rattle.state.proofs.Slots.{drop-slot}
 use Rattle.checks.specs.Form.{lent, InForm}
 
 -- ---- turns of the loops: the test at i, which says b, and what is left after it
@@ -42,10 +45,10 @@ row-is ws (x ∷ xs) h =
     let n : length xs ≡ variable-count ws = omega (arith, h, vars-count ws) in
     λ j. below (sym (locs-count ws) j) x && all-pairs value-ok (several var-in variable-size (n j) (drop counts-size ws)) xs
 
--- the row at `from`
-pub rows-ok-turn : (ws t : List ℤ) (from w k n : ℕ) → w ≡ width (decode ws) → k ≡ width (decode ws) → (b : Bool) → row-ok (decode ws) (take w (drop from t)) ≡ b →
-    rows-ok (decode ws) (suc n) (drop from t) ≡ b && rows-ok (decode ws) n (drop (from + k) t)
-rows-ok-turn ws t from w k n e f b q = rw (← drop-drop k from t, f, ← q, e)
+-- the state of slot s is tested, and the slots after it are left
+pub rows-ok-turn : (ws t : List ℤ) (y : Layout) → LayoutOf (decode ws) y → (s n : ℕ) (b : Bool) → row-ok (decode ws) (row-of y s t) ≡ b →
+    rows-ok (decode ws) (suc n) (drop (s * y .stride) t) ≡ b && rows-ok (decode ws) n (drop ((s + 1) * y .stride) t)
+rows-ok-turn ws t y o s n b q = rw (← drop-slot y s t, ← q, o .wide, o .stride)
 
 -- ---- the rule in its two parts
 

@@ -5,6 +5,7 @@
 use semantics::Analysis;
 use semantics::EdgeId;
 use semantics::Mode;
+use semantics::SlotId;
 use semantics::Verdict;
 use state::Layout;
 ghost use mathlib.Core.Path.{_≡_};
@@ -57,22 +58,17 @@ fn row_ok(chart: &[i32], row: &[i32]) -> bool
     words::is_below(chart::location_count(chart), location) & values_ok(chart, state::values(row))
 }
 
-// The slots in use. Slot and word offset go together.
+// The slots in use.
 fn rows_ok(chart: &[i32], layout: Layout, table: &[i32], used: usize) -> bool
     requires { ⌜ ChartLayout (now chart) layout × (used * layout .stride ≤ length (now table)) ⌝ }
     ensures { λ r. ⌜ r ≡ rows-ok (decode (now (chart .entry))) used (now (table .entry)) ⌝ }
 {
-    let width = layout.width();
-    let stride = layout.stride;
-    let mut from = 0;
-    let mut s = 0;
-    while s < used {
-        let to = from + width;
-        if !row_ok(chart, &table[from..to]) {
+    let mut slot = layout.slot(SlotId(0));
+    while slot.id.is_below(used) {
+        if !row_ok(chart, state::row_of(layout, table, slot)) {
             return false;
         }
-        from += stride;
-        s += 1;
+        slot = layout.after(slot);
     }
     true
 }

@@ -1,5 +1,5 @@
 -- The listing's text piece by piece: lines as their fields, and what one turn of each loop adds. Assumes nothing.
-use Rattle.semantics.proofs.Prelude.{_≡_, refl, sym, ap, subst, _∙_, Bool, true, false, _||_, or-true, or-false, List, [], _∷_, _++_, map, append-assoc, ℕ, suc, _+_, _≤_, _<_, add-one, arith, eqb-true, eqb-false, T, eqb, leb→le, ℤ, pos, natAbs, length, getD, set, take, drop, replicate, getD-replicate, length-set, length-replicate, drop-cons, drop-drop, getD-set-same, getD-set-other}
+use Rattle.semantics.proofs.Prelude.{_≡_, refl, sym, ap, subst, _∙_, Bool, true, false, _||_, or-true, or-false, List, [], _∷_, _++_, map, append-assoc, ℕ, suc, _+_, _*_, _≤_, _<_, add-one, arith, eqb-true, eqb-false, T, eqb, leb→le, ℤ, pos, natAbs, length, getD, set, take, drop, replicate, getD-replicate, length-set, length-replicate, drop-cons, drop-drop, getD-set-same, getD-set-other}
 use Rattle.semantics.specs.Lists.{some-of, each}
 use Rattle.semantics.specs.Text.{bytes, decimal, line-of}
 use Rattle.semantics.specs.Chart.{Chart}
@@ -8,7 +8,10 @@ use Rattle.semantics.specs.Memory.{Memory, width, state-in, states-in, load, an
 use Rattle.semantics.specs.Listing.{loc-text, mark, val-text, slot-text, slots-text, header-text, listing-text}
 use Rattle.semantics.specs.declared.Analysis.{Analysis}
 use Rattle.semantics.proofs.MemoryInForm.{form, states-count}
-use Rattle.state.specs.Rows.{location-in, values-of}
+use Rattle.state.specs.declared.Layout.{Layout}
+use Rattle.state.specs.Rows.{location-in, values-of, row-of}
+use Rattle.state.proofs.Layouts.{LayoutOf}
+use Rattle.state.proofs.Slots.{drop-slot}
 use Rattle.checks.specs.Form.{lent}
 use Rattle.listing.specs.Pieces.{tabbed, values-text, words-text, numbers-text, marked}
 
@@ -47,10 +50,11 @@ slot-is c s (x ∷ xs) n b h p =
     (λ j. decimal s ++ (tabbed (loc-text (c .locs) (p j)) ++ (values-text xs ++ (tabbed (mark b) ++ (10 ∷ [])))))
     ∙ ap (λ (l : List ℕ). decimal s ++ (9 ∷ l)) (sym (line-end (loc-text (c .locs) (natAbs x)) (map val-text (map val xs)) (mark b)))
 
--- the lines of the slots from slot s on, whose words begin at `from`
-pub slots-turn : (c : Chart) (wa : List ℕ) (w from s n : ℕ) (t : List ℤ)
-    → slots-text c wa s (states-in w (suc n) (drop from t)) ≡ slot-text c s (state-in (take w (drop from t))) (some-of (eqb s) wa) ++ slots-text c wa (s + 1) (states-in w n (drop (from + w) t))
-slots-turn c wa w from s n t = rw (add-one, ← drop-drop w from t)
+-- the lines of the slots from slot s on
+pub slots-turn : (c : Chart) (wa : List ℕ) (y : Layout) → LayoutOf c y → (s n : ℕ) (t : List ℤ)
+    → slots-text c wa s (states-in (width c) (suc n) (drop (s * y .stride) t))
+    ≡ slot-text c s (state-in (row-of y s t)) (some-of (eqb s) wa) ++ slots-text c wa (s + 1) (states-in (width c) n (drop ((s + 1) * y .stride) t))
+slots-turn c wa y o s n t = rw (← drop-slot y s t, o .wide, o .stride, add-one)
 
 -- ---- the marks
 

@@ -200,7 +200,7 @@ fn put_slot(
     writer::put_byte(out, end, semantics::LF)
 }
 
-// The lines of the slots in use. Slot and word offset go together.
+// The lines of the slots in use.
 fn put_slots(
     out: &mut [u8],
     at: usize,
@@ -213,19 +213,16 @@ fn put_slots(
     ensures { λ r. ⌜ Put at (slots-text (decode (now (chart .entry))) (map natAbs (now (list .entry))) 0 (states-in (width (decode (now (chart .entry)))) used (now (table .entry)))) (now (out .entry)) (now (out .exit)) r ⌝ }
 {
     let layout = state::layout_of(chart);
-    let width = layout.width();
-    let stride = layout.stride;
     let mut marks = [false; semantics::MOST_SLOTS];
     mark_waiting(&mut marks, list);
     let mut place = at;
-    let mut from = 0;
-    let mut s = 0;
-    while s < used {
-        let to = from + width;
+    let mut slot = layout.slot(SlotId(0));
+    while slot.id.is_below(used) {
+        let s = slot.id.0;
         let waiting = marks[s];
-        place = put_slot(out, place, chart, SlotId(s), &table[from..to], waiting);
-        from += stride;
-        s += 1;
+        let row = state::row_of(layout, table, slot);
+        place = put_slot(out, place, chart, slot.id, row, waiting);
+        slot = layout.after(slot);
     }
     place
 }

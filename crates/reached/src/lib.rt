@@ -9,7 +9,7 @@ ghost use lib.ListN.{length, take, drop};
 ghost use Rattle.semantics.specs.Lists.{some-of};
 ghost use Rattle.semantics.specs.Layout.{index-limit};
 ghost use Rattle.semantics.specs.Tidy.{Queue};
-ghost use Rattle.state.specs.Rows.{row-leq, rows-merge, rows-of, Laid};
+ghost use Rattle.state.specs.Rows.{width-of, row-of, row-leq, rows-merge, rows-of, Laid};
 ghost use Rattle.waitlist.specs.Waits.{waits, Stored};
 ghost use Rattle.reached.specs.Reached.{rewaits};
 
@@ -29,13 +29,12 @@ pub fn merge_slots(
 {
     let width = e.len();
     let mut count = waiting;
-    let mut from = 0;
-    let mut s = 0;
-    while s < used {
+    let mut slot = layout.slot(SlotId(0));
+    while slot.id.is_below(used) {
+        let from = slot.at;
         let same = state::merge_row(&mut table[from..from + width], e);
-        count = waitlist::wait_unless(same, list, count, SlotId(s));
-        from += layout.stride;
-        s += 1;
+        count = waitlist::wait_unless(same, list, count, slot.id);
+        slot = layout.after(slot);
     }
     count
 }
@@ -45,15 +44,12 @@ pub fn covered(layout: Layout, table: &[i32], used: usize, e: &[i32]) -> bool
     requires { ⌜ Laid layout used (now e) (now table) ⌝ }
     ensures { λ r. ⌜ r ≡ some-of (row-leq (now (e .entry))) (rows-of layout used (now (table .entry))) ⌝ }
 {
-    let width = e.len();
-    let mut from = 0;
-    let mut s = 0;
-    while s < used {
-        if state::leq_row(e, &table[from..from + width]) {
+    let mut slot = layout.slot(SlotId(0));
+    while slot.id.is_below(used) {
+        if state::leq_row(e, state::row_of(layout, table, slot)) {
             return true;
         }
-        from += layout.stride;
-        s += 1;
+        slot = layout.after(slot);
     }
     false
 }
@@ -64,16 +60,14 @@ pub fn put_row(layout: Layout, table: &mut [i32], slot: SlotId, e: &[i32])
     ensures { λ _. ⌜ now (table .exit) ≡ take (slot .0 * layout .stride) (now (table .entry)) ++ (now (e .entry) ++ drop (length (now (e .entry))) (drop (slot .0 * layout .stride) (now (table .entry)))) ⌝ }
 {
     let width = e.len();
-    let from = slot.0 * layout.stride;
+    let from = layout.slot(slot).at;
     words::copy_words(&mut table[from..from + width], e);
 }
 
 // Copies the row of a slot out.
 pub fn get_row(layout: Layout, table: &[i32], slot: SlotId, out: &mut [i32])
-    requires { ⌜ slot .0 * layout .stride + length (now out) ≤ length (now table) ⌝ }
-    ensures { λ _. ⌜ now (out .exit) ≡ take (length (now (out .entry))) (drop (slot .0 * layout .stride) (now (table .entry))) ⌝ }
+    requires { ⌜ (length (now out) ≡ width-of layout) × (slot .0 * layout .stride + width-of layout ≤ length (now table)) ⌝ }
+    ensures { λ _. ⌜ now (out .exit) ≡ row-of layout (slot .0) (now (table .entry)) ⌝ }
 {
-    let width = out.len();
-    let from = slot.0 * layout.stride;
-    words::copy_words(out, &table[from..from + width]);
+    words::copy_words(out, state::row_of(layout, table, layout.slot(slot)));
 }

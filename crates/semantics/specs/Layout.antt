@@ -201,6 +201,10 @@ variable-tag = pos 1
 abbrev pub index-limit : ℕ
 index-limit = 2147483649
 
+-- the least number that no count or place of the code holds
+abbrev pub place-limit : ℕ
+place-limit = 18446744073709551616
+
 -- the least number that no byte holds
 abbrev pub byte-limit : ℕ
 byte-limit = 256

@@ -1,29 +1,51 @@
 -- Loops over the slots of a table: slot and first word go together; what a state put into its slot leaves of the rest.
 -- Assumes nothing.
-use Rattle.semantics.proofs.Prelude.{_≡_, sym, ap, _∙_, List, _++_, append-assoc, ℕ, suc, _+_, _*_, _≤_, _<_, suc-mul, add-one, arith, ℤ, length, take, drop, length-append, length-drop, take-append-drop, drop-append-le}
+use Rattle.semantics.proofs.Prelude.{_≡_, sym, ap, _∙_, List, _∷_, _++_, append-assoc, ℕ, suc, _+_, _*_, _≤_, _<_, suc-mul, add-one, arith, ℤ, length, take, drop, length-append, length-drop, drop-drop, take-append-drop, drop-append-le}
 use Rattle.words.proofs.Rows.{part-length, row-in, take-put, drop-put}
-use Rattle.state.specs.Rows.{width-of, row-merge, slot-merge, rows-merge}
+use Rattle.state.specs.Rows.{width-of, Placed, row-of, row-merge, slot-merge, rows-of, rows-merge}
 use Rattle.state.specs.declared.Layout.{Layout}
+use Rattle.state.specs.declared.SlotRow.{SlotRow}
 
--- a loop over n slots, each d words after the one before, is at slot s, whose first word is at a
-pub record OnSlot (d n a s : ℕ) : Type 0 where
-  pub within : s ≤ n
-  pub place : a ≡ s * d
+-- a loop over n slots is at a slot; past the last one it is at slot n
+pub record OnSlot (y : Layout) (n : ℕ) (s : SlotRow) : Type 0 where
+  pub within : s .id .0 ≤ n
+  pub placed : Placed y s
 
-pub first-slot : (d n : ℕ) → OnSlot d n 0 0
-first-slot d n = record { within = omega arith; place = omega arith }
+-- it begins at slot 0
+pub first-slot : {y : Layout} {n : ℕ} {s : SlotRow} → s .id .0 ≡ 0 → Placed y s → OnSlot y n s
+first-slot e p = record { within = omega (arith, e); placed = p }
 
-module _ {d n a s : ℕ} (o : OnSlot d n a s) (h : s < n) where
-  pub next-slot : OnSlot d n (a + d) (s + 1)
-  next-slot = record { within = omega arith; place = rw (add-one, suc-mul, ← o .place) }
+module _ {y : Layout} {n : ℕ} {s : SlotRow} (o : OnSlot y n s) (h : s .id .0 < n) where
+  -- and goes on to the next
+  pub next-slot : {r : SlotRow} → r .id .0 ≡ s .id .0 + 1 → Placed y r → OnSlot y n r
+  next-slot e p = record { within = omega (arith, e, h); placed = p }
 
-  -- the slot is in the table, and so are its first w words
-  module _ (t : List ℤ) (f : n * d ≤ length t) where
-    pub slot-in : a + d ≤ length t
-    slot-in = omega (arith, row-in s n d h, o .place)
+  pub next-place : {r : SlotRow} → r .id .0 ≡ s .id .0 + 1 → Placed y r → r .at ≡ s .at + y .stride
+  next-place e p = rw (p, e, add-one, suc-mul, ← o .placed)
 
-    pub part-in : (w : ℕ) → w ≤ d → a + w ≤ length t
-    part-in w g = omega (arith, slot-in)
+  -- the slot is in the table, and so is its state
+  module _ (t : List ℤ) (f : n * y .stride ≤ length t) where
+    pub slot-in : s .at + y .stride ≤ length t
+    slot-in = omega (arith, row-in (s .id .0) n (y .stride) h, o .placed)
+
+    pub row-within : width-of y ≤ y .stride → s .at + width-of y ≤ length t
+    row-within g = omega (arith, slot-in)
+
+-- the place of a slot by its id, and how long its state is
+module _ (y : Layout) (s : SlotRow) (p : Placed y s) where
+  pub place-of : (n : ℕ) → s .id .0 ≡ n → s .at ≡ n * y .stride
+  place-of n e = rw (p, e)
+
+  pub row-length : (t : List ℤ) → s .at + width-of y ≤ length t → length (row-of y (s .id .0) t) ≡ width-of y
+  row-length t h = rw (← p) (part-length t (s .at) (width-of y) h)
+
+-- the slots from s on are slot s and those from the next on
+module _ (y : Layout) (s : ℕ) (t : List ℤ) where
+  pub drop-slot : drop (y .stride) (drop (s * y .stride) t) ≡ drop ((s + 1) * y .stride) t
+  drop-slot = rw (add-one, suc-mul) (drop-drop (y .stride) (s * y .stride) t)
+
+  pub rows-turn : (k : ℕ) → rows-of y (suc k) (drop (s * y .stride) t) ≡ row-of y s t ∷ rows-of y k (drop ((s + 1) * y .stride) t)
+  rows-turn k = ap (λ (u : List ℤ). row-of y s t ∷ rows-of y k u) drop-slot
 
 -- w words put at the beginning of a slot of d words: the slot as a whole is put there
 module _ (t : List ℤ) (a w d : ℕ) (ws : List ℤ) (fits : a + d ≤ length t) (apart : w ≤ d) (len : length ws ≡ w) where

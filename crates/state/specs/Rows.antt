@@ -13,6 +13,7 @@ use Rattle.semantics.specs.Layout.{most-variables, top-word}
 use Rattle.semantics.specs.Encoding.{word-at, variable-count}
 use Rattle.semantics.specs.Algorithm.{Domain, Step}
 use Rattle.state.specs.declared.Layout.{Layout}
+use Rattle.state.specs.declared.SlotRow.{SlotRow}
 
 -- ---- where the words of a state stand
 
@@ -138,6 +139,14 @@ leq-join-of e [] = false
 leq-join-of e (x ∷ xs) = row-leq e (join-of x xs)
 
 -- ---- tables
+
+-- id and place are of one slot
+abbrev pub Placed : Layout → SlotRow → Type 0
+Placed y s = s .at ≡ s .id .0 * y .stride
+
+-- the state of slot s
+abbrev pub row-of : Layout → ℕ → List ℤ → List ℤ
+row-of y s t = take (width-of y) (drop (s * y .stride) t)
 
 -- the states of the first n slots
 abbrev pub rows-of : Layout → ℕ → List ℤ → List (List ℤ)

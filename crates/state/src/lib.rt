@@ -3,11 +3,12 @@
 // The locations of two rows are compared as words, not as ids: nothing is asked of a row's form, and a word and its
 // negation say the same id.
 use semantics::LocationId;
+use semantics::SlotId;
 ghost use mathlib.Core.Path.{_≡_};
-ghost use Prim.Native.Nat.{_<_, _≤_};
+ghost use Prim.Native.Nat.{_+_, _*_, _<_, _≤_};
 ghost use lib.ListN.{length};
-ghost use Rattle.semantics.specs.Layout.{index-limit};
-ghost use Rattle.state.specs.Rows.{layout-of, width-of, location-word, location-in, values-of, value-at, id-word, with-location, with-value, word-leq, word-join, words-leq, same-words, row-leq, row-join, row-merge};
+ghost use Rattle.semantics.specs.Layout.{index-limit, place-limit};
+ghost use Rattle.state.specs.Rows.{layout-of, width-of, Placed, row-of, location-word, location-in, values-of, value-at, id-word, with-location, with-value, word-leq, word-join, words-leq, same-words, row-leq, row-join, row-merge};
 
 // ---- where the words stand
 
@@ -32,11 +33,53 @@ pub struct Layout {
 impl Layout {
     // The words of a state.
     pub fn width(self) -> usize
-        requires { ⌜ width-of self ≤ index-limit ⌝ }
+        requires { ⌜ width-of self < place-limit ⌝ }
         ensures { λ r. ⌜ r ≡ width-of self ⌝ }
     {
         self.head + self.value * self.variables
     }
+
+    // A slot by its id.
+    pub fn slot(self, id: SlotId) -> SlotRow
+        requires { ⌜ id .0 * self .stride < place-limit ⌝ }
+        ensures id { λ r. ⌜ r .id .0 ≡ id .0 ⌝ }
+        ensures placed { λ r. ⌜ Placed self r ⌝ }
+    {
+        SlotRow {
+            id,
+            at: id.0 * self.stride,
+        }
+    }
+
+    // The slot after it: the id and the place step together.
+    pub fn after(self, slot: SlotRow) -> SlotRow
+        requires { ⌜ Placed self slot × (slot .id .0 + 1 < place-limit) × (slot .at + self .stride < place-limit) ⌝ }
+        ensures id { λ r. ⌜ r .id .0 ≡ slot .id .0 + 1 ⌝ }
+        ensures placed { λ r. ⌜ Placed self r ⌝ }
+    {
+        let id = slot.id;
+        SlotRow {
+            id: id.after(),
+            at: slot.at + self.stride,
+        }
+    }
+}
+
+// A slot: its id, and the place of its first word. The two are carried along together, made and stepped by `Layout`'s
+// `slot` and `after` alone, so that neither is ever worked out from the other by a loop, and no place is divided.
+pub struct SlotRow {
+    pub id: SlotId,
+    pub at: usize,
+}
+
+// The state in a slot.
+pub fn row_of(layout: Layout, table: &[i32], slot: SlotRow) -> &[i32]
+    requires { ⌜ Placed layout slot × (slot .at + width-of layout ≤ length (now table)) ⌝ }
+    ensures { λ r. ⌜ now r ≡ row-of layout (slot .id .0) (now (table .entry)) ⌝ }
+{
+    let from = slot.at;
+    let to = from + layout.width();
+    &table[from..to]
 }
 
 // The layout of a chart's tables: slot follows slot.

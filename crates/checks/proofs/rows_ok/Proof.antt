@@ -1,29 +1,35 @@
--- `checks::rows_ok` meets its contract. The invariant: `from` is the first word of slot s, and the slots in use pass
--- exactly when those from s on do. Assumes nothing.
-use Rattle.semantics.proofs.Prelude.{_≡_, sym, ap, _∙_, Bool, true, false, _&&_, List, ℕ, suc, _+_, _-_, _≤_, sub-zero, arith, needs, not-true, not-false, ℤ, length, drop}
+-- `checks::rows_ok` meets its contract. The invariant: the slots in use pass exactly when those from the loop's slot on
+-- do. Assumes nothing.
+use Rattle.semantics.proofs.Prelude.{_≡_, sym, ap, _∙_, Bool, true, false, _&&_, List, ℕ, suc, _+_, _-_, _*_, _≤_, _<_, sub-zero, arith, needs, ltb-true, ltb-false, not-true, not-false, ℤ, length, drop}
 use Rattle.semantics.specs.Encoding.{decode}
-use Rattle.semantics.specs.Memory.{width, rows-ok}
-use Rattle.words.proofs.Rows.{span, part-length}
-use Rattle.state.proofs.Layouts.{is-layout}
-use Rattle.state.proofs.Slots.{OnSlot, first-slot, next-slot, slot-in, part-in}
+use Rattle.semantics.specs.Memory.{rows-ok}
+use Rattle.state.specs.declared.Layout.{Layout}
+use Rattle.state.specs.Rows.{width-of}
+use Rattle.state.proofs.Layouts.{LayoutOf, is-layout}
+use Rattle.state.proofs.Slots.{OnSlot, first-slot, next-slot, slot-in, row-within, row-length}
 use Rattle.checks.proofs.FormTests.{rows-ok-turn}
 use Rattle.checks.proofs.rows_ok.Statement.{statement}
 use Rattle.checks.proofs.rows_ok.Tie as tie
 
 abbrev Inv-loop : tie.InvT-loop
-Inv-loop chart table used w stride from₀ s₀ from s =
-    OnSlot stride used from s × (rows-ok (decode chart) used table ≡ rows-ok (decode chart) (used - s) (drop from table))
+Inv-loop chart layout table used slot₀ slot =
+    OnSlot layout used slot × (rows-ok (decode chart) used table ≡ rows-ok (decode chart) (used - slot .id .0) (drop (slot .id .0 * layout .stride) table))
 
 abbrev μ-loop : tie.MeasureT-loop
-μ-loop chart table used w stride from₀ s₀ from s = used - s
+μ-loop chart layout table used slot₀ slot = used - slot .id .0
 
 loop-holds : tie.Need-loop-holds Inv-loop μ-loop
-loop-holds c = (first-slot _ _, rw (sub-zero (c .before .args .used)))
+loop-holds c =
+    let z : 0 * c .before .args .layout .stride ≡ 0 = omega arith in
+    (first-slot (c .slot .ensures .0) (c .slot .ensures .1), rw (c .slot .ensures .0, sub-zero (c .before .args .used), z))
 
--- the row at `from` is in the table
-module _ (c : tie.In-loop Inv-loop μ-loop) where
+-- a turn, at a slot in use
+module _ (c : tie.Then1 Inv-loop μ-loop) where
+  abbrev at-loop : tie.At-loop Inv-loop μ-loop
+  at-loop = c .before .before
+
   abbrev start : tie.Start Inv-loop μ-loop
-  start = c .before .before .before
+  start = at-loop .before .before
 
   abbrev chart : List ℤ
   chart = start .args .chart .now
@@ -34,50 +40,60 @@ module _ (c : tie.In-loop Inv-loop μ-loop) where
   abbrev used : ℕ
   used = start .args .used
 
-  abbrev w : ℕ
-  w = c .before .before .width .result
+  abbrev y : Layout
+  y = start .args .layout
 
-  abbrev stride : ℕ
-  stride = start .args .layout .stride
+  abbrev s : ℕ
+  s = at-loop .loop .slot .id .0
 
-  wide : w ≡ width (decode chart)
-  wide = c .before .before .width .ensures ∙ is-layout chart _ (start .pre .0 .0) .wide
+  layout : LayoutOf (decode chart) y
+  layout = is-layout chart y (start .pre .0 .0)
 
-  next : c .before .loop .from + stride ≤ length table
-  next = slot-in (c .before .loop .inv .0) (c .loop-test .taken) table (start .pre .1)
+  in-use : s < used
+  in-use = ltb-true _ _ (sym (c .before .is-below .ensures) ∙ c .if1 .taken)
 
-  room : c .before .loop .from + w ≤ length table
-  room = part-in (c .before .loop .inv .0) (c .loop-test .taken) table (start .pre .1) w (omega (arith, wide, is-layout chart _ (start .pre .0 .0) .stride))
+  next : at-loop .loop .slot .at + y .stride ≤ length table
+  next = slot-in (at-loop .loop .inv .0) in-use table (start .pre .1)
+
+  inside : at-loop .loop .slot .at + width-of y ≤ length table
+  inside = row-within (at-loop .loop .inv .0) in-use table (start .pre .1) (omega (arith, layout .wide, layout .stride))
 
 row-ok-requires : tie.Need-row-ok-requires Inv-loop μ-loop
 row-ok-requires c κs =
     let p = c .before in
-    let l = part-length (table p) (p .before .loop .from) (w p) (room p) in
-    (rw span l ∙ wide p, rw span (omega (arith, l, p .before .before .width .ensures, start p .pre .0 .1)))
+    let l = ap length (c .row-of .ensures) ∙ row-length (y p) (at-loop p .loop .slot) (at-loop p .loop .inv .0 .placed) (table p) (inside p) in
+    (l ∙ layout p .wide, omega (arith, l, start p .pre .0 .1))
 
 turn : (c : tie.After-row-ok Inv-loop μ-loop) (b : Bool) → c .row-ok .result ≡ b →
     let p = c .before .before in
     let d = decode (chart p) in
-    rows-ok d (used p) (table p) ≡ b && rows-ok d (used p - (p .before .loop .s + 1)) (drop (p .before .loop .from + stride p) (table p))
+    rows-ok d (used p) (table p) ≡ b && rows-ok d (used p - (s p + 1)) (drop ((s p + 1) * y p .stride) (table p))
 turn c b h =
     let p = c .before .before in
-    let l = p .before .loop in
-    let n : used p - l .s ≡ suc (used p - (l .s + 1)) = omega (arith, p .loop-test .taken) in
-    l .inv .1 ∙ ap (λ (n : ℕ). rows-ok (decode (chart p)) n (drop (l .from) (table p))) n
-    ∙ rows-ok-turn (chart p) (table p) (l .from) (w p) (stride p) (used p - (l .s + 1)) (wide p) (is-layout (chart p) _ (start p .pre .0 .0) .stride) b (sym (rw span at (c .row-ok .ensures)) ∙ h)
+    let n : used p - s p ≡ suc (used p - (s p + 1)) = omega (arith, in-use p) in
+    at-loop p .loop .inv .1 ∙ ap (λ (n : ℕ). rows-ok (decode (chart p)) n (drop (s p * y p .stride) (table p))) n
+    ∙ rows-ok-turn (chart p) (table p) (y p) (layout p) (s p) (used p - (s p + 1)) b (sym (rw (c .before .row-of .ensures) at (c .row-ok .ensures)) ∙ h)
 
 returns : tie.Need-returns Inv-loop μ-loop
-returns c = sym (turn (c .before) false (not-true (c .before .row-ok .result) (c .if1 .taken)))
+returns c = sym (turn (c .before) false (not-true (c .before .row-ok .result) (c .if2 .taken)))
+
+after-requires : tie.Need-after-requires Inv-loop μ-loop
+after-requires c κs =
+    let p = c .before .before .before in
+    (at-loop p .loop .inv .0 .placed, omega (arith, in-use p), omega (arith, next p))
 
 loop-again : tie.Need-loop-again Inv-loop μ-loop
 loop-again c =
-    let p = c .before .before .before in
-    (next-slot (p .before .loop .inv .0) (p .loop-test .taken), turn (c .before) true (not-false (c .before .row-ok .result) (c .if1 .left)))
+    let i = c .before in
+    let p = i .before .before .before in
+    let e = c .after .ensures in
+    (next-slot (at-loop p .loop .inv .0) (in-use p) (e .0) (e .1), rw (e .0) (turn (i .before) true (not-false (i .before .row-ok .result) (i .if2 .left))))
 
 returns-2 : tie.Need-returns-2 Inv-loop μ-loop
 returns-2 c =
-    let b = c .before in
-    let n : b .before .before .args .used - b .loop .s ≡ 0 = omega arith in
+    let b = c .before .before in
+    let past : b .before .before .args .used ≤ b .loop .slot .id .0 = ltb-false _ _ (sym (c .before .is-below .ensures) ∙ c .if1 .left) in
+    let n : b .before .before .args .used - b .loop .slot .id .0 ≡ 0 = omega arith in
     sym (b .loop .inv .1 ∙ rw n)
 
 pub rows-ok-spec : {M : Type 1} → statement M
@@ -86,16 +102,13 @@ rows-ok-spec =
     (tie.spec
     Inv-loop
     μ-loop
-    (λ c κs. c .pre .0 .1)
+    (λ c κs. search needs)
     loop-holds
-    (λ c. omega (arith, room c))
-    (λ c. omega (arith, room c))
-    (λ c. omega arith)
-    (λ c. omega arith)
-    (λ c. room c)
+    (λ c κs. search needs)
+    (λ c κs. (at-loop c .loop .inv .0 .placed, inside c))
     row-ok-requires
     returns
-    (λ c. omega (arith, next (c .before .before .before)))
-    (λ c. search needs) (λ c. search needs)
+    after-requires
+    (λ c. omega (arith, in-use (c .before .before .before .before), c .after .ensures .0))
     loop-again
     returns-2)

@@ -1,60 +1,88 @@
 -- `reached::covered` meets its contract. Assumes nothing.
-use Rattle.semantics.proofs.Prelude.{_≡_, sym, ap, _∙_, Bool, true, false, ℕ, suc, _+_, _-_, _≤_, arith, length, take, drop}
+use Rattle.semantics.proofs.Prelude.{_≡_, sym, ap, _∙_, Bool, true, false, ℕ, suc, _+_, _-_, _*_, _≤_, _<_, arith, needs, ltb-true, ltb-false, length, drop}
 use Rattle.semantics.specs.Lists.{some-of}
-use Rattle.words.proofs.Rows.{span, part-length}
 use Rattle.state.specs.Rows.{width-of, row-leq, rows-of}
-use Rattle.state.proofs.Slots.{OnSlot, first-slot, next-slot, slot-in, part-in}
+use Rattle.state.proofs.Slots.{OnSlot, first-slot, next-slot, slot-in, row-within, row-length}
 use Rattle.reached.proofs.SlotLoops.{covered-turn}
 use Rattle.reached.proofs.covered.Statement.{statement}
 use Rattle.reached.proofs.covered.Tie as tie
 
 abbrev Inv-loop : tie.InvT-loop
-Inv-loop layout table used e width from₀ s₀ from s =
-    OnSlot (layout .stride) used from s
-    × (some-of (row-leq e) (rows-of layout used table) ≡ some-of (row-leq e) (rows-of layout (used - s) (drop from table)))
+Inv-loop layout table used e slot₀ slot =
+    OnSlot layout used slot
+    × (some-of (row-leq e) (rows-of layout used table) ≡ some-of (row-leq e) (rows-of layout (used - slot .id .0) (drop (slot .id .0 * layout .stride) table)))
 
 abbrev μ-loop : tie.MeasureT-loop
-μ-loop layout table used e width from₀ s₀ from s = used - s
-
--- the state of the slot is in the table
-inside : (c : tie.In-loop Inv-loop μ-loop) → c .before .loop .from + length (c .before .before .args .e .now) ≤ length (c .before .before .args .table .now)
-inside c = let g = c .before .before .pre in part-in (c .before .loop .inv .0) (c .loop-test .taken) (c .before .before .args .table .now) (g .table) _ (omega (arith, g .row, g .apart))
-
--- the next slot's place does not wrap
-after : (c : tie.In-loop Inv-loop μ-loop) → c .before .loop .from + c .before .before .args .layout .stride ≤ length (c .before .before .args .table .now)
-after c = slot-in (c .before .loop .inv .0) (c .loop-test .taken) (c .before .before .args .table .now) (c .before .before .pre .table)
-
--- a slot is tested
-turn : (c : tie.After-leq-row Inv-loop μ-loop) (b : Bool) → c .leq-row .result ≡ b →
-    let i = c .before .before .before in
-    let a = i .before .args in
-    some-of (row-leq (a .e .now)) (rows-of (a .layout) (a .used) (a .table .now))
-    ≡ elim b [ true ↦ true | false ↦ some-of (row-leq (a .e .now)) (rows-of (a .layout) (a .used - (i .loop .s + 1)) (drop (i .loop .from + a .layout .stride) (a .table .now))) ]
-turn c b h =
-    let i = c .before .before .before in
-    let a = i .before .args in
-    let k : a .used - i .loop .s ≡ suc (a .used - (i .loop .s + 1)) = omega (arith, c .before .before .loop-test .taken) in
-    let q : row-leq (a .e .now) (take (width-of (a .layout)) (drop (i .loop .from) (a .table .now))) ≡ b = sym (rw (span, i .before .pre .row) at (c .leq-row .ensures)) ∙ h in
-    i .loop .inv .1 ∙ ap (λ (n : ℕ). some-of (row-leq (a .e .now)) (rows-of (a .layout) n (drop (i .loop .from) (a .table .now)))) k
-    ∙ covered-turn (a .e .now) (a .table .now) (a .layout) (i .loop .from) (a .used - (i .loop .s + 1)) b q
+μ-loop layout table used e slot₀ slot = used - slot .id .0
 
 loop-holds : tie.Need-loop-holds Inv-loop μ-loop
-loop-holds c = let n : c .args .used - 0 ≡ c .args .used = omega arith in (first-slot _ _, rw n)
+loop-holds c =
+    let a = c .before .args in
+    let n : a .used - 0 ≡ a .used = omega arith in
+    let z : 0 * a .layout .stride ≡ 0 = omega arith in
+    (first-slot (c .slot .ensures .0) (c .slot .ensures .1), rw (c .slot .ensures .0, n, z))
+
+-- a turn, at a slot in use
+module _ (c : tie.Then1 Inv-loop μ-loop) where
+  abbrev at-loop : tie.At-loop Inv-loop μ-loop
+  at-loop = c .before .before
+
+  abbrev start : tie.Start Inv-loop μ-loop
+  start = at-loop .before .before
+
+  abbrev s : ℕ
+  s = at-loop .loop .slot .id .0
+
+  in-use : s < start .args .used
+  in-use = ltb-true _ _ (sym (c .before .is-below .ensures) ∙ c .if1 .taken)
+
+  next : at-loop .loop .slot .at + start .args .layout .stride ≤ length (start .args .table .now)
+  next = slot-in (at-loop .loop .inv .0) in-use (start .args .table .now) (start .pre .table)
+
+  inside : at-loop .loop .slot .at + width-of (start .args .layout) ≤ length (start .args .table .now)
+  inside = row-within (at-loop .loop .inv .0) in-use (start .args .table .now) (start .pre .table) (start .pre .apart)
+
+row-of-requires : tie.Need-row-of-requires Inv-loop μ-loop
+row-of-requires c κs = (at-loop c .loop .inv .0 .placed, inside c)
 
 leq-row-requires : tie.Need-leq-row-requires Inv-loop μ-loop
 leq-row-requires c κs =
-    let b = c .before .before in
-    rw span (part-length (b .before .args .table .now) (b .loop .from) (length (b .before .args .e .now)) (inside (c .before)), b .before .pre .some)
+    let p = c .before in
+    (ap length (c .row-of .ensures) ∙ row-length _ _ (at-loop p .loop .inv .0 .placed) (start p .args .table .now) (inside p) ∙ sym (start p .pre .row), start p .pre .some)
+
+-- a slot is tested
+turn : (c : tie.After-leq-row Inv-loop μ-loop) (b : Bool) → c .leq-row .result ≡ b →
+    let p = c .before .before in
+    let a = start p .args in
+    some-of (row-leq (a .e .now)) (rows-of (a .layout) (a .used) (a .table .now))
+    ≡ elim b [ true ↦ true | false ↦ some-of (row-leq (a .e .now)) (rows-of (a .layout) (a .used - (s p + 1)) (drop ((s p + 1) * a .layout .stride) (a .table .now))) ]
+turn c b h =
+    let p = c .before .before in
+    let a = start p .args in
+    let k : a .used - s p ≡ suc (a .used - (s p + 1)) = omega (arith, in-use p) in
+    let q = sym (rw (c .before .row-of .ensures) at (c .leq-row .ensures)) ∙ h in
+    at-loop p .loop .inv .1 ∙ ap (λ (n : ℕ). some-of (row-leq (a .e .now)) (rows-of (a .layout) n (drop (s p * a .layout .stride) (a .table .now)))) k
+    ∙ covered-turn (a .e .now) (a .table .now) (a .layout) (s p) (a .used - (s p + 1)) b q
+
+after-requires : tie.Need-after-requires Inv-loop μ-loop
+after-requires c κs =
+    let p = c .before .before .before in
+    (at-loop p .loop .inv .0 .placed, omega (arith, in-use p), omega (arith, next p))
+
+loop-less : tie.Need-loop-less Inv-loop μ-loop
+loop-less c = omega (arith, in-use (c .before .before .before .before), c .after .ensures .0)
 
 loop-again : tie.Need-loop-again Inv-loop μ-loop
 loop-again c =
-    let i = c .before .before .before .before in
-    (next-slot (i .before .loop .inv .0) (i .loop-test .taken), turn (c .before .before) false (c .before .if1 .left))
+    let p = c .before .before .before .before in
+    let e = c .after .ensures in
+    (next-slot (at-loop p .loop .inv .0) (in-use p) (e .0) (e .1), rw (e .0) (turn (c .before .before) false (c .before .if2 .left)))
 
 returns-2 : tie.Need-returns-2 Inv-loop μ-loop
 returns-2 c =
-    let b = c .before in
-    let n : b .before .args .used - b .loop .s ≡ 0 = omega (arith, c .loop-test .left) in
+    let b = c .before .before in
+    let past : b .before .before .args .used ≤ b .loop .slot .id .0 = ltb-false _ _ (sym (c .before .is-below .ensures) ∙ c .if1 .left) in
+    let n : b .before .before .args .used - b .loop .slot .id .0 ≡ 0 = omega arith in
     sym (b .loop .inv .1 ∙ rw n)
 
 pub covered-spec : {M : Type 1} → statement M
@@ -63,16 +91,13 @@ covered-spec =
     (tie.spec
     Inv-loop
     μ-loop
+    (λ c κs. search needs)
     loop-holds
-    (λ c. omega (arith, inside c))
-    (λ c. omega (arith, inside c))
-    (λ c. omega (arith, inside c))
-    (λ c. omega (arith, inside c))
-    (λ c. inside c)
+    (λ c κs. search needs)
+    row-of-requires
     leq-row-requires
-    (λ c. sym (turn (c .before) true (c .if1 .taken)))
-    (λ c. omega (arith, after (c .before .before .before .before)))
-    (λ c. omega (arith, c .before .before .before .before .loop-test .taken))
-    (λ c. omega (arith, c .before .before .before .before .loop-test .taken))
+    (λ c. sym (turn (c .before) true (c .if2 .taken)))
+    after-requires
+    loop-less
     loop-again
     returns-2)
