@@ -1,6 +1,6 @@
 -- Facts behind the form check: the loops' turns, the two parts of rule 21, and what 20, 14 and 21 ask.
 -- Assumes nothing.
-use Rattle.semantics.proofs.Prelude.{_≡_, refl, ap, sym, _∙_, Bool, true, false, _&&_, _||_, not, List, [], _∷_, _++_, ℕ, suc, _+_, _*_, _<_, add-zero, add-one, arith, ℤ, pos, length, take, drop, drop-cons, drop-drop, getD-drop}
+use Rattle.semantics.proofs.Prelude.{_≡_, refl, ap, sym, _∙_, Bool, true, false, _&&_, _||_, not, List, [], _∷_, _++_, ℕ, suc, _+_, _*_, _<_, add-zero, add-one, arith, ℤ, pos, length, drop, drop-cons, drop-drop, getD-drop}
 use Rattle.semantics.specs.Lists.{some-of, all, all-pairs, all-of}
 use Rattle.semantics.specs.Chart.{eqZ, within}
 use Rattle.semantics.specs.Layout.{top-word, counts-size, variable-size, high-place}

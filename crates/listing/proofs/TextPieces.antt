@@ -1,5 +1,5 @@
 -- The listing's text piece by piece: lines as their fields, and what one turn of each loop adds. Assumes nothing.
-use Rattle.semantics.proofs.Prelude.{_≡_, refl, sym, ap, subst, _∙_, Bool, true, false, _||_, or-true, or-false, List, [], _∷_, _++_, map, append-assoc, ℕ, suc, _+_, _*_, _≤_, _<_, add-one, arith, eqb-true, eqb-false, T, eqb, leb→le, ℤ, pos, natAbs, length, getD, set, take, drop, replicate, getD-replicate, length-set, length-replicate, drop-cons, drop-drop, getD-set-same, getD-set-other}
+use Rattle.semantics.proofs.Prelude.{_≡_, refl, sym, ap, subst, _∙_, Bool, true, false, _||_, or-true, or-false, List, [], _∷_, _++_, map, append-assoc, ℕ, suc, _+_, _*_, _≤_, _<_, add-one, arith, eqb-true, eqb-false, T, eqb, leb→le, ℤ, pos, natAbs, length, getD, set, take, drop, replicate, getD-replicate, length-set, length-replicate, drop-cons, getD-set-same, getD-set-other}
 use Rattle.semantics.specs.Lists.{some-of, each}
 use Rattle.semantics.specs.Text.{bytes, decimal, line-of}
 use Rattle.semantics.specs.Chart.{Chart}

@@ -5,7 +5,7 @@ use Rattle.semantics.specs.Algorithm.{wait}
 use Rattle.semantics.specs.Tidy.{Every, Queue}
 use Rattle.words.proofs.Rows.{drop-zeros, put-here, drop-put}
 use Rattle.state.specs.declared.Layout.{Layout}
-use Rattle.state.specs.Rows.{width-of, row-merge, slot-merge, rows-merge, rows-of, same-words}
+use Rattle.state.specs.Rows.{width-of, row-of, row-merge, slot-merge, rows-merge, rows-of, same-words}
 use Rattle.state.proofs.RowLoops.{length-row-merge}
 use Rattle.state.proofs.Slots.{slot, slot-length, put-slot}
 use Rattle.reached.specs.Reached.{rewaits}
@@ -32,12 +32,12 @@ module _ (y : Layout) where
   drop-next : (n : ℕ) (t : List ℤ) → drop (suc n * d) t ≡ drop (n * d) (drop d t)
   drop-next n t = let e : suc n * d ≡ d + n * d = suc-mul n d ∙ add-comm (n * d) d in rw e (sym (drop-drop (n * d) d t))
 
-  rows-snoc : (n : ℕ) (t : List ℤ) → rows-of y (suc n) t ≡ rows-of y n t ++ (take w (drop (n * d) t) ∷ [])
+  rows-snoc : (n : ℕ) (t : List ℤ) → rows-of y (suc n) t ≡ rows-of y n t ++ (row-of y n t ∷ [])
   rows-snoc zero t = let z : 0 * d ≡ 0 = omega arith in rw z
   rows-snoc (suc n) t = rw (drop-next n t) (ap (λ (r : List (List ℤ)). take w t ∷ r) (rows-snoc n (drop d t)))
 
   -- the state of slot s
-  pub rows-get : (n s : ℕ) (t : List ℤ) → s < n → get (rows-of y n t) s ≡ some (take w (drop (s * d) t))
+  pub rows-get : (n s : ℕ) (t : List ℤ) → s < n → get (rows-of y n t) s ≡ some (row-of y s t)
   rows-get zero s t h = absurd (omega arith)
   rows-get (suc n) zero t h = let z : 0 * d ≡ 0 = omega arith in rw z
   rows-get (suc n) (suc s) t h = rw (drop-next s t) (rows-get n s (drop d t) (omega arith))

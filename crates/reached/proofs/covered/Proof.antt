@@ -50,14 +50,18 @@ leq-row-requires c κs =
     let p = c .before in
     (ap length (c .row-of .ensures) ∙ row-length _ _ (at-loop p .loop .inv .0 .placed) (start p .args .table .now) (inside p) ∙ sym (start p .pre .row), start p .pre .some)
 
+-- the turn, seen from its test
+abbrev turn-of : tie.After-leq-row Inv-loop μ-loop → tie.Then1 Inv-loop μ-loop
+turn-of c = c .before .before
+
 -- a slot is tested
 turn : (c : tie.After-leq-row Inv-loop μ-loop) (b : Bool) → c .leq-row .result ≡ b →
-    let p = c .before .before in
+    let p = turn-of c in
     let a = start p .args in
     some-of (row-leq (a .e .now)) (rows-of (a .layout) (a .used) (a .table .now))
     ≡ elim b [ true ↦ true | false ↦ some-of (row-leq (a .e .now)) (rows-of (a .layout) (a .used - (s p + 1)) (drop ((s p + 1) * a .layout .stride) (a .table .now))) ]
 turn c b h =
-    let p = c .before .before in
+    let p = turn-of c in
     let a = start p .args in
     let k : a .used - s p ≡ suc (a .used - (s p + 1)) = omega (arith, in-use p) in
     let q = sym (rw (c .before .row-of .ensures) at (c .leq-row .ensures)) ∙ h in
@@ -66,15 +70,15 @@ turn c b h =
 
 after-requires : tie.Need-after-requires Inv-loop μ-loop
 after-requires c κs =
-    let p = c .before .before .before in
+    let p = turn-of (c .before) in
     (at-loop p .loop .inv .0 .placed, omega (arith, in-use p), omega (arith, next p))
 
 loop-less : tie.Need-loop-less Inv-loop μ-loop
-loop-less c = omega (arith, in-use (c .before .before .before .before), c .after .ensures .0)
+loop-less c = omega (arith, in-use (turn-of (c .before .before)), c .after .ensures .0)
 
 loop-again : tie.Need-loop-again Inv-loop μ-loop
 loop-again c =
-    let p = c .before .before .before .before in
+    let p = turn-of (c .before .before) in
     let e = c .after .ensures in
     (next-slot (at-loop p .loop .inv .0) (in-use p) (e .0) (e .1), rw (e .0) (turn (c .before .before) false (c .before .if2 .left)))
 

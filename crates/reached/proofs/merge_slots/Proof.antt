@@ -1,5 +1,5 @@
 -- `reached::merge_slots` meets its contract. Assumes nothing.
-use Rattle.semantics.proofs.Prelude.{_≡_, refl, sym, _∙_, List, _++_, ℕ, suc, _+_, _-_, _*_, _≤_, _<_, add-one, arith, needs, ltb-true, ltb-false, ℤ, length, take, drop, take-append-drop}
+use Rattle.semantics.proofs.Prelude.{_≡_, refl, sym, _∙_, List, _++_, suc, _+_, _-_, _*_, _≤_, _<_, add-one, arith, needs, ltb-true, ltb-false, ℤ, length, take, drop, take-append-drop}
 use Rattle.semantics.specs.Tidy.{Queue}
 use Rattle.semantics.proofs.Tidy.{queue-in-more}
 use Rattle.words.proofs.Rows.{span, part-length, length-put, drop-put}
