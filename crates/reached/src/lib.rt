@@ -1,5 +1,5 @@
-// The reached table in lent words, slot after slot, each with a state at its beginning. Loops carry the slot and its
-// first word together; what a slot holds past its state is left alone.
+// The reached table in lent words, slot after slot, each with a state at its beginning. Loops carry a slot's id and the
+// place of its words together; what a slot holds past its state is left alone.
 use semantics::SlotId;
 use state::Layout;
 ghost use mathlib.Core.Path.{_≡_};

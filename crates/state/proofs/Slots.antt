@@ -1,8 +1,8 @@
--- Loops over the slots of a table: slot and first word go together; what a state put into its slot leaves of the rest.
+-- Loops over the slots of a table: id and place go together; what a state put into its slot leaves of the rest.
 -- Assumes nothing.
-use Rattle.semantics.proofs.Prelude.{_≡_, sym, ap, _∙_, List, _∷_, _++_, append-assoc, ℕ, suc, _+_, _*_, _≤_, _<_, suc-mul, add-one, arith, ℤ, length, take, drop, length-append, length-drop, drop-drop, take-append-drop, drop-append-le}
+use Rattle.semantics.proofs.Prelude.{_≡_, sym, ap, _∙_, Bool, true, false, List, _++_, append-assoc, ℕ, suc, _+_, _-_, _*_, _≤_, _<_, ltb, ltb-true, ltb-false, suc-mul, add-one, arith, ℤ, length, take, drop, length-append, length-drop, drop-drop, take-append-drop, drop-append-le}
 use Rattle.words.proofs.Rows.{part-length, row-in, take-put, drop-put}
-use Rattle.state.specs.Rows.{width-of, Placed, row-of, row-merge, slot-merge, rows-of, rows-merge}
+use Rattle.state.specs.Rows.{width-of, Placed, row-of, row-merge, slot-merge, rows-merge}
 use Rattle.state.specs.declared.Layout.{Layout}
 use Rattle.state.specs.declared.SlotRow.{SlotRow}
 
@@ -11,25 +11,39 @@ pub record OnSlot (y : Layout) (n : ℕ) (s : SlotRow) : Type 0 where
   pub within : s .id .0 ≤ n
   pub placed : Placed y s
 
--- it begins at slot 0
+-- the slot is one of the n, so it and its state are in their table, and it is the first of those left
+pub record InUse (y : Layout) (n : ℕ) (s : SlotRow) (t : List ℤ) : Type 0 where
+  pub below : s .id .0 < n
+  pub slot : s .at + y .stride ≤ length t
+  pub row : s .at + width-of y ≤ length t
+  pub left : n - s .id .0 ≡ suc (n - (s .id .0 + 1))
+
+-- the loop begins at slot 0
 pub first-slot : {y : Layout} {n : ℕ} {s : SlotRow} → s .id .0 ≡ 0 → Placed y s → OnSlot y n s
 first-slot e p = record { within = omega (arith, e); placed = p }
 
-module _ {y : Layout} {n : ℕ} {s : SlotRow} (o : OnSlot y n s) (h : s .id .0 < n) where
+module _ {y : Layout} {n : ℕ} {s : SlotRow} (o : OnSlot y n s) where
+  -- it asks whether the slot is below n
+  module _ {b : Bool} (e : b ≡ ltb (s .id .0) n) where
+    pub in-use : b ≡ true → (t : List ℤ) → width-of y ≤ y .stride → n * y .stride ≤ length t → InUse y n s t
+    in-use h t w f = record { below = u; slot = i; row = omega (arith, i); left = omega (arith, u) }
+      where
+        u : s .id .0 < n
+        u = ltb-true _ _ (sym e ∙ h)
+
+        i : s .at + y .stride ≤ length t
+        i = omega (arith, row-in (s .id .0) n (y .stride) u, o .placed)
+
+    pub none-left : b ≡ false → n - s .id .0 ≡ 0
+    none-left h = let u : n ≤ s .id .0 = ltb-false _ _ (sym e ∙ h) in omega arith
+
   -- and goes on to the next
-  pub next-slot : {r : SlotRow} → r .id .0 ≡ s .id .0 + 1 → Placed y r → OnSlot y n r
-  next-slot e p = record { within = omega (arith, e, h); placed = p }
+  module _ (h : s .id .0 < n) {r : SlotRow} (e : r .id .0 ≡ s .id .0 + 1) (p : Placed y r) where
+    pub next-slot : OnSlot y n r
+    next-slot = record { within = omega (arith, e, h); placed = p }
 
-  pub next-place : {r : SlotRow} → r .id .0 ≡ s .id .0 + 1 → Placed y r → r .at ≡ s .at + y .stride
-  next-place e p = rw (p, e, add-one, suc-mul, ← o .placed)
-
-  -- the slot is in the table, and so is its state
-  module _ (t : List ℤ) (f : n * y .stride ≤ length t) where
-    pub slot-in : s .at + y .stride ≤ length t
-    slot-in = omega (arith, row-in (s .id .0) n (y .stride) h, o .placed)
-
-    pub row-within : width-of y ≤ y .stride → s .at + width-of y ≤ length t
-    row-within g = omega (arith, slot-in)
+    pub next-place : r .at ≡ s .at + y .stride
+    next-place = rw (p, e, add-one, suc-mul, ← o .placed)
 
 -- the place of a slot by its id, and how long its state is
 module _ (y : Layout) (s : SlotRow) (p : Placed y s) where
@@ -39,13 +53,9 @@ module _ (y : Layout) (s : SlotRow) (p : Placed y s) where
   pub row-length : (t : List ℤ) → s .at + width-of y ≤ length t → length (row-of y (s .id .0) t) ≡ width-of y
   row-length t h = rw (← p) (part-length t (s .at) (width-of y) h)
 
--- the slots from s on are slot s and those from the next on
-module _ (y : Layout) (s : ℕ) (t : List ℤ) where
-  pub drop-slot : drop (y .stride) (drop (s * y .stride) t) ≡ drop ((s + 1) * y .stride) t
-  drop-slot = rw (add-one, suc-mul) (drop-drop (y .stride) (s * y .stride) t)
-
-  pub rows-turn : (k : ℕ) → rows-of y (suc k) (drop (s * y .stride) t) ≡ row-of y s t ∷ rows-of y k (drop ((s + 1) * y .stride) t)
-  rows-turn k = ap (λ (u : List ℤ). row-of y s t ∷ rows-of y k u) drop-slot
+-- past slot s, the next one
+pub drop-slot : (y : Layout) (s : ℕ) (t : List ℤ) → drop (y .stride) (drop (s * y .stride) t) ≡ drop ((s + 1) * y .stride) t
+drop-slot y s t = rw (add-one, suc-mul) (drop-drop (y .stride) (s * y .stride) t)
 
 -- w words put at the beginning of a slot of d words: the slot as a whole is put there
 module _ (t : List ℤ) (a w d : ℕ) (ws : List ℤ) (fits : a + d ≤ length t) (apart : w ≤ d) (len : length ws ≡ w) where

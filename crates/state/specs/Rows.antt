@@ -140,7 +140,7 @@ leq-join-of e (x ∷ xs) = row-leq e (join-of x xs)
 
 -- ---- tables
 
--- id and place are of one slot
+-- the place is that of the slot's first word
 abbrev pub Placed : Layout → SlotRow → Type 0
 Placed y s = s .at ≡ s .id .0 * y .stride
 

@@ -51,7 +51,7 @@ impl Layout {
         }
     }
 
-    // The slot after it: the id and the place step together.
+    // The slot after it: id and place step together.
     pub fn after(self, slot: SlotRow) -> SlotRow
         requires { ⌜ Placed self slot × (slot .id .0 + 1 < place-limit) × (slot .at + self .stride < place-limit) ⌝ }
         ensures id { λ r. ⌜ r .id .0 ≡ slot .id .0 + 1 ⌝ }
@@ -65,8 +65,8 @@ impl Layout {
     }
 }
 
-// A slot: its id, and the place of its first word. The two are carried along together, made and stepped by `Layout`'s
-// `slot` and `after` alone, so that neither is ever worked out from the other by a loop, and no place is divided.
+// A slot: its id, and the place of its first word. The two are carried along together, so that no place is ever divided
+// to find its slot; only `Layout::slot` and `Layout::after` make one.
 pub struct SlotRow {
     pub id: SlotId,
     pub at: usize,

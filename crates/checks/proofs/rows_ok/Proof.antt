@@ -1,12 +1,11 @@
 -- `checks::rows_ok` meets its contract. The invariant: the slots in use pass exactly when those from the loop's slot on
 -- do. Assumes nothing.
-use Rattle.semantics.proofs.Prelude.{_≡_, sym, ap, _∙_, Bool, true, false, _&&_, List, ℕ, suc, _+_, _-_, _*_, _≤_, _<_, sub-zero, arith, needs, ltb-true, ltb-false, not-true, not-false, ℤ, length, drop}
+use Rattle.semantics.proofs.Prelude.{_≡_, sym, ap, _∙_, Bool, true, false, _&&_, List, ℕ, _+_, _-_, _*_, sub-zero, arith, needs, not-true, not-false, ℤ, length, drop}
 use Rattle.semantics.specs.Encoding.{decode}
 use Rattle.semantics.specs.Memory.{rows-ok}
 use Rattle.state.specs.declared.Layout.{Layout}
-use Rattle.state.specs.Rows.{width-of}
 use Rattle.state.proofs.Layouts.{LayoutOf, is-layout}
-use Rattle.state.proofs.Slots.{OnSlot, first-slot, next-slot, slot-in, row-within, row-length}
+use Rattle.state.proofs.Slots.{OnSlot, InUse, first-slot, in-use, none-left, next-slot, row-length}
 use Rattle.checks.proofs.FormTests.{rows-ok-turn}
 use Rattle.checks.proofs.rows_ok.Statement.{statement}
 use Rattle.checks.proofs.rows_ok.Tie as tie
@@ -49,19 +48,13 @@ module _ (c : tie.Then1 Inv-loop μ-loop) where
   layout : LayoutOf (decode chart) y
   layout = is-layout chart y (start .pre .0 .0)
 
-  in-use : s < used
-  in-use = ltb-true _ _ (sym (c .before .is-below .ensures) ∙ c .if1 .taken)
-
-  next : at-loop .loop .slot .at + y .stride ≤ length table
-  next = slot-in (at-loop .loop .inv .0) in-use table (start .pre .1)
-
-  inside : at-loop .loop .slot .at + width-of y ≤ length table
-  inside = row-within (at-loop .loop .inv .0) in-use table (start .pre .1) (omega (arith, layout .wide, layout .stride))
+  used-slot : InUse y used (at-loop .loop .slot) table
+  used-slot = in-use (at-loop .loop .inv .0) (c .before .is-below .ensures) (c .if1 .taken) table (omega (arith, layout .wide, layout .stride)) (start .pre .1)
 
 row-ok-requires : tie.Need-row-ok-requires Inv-loop μ-loop
 row-ok-requires c κs =
     let p = c .before in
-    let l = ap length (c .row-of .ensures) ∙ row-length (y p) (at-loop p .loop .slot) (at-loop p .loop .inv .0 .placed) (table p) (inside p) in
+    let l = ap length (c .row-of .ensures) ∙ row-length (y p) (at-loop p .loop .slot) (at-loop p .loop .inv .0 .placed) (table p) (used-slot p .row) in
     (l ∙ layout p .wide, omega (arith, l, start p .pre .0 .1))
 
 turn : (c : tie.After-row-ok Inv-loop μ-loop) (b : Bool) → c .row-ok .result ≡ b →
@@ -70,8 +63,7 @@ turn : (c : tie.After-row-ok Inv-loop μ-loop) (b : Bool) → c .row-ok .result 
     rows-ok d (used p) (table p) ≡ b && rows-ok d (used p - (s p + 1)) (drop ((s p + 1) * y p .stride) (table p))
 turn c b h =
     let p = c .before .before in
-    let n : used p - s p ≡ suc (used p - (s p + 1)) = omega (arith, in-use p) in
-    at-loop p .loop .inv .1 ∙ ap (λ (n : ℕ). rows-ok (decode (chart p)) n (drop (s p * y p .stride) (table p))) n
+    at-loop p .loop .inv .1 ∙ ap (λ (n : ℕ). rows-ok (decode (chart p)) n (drop (s p * y p .stride) (table p))) (used-slot p .left)
     ∙ rows-ok-turn (chart p) (table p) (y p) (layout p) (s p) (used p - (s p + 1)) b (sym (rw (c .before .row-of .ensures) at (c .row-ok .ensures)) ∙ h)
 
 returns : tie.Need-returns Inv-loop μ-loop
@@ -80,21 +72,19 @@ returns c = sym (turn (c .before) false (not-true (c .before .row-ok .result) (c
 after-requires : tie.Need-after-requires Inv-loop μ-loop
 after-requires c κs =
     let p = c .before .before .before in
-    (at-loop p .loop .inv .0 .placed, omega (arith, in-use p), omega (arith, next p))
+    (at-loop p .loop .inv .0 .placed, omega (arith, used-slot p .below), omega (arith, used-slot p .slot))
 
 loop-again : tie.Need-loop-again Inv-loop μ-loop
 loop-again c =
     let i = c .before in
     let p = i .before .before .before in
     let e = c .after .ensures in
-    (next-slot (at-loop p .loop .inv .0) (in-use p) (e .0) (e .1), rw (e .0) (turn (i .before) true (not-false (i .before .row-ok .result) (i .if2 .left))))
+    (next-slot (at-loop p .loop .inv .0) (used-slot p .below) (e .0) (e .1), rw (e .0) (turn (i .before) true (not-false (i .before .row-ok .result) (i .if2 .left))))
 
 returns-2 : tie.Need-returns-2 Inv-loop μ-loop
 returns-2 c =
     let b = c .before .before in
-    let past : b .before .before .args .used ≤ b .loop .slot .id .0 = ltb-false _ _ (sym (c .before .is-below .ensures) ∙ c .if1 .left) in
-    let n : b .before .before .args .used - b .loop .slot .id .0 ≡ 0 = omega arith in
-    sym (b .loop .inv .1 ∙ rw n)
+    sym (b .loop .inv .1 ∙ rw (none-left (b .loop .inv .0) (c .before .is-below .ensures) (c .if1 .left)))
 
 pub rows-ok-spec : {M : Type 1} → statement M
 rows-ok-spec =
@@ -105,10 +95,10 @@ rows-ok-spec =
     (λ c κs. search needs)
     loop-holds
     (λ c κs. search needs)
-    (λ c κs. (at-loop c .loop .inv .0 .placed, inside c))
+    (λ c κs. (at-loop c .loop .inv .0 .placed, used-slot c .row))
     row-ok-requires
     returns
     after-requires
-    (λ c. omega (arith, in-use (c .before .before .before .before), c .after .ensures .0))
+    (λ c. omega (arith, used-slot (c .before .before .before .before) .below, c .after .ensures .0))
     loop-again
     returns-2)

@@ -1,15 +1,14 @@
 -- `listing::put_slots` meets its contract. The invariant: the lines of the slots before the loop's are written. Assumes
 -- nothing.
-use Rattle.semantics.proofs.Prelude.{_≡_, refl, sym, ap, _∙_, Bool, false, List, _++_, map, ℕ, _+_, _-_, _*_, _≤_, _<_, suc, sub-zero, arith, needs, eqb, ltb-true, ltb-false, ℤ, natAbs, length, drop, getD}
+use Rattle.semantics.proofs.Prelude.{_≡_, refl, sym, ap, _∙_, Bool, false, List, _++_, map, ℕ, _+_, _-_, _*_, _≤_, sub-zero, arith, needs, eqb, ℤ, natAbs, length, drop, getD}
 use Rattle.semantics.specs.Layout.{most-slots}
 use Rattle.semantics.specs.Lists.{some-of}
 use Rattle.semantics.specs.Encoding.{decode}
 use Rattle.semantics.specs.Memory.{width, state-in, states-in}
 use Rattle.semantics.specs.Listing.{slot-text, slots-text}
 use Rattle.state.specs.declared.Layout.{Layout}
-use Rattle.state.specs.Rows.{width-of}
 use Rattle.state.proofs.Layouts.{LayoutOf, is-layout, slots-in}
-use Rattle.state.proofs.Slots.{OnSlot, first-slot, next-slot, slot-in, row-within, row-length}
+use Rattle.state.proofs.Slots.{OnSlot, InUse, first-slot, in-use, none-left, next-slot, row-length}
 use Rattle.writer.proofs.Written.{Completes, one-more, all-put}
 use Rattle.listing.proofs.TextPieces.{slots-turn, marked-from-none}
 use Rattle.listing.proofs.put_slots.Statement.{statement}
@@ -75,34 +74,28 @@ module _ (c : tie.Then1 Inv-loop μ-loop) where
   abbrev s : ℕ
   s = at-loop .loop .slot .id .0
 
-  in-use : s < used outer
-  in-use = ltb-true _ _ (sym (c .before .is-below .ensures) ∙ c .if1 .taken)
-
-  next : at-loop .loop .slot .at + y outer .stride ≤ length (table outer)
-  next = slot-in (at-loop .loop .inv .0) in-use (table outer) (fits outer)
-
-  inside : at-loop .loop .slot .at + width-of (y outer) ≤ length (table outer)
-  inside = row-within (at-loop .loop .inv .0) in-use (table outer) (fits outer) (omega (arith, layout outer .wide, layout outer .stride))
+  used-slot : InUse (y outer) (used outer) (at-loop .loop .slot) (table outer)
+  used-slot = in-use (at-loop .loop .inv .0) (c .before .is-below .ensures) (c .if1 .taken) (table outer) (omega (arith, layout outer .wide, layout outer .stride)) (fits outer)
 
   -- the slot's mark
   mark-of : getD (outer .mark-waiting .last .0) s false ≡ some-of (eqb s) (waits outer)
   mark-of =
       ap (λ (ms : List Bool). getD ms s false) (outer .mark-waiting .ensures)
-      ∙ marked-from-none most-slots (waits outer) s (omega (arith, start outer .pre .2, in-use))
+      ∙ marked-from-none most-slots (waits outer) s (omega (arith, start outer .pre .2, used-slot .below))
 
 array-read-waiting : tie.Need-array-read-waiting Inv-loop μ-loop
-array-read-waiting c = omega (arith, start (outer c) .pre .2, in-use c)
+array-read-waiting c = omega (arith, start (outer c) .pre .2, used-slot c .below)
 
 put-slot-requires : tie.Need-put-slot-requires Inv-loop μ-loop
 put-slot-requires c κs =
     let p = c .before .before in
-    let l = ap length (c .before .row-of .ensures) ∙ row-length (y (outer p)) (at-loop p .loop .slot) (at-loop p .loop .inv .0 .placed) (table (outer p)) (inside p) in
+    let l = ap length (c .before .row-of .ensures) ∙ row-length (y (outer p)) (at-loop p .loop .slot) (at-loop p .loop .inv .0 .placed) (table (outer p)) (used-slot p .row) in
     (start (outer p) .pre .0, omega (arith, l, layout (outer p) .wide))
 
 after-requires : tie.Need-after-requires Inv-loop μ-loop
 after-requires c κs =
     let p = c .before .before .before .before .before in
-    (at-loop p .loop .inv .0 .placed, omega (arith, in-use p), omega (arith, next p, start (outer p) .good))
+    (at-loop p .loop .inv .0 .placed, omega (arith, used-slot p .below), omega (arith, used-slot p .slot, start (outer p) .good))
 
 loop-again : tie.Need-loop-again Inv-loop μ-loop
 loop-again c =
@@ -113,18 +106,15 @@ loop-again c =
     let o = outer p in
     let d = decode (chart o) in
     let e = c .after .ensures in
-    let n : used o - s p ≡ suc (used o - (s p + 1)) = omega (arith, in-use p) in
+    let n = used-slot p .left in
     let turn = (λ j. slots-text d (waits o) (s p) (states-in (width d) (n j) (drop (s p * y o .stride) (table o)))) ∙ slots-turn d (waits o) (y o) (layout o) (s p) (used o - (s p + 1)) (table o)
     ∙ (λ j. slot-text d (s p) (state-in (sym (r .row-of .ensures) j)) (sym (mark-of p) j) ++ slots-text d (waits o) (s p + 1) (states-in (width d) (used o - (s p + 1)) (drop ((s p + 1) * y o .stride) (table o)))) in
-    (next-slot (l .inv .0) (in-use p) (e .0) (e .1), k .put-slot .kept .0 ∙ l .inv .1, rw (e .0) (one-more (l .inv .2) turn (k .put-slot .ensures)))
+    (next-slot (l .inv .0) (used-slot p .below) (e .0) (e .1), k .put-slot .kept .0 ∙ l .inv .1, rw (e .0) (one-more (l .inv .2) turn (k .put-slot .ensures)))
 
 returns : tie.Need-returns Inv-loop μ-loop
 returns c =
     let b = c .before .before in
-    let m = b .before .before .before in
-    let past : used m ≤ b .loop .slot .id .0 = ltb-false _ _ (sym (c .before .is-below .ensures) ∙ c .if1 .left) in
-    let n : used m - b .loop .slot .id .0 ≡ 0 = omega arith in
-    all-put (b .loop .inv .2) (rw n) (omega arith)
+    all-put (b .loop .inv .2) (rw (none-left (b .loop .inv .0) (c .before .is-below .ensures) (c .if1 .left))) (omega arith)
 
 pub put-slots-spec : {M : Type 1} → statement M
 put-slots-spec =
@@ -138,10 +128,10 @@ put-slots-spec =
     loop-holds
     (λ c κs. search needs)
     array-read-waiting
-    (λ c κs. (at-loop c .loop .inv .0 .placed, inside c))
+    (λ c κs. (at-loop c .loop .inv .0 .placed, used-slot c .row))
     put-slot-requires
     after-requires
-    (λ c. omega (arith, in-use (c .before .before .before .before .before .before), c .after .ensures .0))
+    (λ c. omega (arith, used-slot (c .before .before .before .before .before .before) .below, c .after .ensures .0))
     loop-again
     (λ c. search needs)
     returns)

@@ -1,8 +1,8 @@
 -- `reached::covered` meets its contract. Assumes nothing.
-use Rattle.semantics.proofs.Prelude.{_≡_, sym, ap, _∙_, Bool, true, false, ℕ, suc, _+_, _-_, _*_, _≤_, _<_, arith, needs, ltb-true, ltb-false, length, drop}
+use Rattle.semantics.proofs.Prelude.{_≡_, sym, ap, _∙_, Bool, true, false, ℕ, _+_, _-_, _*_, arith, needs, length, drop}
 use Rattle.semantics.specs.Lists.{some-of}
-use Rattle.state.specs.Rows.{width-of, row-leq, rows-of}
-use Rattle.state.proofs.Slots.{OnSlot, first-slot, next-slot, slot-in, row-within, row-length}
+use Rattle.state.specs.Rows.{row-leq, rows-of}
+use Rattle.state.proofs.Slots.{OnSlot, InUse, first-slot, in-use, none-left, next-slot, row-length}
 use Rattle.reached.proofs.SlotLoops.{covered-turn}
 use Rattle.reached.proofs.covered.Statement.{statement}
 use Rattle.reached.proofs.covered.Tie as tie
@@ -33,22 +33,16 @@ module _ (c : tie.Then1 Inv-loop μ-loop) where
   abbrev s : ℕ
   s = at-loop .loop .slot .id .0
 
-  in-use : s < start .args .used
-  in-use = ltb-true _ _ (sym (c .before .is-below .ensures) ∙ c .if1 .taken)
-
-  next : at-loop .loop .slot .at + start .args .layout .stride ≤ length (start .args .table .now)
-  next = slot-in (at-loop .loop .inv .0) in-use (start .args .table .now) (start .pre .table)
-
-  inside : at-loop .loop .slot .at + width-of (start .args .layout) ≤ length (start .args .table .now)
-  inside = row-within (at-loop .loop .inv .0) in-use (start .args .table .now) (start .pre .table) (start .pre .apart)
+  used-slot : InUse (start .args .layout) (start .args .used) (at-loop .loop .slot) (start .args .table .now)
+  used-slot = in-use (at-loop .loop .inv .0) (c .before .is-below .ensures) (c .if1 .taken) (start .args .table .now) (start .pre .apart) (start .pre .table)
 
 row-of-requires : tie.Need-row-of-requires Inv-loop μ-loop
-row-of-requires c κs = (at-loop c .loop .inv .0 .placed, inside c)
+row-of-requires c κs = (at-loop c .loop .inv .0 .placed, used-slot c .row)
 
 leq-row-requires : tie.Need-leq-row-requires Inv-loop μ-loop
 leq-row-requires c κs =
     let p = c .before in
-    (ap length (c .row-of .ensures) ∙ row-length _ _ (at-loop p .loop .inv .0 .placed) (start p .args .table .now) (inside p) ∙ sym (start p .pre .row), start p .pre .some)
+    (ap length (c .row-of .ensures) ∙ row-length _ _ (at-loop p .loop .inv .0 .placed) (start p .args .table .now) (used-slot p .row) ∙ sym (start p .pre .row), start p .pre .some)
 
 -- the turn, seen from its test
 abbrev turn-of : tie.After-leq-row Inv-loop μ-loop → tie.Then1 Inv-loop μ-loop
@@ -63,31 +57,28 @@ turn : (c : tie.After-leq-row Inv-loop μ-loop) (b : Bool) → c .leq-row .resul
 turn c b h =
     let p = turn-of c in
     let a = start p .args in
-    let k : a .used - s p ≡ suc (a .used - (s p + 1)) = omega (arith, in-use p) in
     let q = sym (rw (c .before .row-of .ensures) at (c .leq-row .ensures)) ∙ h in
-    at-loop p .loop .inv .1 ∙ ap (λ (n : ℕ). some-of (row-leq (a .e .now)) (rows-of (a .layout) n (drop (s p * a .layout .stride) (a .table .now)))) k
+    at-loop p .loop .inv .1 ∙ ap (λ (n : ℕ). some-of (row-leq (a .e .now)) (rows-of (a .layout) n (drop (s p * a .layout .stride) (a .table .now)))) (used-slot p .left)
     ∙ covered-turn (a .e .now) (a .table .now) (a .layout) (s p) (a .used - (s p + 1)) b q
 
 after-requires : tie.Need-after-requires Inv-loop μ-loop
 after-requires c κs =
     let p = turn-of (c .before) in
-    (at-loop p .loop .inv .0 .placed, omega (arith, in-use p), omega (arith, next p))
+    (at-loop p .loop .inv .0 .placed, omega (arith, used-slot p .below), omega (arith, used-slot p .slot))
 
 loop-less : tie.Need-loop-less Inv-loop μ-loop
-loop-less c = omega (arith, in-use (turn-of (c .before .before)), c .after .ensures .0)
+loop-less c = omega (arith, used-slot (turn-of (c .before .before)) .below, c .after .ensures .0)
 
 loop-again : tie.Need-loop-again Inv-loop μ-loop
 loop-again c =
     let p = turn-of (c .before .before) in
     let e = c .after .ensures in
-    (next-slot (at-loop p .loop .inv .0) (in-use p) (e .0) (e .1), rw (e .0) (turn (c .before .before) false (c .before .if2 .left)))
+    (next-slot (at-loop p .loop .inv .0) (used-slot p .below) (e .0) (e .1), rw (e .0) (turn (c .before .before) false (c .before .if2 .left)))
 
 returns-2 : tie.Need-returns-2 Inv-loop μ-loop
 returns-2 c =
     let b = c .before .before in
-    let past : b .before .before .args .used ≤ b .loop .slot .id .0 = ltb-false _ _ (sym (c .before .is-below .ensures) ∙ c .if1 .left) in
-    let n : b .before .before .args .used - b .loop .slot .id .0 ≡ 0 = omega arith in
-    sym (b .loop .inv .1 ∙ rw n)
+    sym (b .loop .inv .1 ∙ rw (none-left (b .loop .inv .0) (c .before .is-below .ensures) (c .if1 .left)))
 
 pub covered-spec : {M : Type 1} → statement M
 covered-spec =

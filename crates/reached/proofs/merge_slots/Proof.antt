@@ -1,12 +1,12 @@
 -- `reached::merge_slots` meets its contract. Assumes nothing.
-use Rattle.semantics.proofs.Prelude.{_≡_, refl, sym, _∙_, List, _++_, suc, _+_, _-_, _*_, _≤_, _<_, add-one, arith, needs, ltb-true, ltb-false, ℤ, length, take, drop, take-append-drop}
+use Rattle.semantics.proofs.Prelude.{_≡_, refl, sym, _∙_, List, _++_, _+_, _-_, _≤_, add-one, arith, needs, ℤ, length, take, drop, take-append-drop}
 use Rattle.semantics.specs.Tidy.{Queue}
 use Rattle.semantics.proofs.Tidy.{queue-in-more}
 use Rattle.words.proofs.Rows.{span, part-length, length-put, drop-put}
 use Rattle.state.specs.declared.Layout.{Layout}
 use Rattle.state.specs.declared.SlotRow.{SlotRow}
 use Rattle.state.specs.Rows.{width-of, row-merge, same-words, rows-merge, rows-of}
-use Rattle.state.proofs.Slots.{OnSlot, first-slot, next-slot, next-place, slot-in, row-within, place-of, put-slot, slot-length, slot, merge-turn}
+use Rattle.state.proofs.Slots.{OnSlot, InUse, first-slot, in-use, none-left, next-slot, next-place, place-of, put-slot, slot-length, slot, merge-turn}
 use Rattle.waitlist.specs.Waits.{waits, Stored}
 use Rattle.waitlist.proofs.WaitWords.{waits-are, kept}
 use Rattle.reached.specs.Reached.{rewaits}
@@ -52,18 +52,11 @@ module _ (c : tie.Then1 Inv-loop μ-loop) where
   abbrev table : List ℤ
   table = at-loop .loop .table
 
-  in-use : slot-at .id .0 < start .args .used
-  in-use = ltb-true _ _ (sym (c .before .is-below .ensures) ∙ c .if1 .taken)
-
-  fits : start .args .used * layout .stride ≤ length table
-  fits = omega (arith, start .pre .0 .table, at-loop .loop .inv .1)
-
-  -- the slot is in the table, and so is its state
-  next : slot-at .at + layout .stride ≤ length table
-  next = slot-in (at-loop .loop .inv .0) in-use table fits
+  used-slot : InUse layout (start .args .used) slot-at table
+  used-slot = in-use (at-loop .loop .inv .0) (c .before .is-below .ensures) (c .if1 .taken) table (start .pre .0 .apart) (omega (arith, start .pre .0 .table, at-loop .loop .inv .1))
 
   inside : slot-at .at + length (start .args .e .now) ≤ length table
-  inside = omega (arith, row-within (at-loop .loop .inv .0) in-use table fits (start .pre .0 .apart), start .pre .0 .row)
+  inside = omega (arith, used-slot .row, start .pre .0 .row)
 
 merge-row-requires : tie.Need-merge-row-requires Inv-loop μ-loop
 merge-row-requires c κs =
@@ -76,12 +69,12 @@ wait-unless-requires c κs =
     let b = at-loop p in
     let g = start p .pre .1 in
     let l = b .loop .inv .3 in
-    record { stored = b .loop .inv .4; slot = omega (arith, in-use p, l, g .2); small = omega (arith, l, g .3); queue = queue-in-more (start p .args .used) (length (b .loop .list)) (waits (b .loop .count) (b .loop .list)) (omega (arith, l, g .2)) (b .loop .inv .5) }
+    record { stored = b .loop .inv .4; slot = omega (arith, used-slot p .below, l, g .2); small = omega (arith, l, g .3); queue = queue-in-more (start p .args .used) (length (b .loop .list)) (waits (b .loop .count) (b .loop .list)) (omega (arith, l, g .2)) (b .loop .inv .5) }
 
 after-requires : tie.Need-after-requires Inv-loop μ-loop
 after-requires c κs =
     let p = c .before .before .before .before .before .before in
-    (at-loop p .loop .inv .0 .placed, omega (arith, in-use p), omega (arith, next p))
+    (at-loop p .loop .inv .0 .placed, omega (arith, used-slot p .below), omega (arith, used-slot p .slot))
 
 loop-again : tie.Need-loop-again Inv-loop μ-loop
 loop-again c =
@@ -98,27 +91,27 @@ loop-again c =
     let ws = m .last .0 in
     let n = c .after .ensures in
     let len : length ws ≡ width-of y = (rw span at (m .kept .0)) ∙ part-length t at (length (a .e .now)) (inside p) ∙ g .row in
-    let k : a .used - s ≡ suc (a .used - (s + 1)) = omega (arith, in-use p) in
+    let u = used-slot p in
+    let k = u .left in
     let is-merged : ws ≡ row-merge (a .e .now) (take (width-of y) (drop at t)) = rw (span, g .row) at (m .ensures .1) in
     let flag : m .result ≡ same-words (row-merge (a .e .now) (take (width-of y) (drop at t))) (take (width-of y) (drop at t)) = rw (span, g .row) at (m .ensures .0) in
     let now-waits = waits-are (j .ensures) in
     let past : drop (at + y .stride) (take at t ++ (ws ++ drop (width-of y) (drop at t))) ≡ drop (y .stride) (drop at t) =
-    rw (put-slot t at (width-of y) (y .stride) ws (next p) (g .apart) len) (drop-put t at (y .stride) (slot t at (width-of y) (y .stride) ws (next p) (g .apart) len) (next p) (slot-length t at (width-of y) (y .stride) ws (next p) (g .apart) len)) in
-    let place = next-place (b .loop .inv .0) (in-use p) (n .0) (n .1) in (
-      next-slot (b .loop .inv .0) (in-use p) (n .0) (n .1),
+    rw (put-slot t at (width-of y) (y .stride) ws (u .slot) (g .apart) len) (drop-put t at (y .stride) (slot t at (width-of y) (y .stride) ws (u .slot) (g .apart) len) (u .slot) (slot-length t at (width-of y) (y .stride) ws (u .slot) (g .apart) len)) in
+    let place = next-place (b .loop .inv .0) (u .below) (n .0) (n .1) in (
+      next-slot (b .loop .inv .0) (u .below) (n .0) (n .1),
       rw (span, g .row) (length-put t at (width-of y) ws (omega (arith, inside p, g .row)) len) ∙ b .loop .inv .1,
-      rw (span, g .row, n .0, place) (b .loop .inv .2 ∙ rw k (merge-turn (a .e .now) t y at (a .used - (s + 1)) ws (next p) (g .apart) len is-merged)),
+      rw (span, g .row, n .0, place) (b .loop .inv .2 ∙ rw k (merge-turn (a .e .now) t y at (a .used - (s + 1)) ws (u .slot) (g .apart) len is-merged)),
       j .kept .1 .0 ∙ b .loop .inv .3,
       kept (j .ensures),
-      rw now-waits (unless-queue (m .result) (a .used) s (waits (b .loop .count) (b .loop .list)) (in-use p) (b .loop .inv .5)),
+      rw now-waits (unless-queue (m .result) (a .used) s (waits (b .loop .count) (b .loop .list)) (u .below) (b .loop .inv .5)),
       rw (span, g .row, n .0, place) (b .loop .inv .6 ∙ rw (k, now-waits, past, flag, add-one)),
     )
 
 returns : tie.Need-returns Inv-loop μ-loop
 returns c =
     let b = c .before .before in
-    let past : b .before .before .args .used ≤ b .loop .slot .id .0 = ltb-false _ _ (sym (c .before .is-below .ensures) ∙ c .if1 .left) in
-    let n : b .before .before .args .used - b .loop .slot .id .0 ≡ 0 = omega arith in
+    let n = none-left (b .loop .inv .0) (c .before .is-below .ensures) (c .if1 .left) in
     (sym (b .loop .inv .2 ∙ rw n (take-append-drop (b .loop .slot .at) (b .loop .table))), rw (b .loop .inv .6, n) (b .loop .inv .4))
 
 pub merge-slots-spec : {M : Type 1} → statement M
@@ -138,7 +131,7 @@ merge-slots-spec =
     merge-row-requires
     wait-unless-requires
     after-requires
-    (λ c. omega (arith, in-use (c .before .before .before .before .before .before .before), c .after .ensures .0))
+    (λ c. omega (arith, used-slot (c .before .before .before .before .before .before .before) .below, c .after .ensures .0))
     loop-again
     (λ c. c .before .before .loop .inv .1)
     (λ c. c .before .before .loop .inv .3)
