@@ -1,5 +1,5 @@
 -- Laws of an iteration and of a run, over what record and words say. Assumes nothing.
-use Rattle.semantics.proofs.Prelude.{_≡_, refl, sym, ap, subst, _∙_, true, false, List, [], _∷_, Option, ℕ, zero, suc, _+_, _-_, _*_, _≤_, _<_, arith, T, ℤ, length, take, drop}
+use Rattle.semantics.proofs.Prelude.{_≡_, refl, sym, ap, subst, _∙_, true, false, List, [], _∷_, Option, ℕ, zero, suc, _+_, _-_, _≤_, _<_, arith, T, ℤ, length}
 use Rattle.semantics.specs.declared.Verdict.{Verdict}
 use Rattle.semantics.specs.declared.Verdict.the-variants.{Open, Safe, Alarm, Full}
 use Rattle.semantics.specs.declared.Analysis.{Analysis}
@@ -7,7 +7,7 @@ use Rattle.semantics.specs.Algorithm.{Domain, Out, Exploration, Taken, visit-al
 use Rattle.semantics.specs.Tidy.{Every, Queue, Tidy}
 use Rattle.semantics.proofs.Tidy.{Left, take-left, Keeps, iteration-tidy}
 use Rattle.state.specs.declared.Layout.{Layout}
-use Rattle.state.specs.Rows.{width-of, rows-of}
+use Rattle.state.specs.Rows.{row-of, rows-of}
 use Rattle.waitlist.specs.Waits.{waits, TakenFrom}
 use Rattle.reached.specs.Reached.{Kept}
 use Rattle.reached.proofs.Table.{rows-length, rows-get}
@@ -33,7 +33,7 @@ module _ (y : Layout) (last : ℕ) (a : Analysis) (t l : List ℤ) (h : Resumabl
 
   -- the play of the edges, with the copy of the slot taken
   abbrev pub play-of : List ℤ → List ℕ → Out (List ℤ)
-  play-of c gs = visit-all (domain-of c) (a .settings) (a .capacity) (take (width-of y) (drop (k * y .stride) t)) gs (rows-of y (a .used) t) (waits (a .waiting - 1) l₁)
+  play-of c gs = visit-all (domain-of c) (a .settings) (a .capacity) (row-of y k t) gs (rows-of y (a .used) t) (waits (a .waiting - 1) l₁)
 
   iteration-is : (c : List ℤ) (gs : List ℕ) → iteration (domain-of c) gs (load-of y a t l) ≡ finish (domain-of c) (load-of y a t l) k (play-of c gs)
   unfolding iteration

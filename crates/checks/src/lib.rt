@@ -107,7 +107,7 @@ fn lent_ok(chart: &[i32], layout: Layout, table: &[i32], list: &[i32], a: Analys
     if waiting > used {
         return false;
     }
-    let from = used * layout.stride;
+    let from = layout.slot(SlotId(used)).at;
     let to = capacity * layout.stride;
     rows_ok(chart, layout, table, used)
         & waits_ok(&list[..waiting], used)

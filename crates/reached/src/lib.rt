@@ -9,7 +9,7 @@ ghost use lib.ListN.{length, take, drop};
 ghost use Rattle.semantics.specs.Lists.{some-of};
 ghost use Rattle.semantics.specs.Layout.{index-limit};
 ghost use Rattle.semantics.specs.Tidy.{Queue};
-ghost use Rattle.state.specs.Rows.{width-of, row-of, row-leq, rows-merge, rows-of, Laid};
+ghost use Rattle.state.specs.Rows.{row-leq, rows-merge, rows-of, Laid};
 ghost use Rattle.waitlist.specs.Waits.{waits, Stored};
 ghost use Rattle.reached.specs.Reached.{rewaits};
 
@@ -66,8 +66,10 @@ pub fn put_row(layout: Layout, table: &mut [i32], slot: SlotId, e: &[i32])
 
 // Copies the row of a slot out.
 pub fn get_row(layout: Layout, table: &[i32], slot: SlotId, out: &mut [i32])
-    requires { ⌜ (length (now out) ≡ width-of layout) × (slot .0 * layout .stride + width-of layout ≤ length (now table)) ⌝ }
-    ensures { λ _. ⌜ now (out .exit) ≡ row-of layout (slot .0) (now (table .entry)) ⌝ }
+    requires { ⌜ slot .0 * layout .stride + length (now out) ≤ length (now table) ⌝ }
+    ensures { λ _. ⌜ now (out .exit) ≡ take (length (now (out .entry))) (drop (slot .0 * layout .stride) (now (table .entry))) ⌝ }
 {
-    words::copy_words(out, state::row_of(layout, table, layout.slot(slot)));
+    let width = out.len();
+    let from = layout.slot(slot).at;
+    words::copy_words(out, &table[from..from + width]);
 }

@@ -2,7 +2,7 @@
 -- Assumes nothing.
 use Rattle.semantics.proofs.Prelude.{_≡_, sym, ap, _∙_, Bool, true, false, List, _++_, append-assoc, ℕ, suc, _+_, _-_, _*_, _≤_, _<_, ltb, ltb-true, ltb-false, suc-mul, add-one, arith, ℤ, length, take, drop, length-append, length-drop, drop-drop, take-append-drop, drop-append-le}
 use Rattle.words.proofs.Rows.{part-length, row-in, take-put, drop-put}
-use Rattle.state.specs.Rows.{width-of, Placed, row-of, row-merge, slot-merge, rows-merge}
+use Rattle.state.specs.Rows.{width-of, Placed, row-merge, slot-merge, rows-merge}
 use Rattle.state.specs.declared.Layout.{Layout}
 use Rattle.state.specs.declared.SlotRow.{SlotRow}
 
@@ -13,6 +13,7 @@ pub record OnSlot (y : Layout) (n : ℕ) (s : SlotRow) : Type 0 where
 
 -- the slot is one of the n, so it and its state are in their table, and it is the first of those left
 pub record InUse (y : Layout) (n : ℕ) (s : SlotRow) (t : List ℤ) : Type 0 where
+  pub placed : Placed y s
   pub below : s .id .0 < n
   pub slot : s .at + y .stride ≤ length t
   pub row : s .at + width-of y ≤ length t
@@ -26,7 +27,7 @@ module _ {y : Layout} {n : ℕ} {s : SlotRow} (o : OnSlot y n s) where
   -- it asks whether the slot is below n
   module _ {b : Bool} (e : b ≡ ltb (s .id .0) n) where
     pub in-use : b ≡ true → (t : List ℤ) → width-of y ≤ y .stride → n * y .stride ≤ length t → InUse y n s t
-    in-use h t w f = record { below = u; slot = i; row = omega (arith, i); left = omega (arith, u) }
+    in-use h t w f = record { placed = o .placed; below = u; slot = i; row = omega (arith, i); left = omega (arith, u) }
       where
         u : s .id .0 < n
         u = ltb-true _ _ (sym e ∙ h)
@@ -42,16 +43,12 @@ module _ {y : Layout} {n : ℕ} {s : SlotRow} (o : OnSlot y n s) where
     pub next-slot : OnSlot y n r
     next-slot = record { within = omega (arith, e, h); placed = p }
 
-    pub next-place : r .at ≡ s .at + y .stride
-    next-place = rw (p, e, add-one, suc-mul, ← o .placed)
+    pub place-after : r .at ≡ s .at + y .stride
+    place-after = rw (p, e, add-one, suc-mul, ← o .placed)
 
--- the place of a slot by its id, and how long its state is
-module _ (y : Layout) (s : SlotRow) (p : Placed y s) where
-  pub place-of : (n : ℕ) → s .id .0 ≡ n → s .at ≡ n * y .stride
-  place-of n e = rw (p, e)
-
-  pub row-length : (t : List ℤ) → s .at + width-of y ≤ length t → length (row-of y (s .id .0) t) ≡ width-of y
-  row-length t h = rw (← p) (part-length t (s .at) (width-of y) h)
+-- the place of a slot by its id
+pub place-of : (y : Layout) (s : SlotRow) → Placed y s → (n : ℕ) → s .id .0 ≡ n → s .at ≡ n * y .stride
+place-of y s p n e = rw (p, e)
 
 -- past slot s, the next one
 pub drop-slot : (y : Layout) (s : ℕ) (t : List ℤ) → drop (y .stride) (drop (s * y .stride) t) ≡ drop ((s + 1) * y .stride) t

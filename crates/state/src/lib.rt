@@ -75,7 +75,8 @@ pub struct SlotRow {
 // The state in a slot.
 pub fn row_of(layout: Layout, table: &[i32], slot: SlotRow) -> &[i32]
     requires { ⌜ Placed layout slot × (slot .at + width-of layout ≤ length (now table)) ⌝ }
-    ensures { λ r. ⌜ now r ≡ row-of layout (slot .id .0) (now (table .entry)) ⌝ }
+    ensures row { λ r. ⌜ now r ≡ row-of layout (slot .id .0) (now (table .entry)) ⌝ }
+    ensures long { λ r. ⌜ length (now r) ≡ width-of layout ⌝ }
 {
     let from = slot.at;
     let to = from + layout.width();

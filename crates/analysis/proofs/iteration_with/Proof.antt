@@ -1,12 +1,12 @@
 -- `analysis::iteration_with` meets its contract. Assumes nothing.
-use Rattle.semantics.proofs.Prelude.{_≡_, _∙_, List, ℕ, _-_, _<_, arith, needs, ℤ, length}
+use Rattle.semantics.proofs.Prelude.{_≡_, ap, _∙_, List, ℕ, _-_, _*_, _<_, arith, needs, ℤ, length, take, drop}
 use Rattle.semantics.specs.declared.Analysis.{Analysis}
 use Rattle.semantics.specs.Algorithm.{visit-all}
 use Rattle.semantics.specs.Tidy.{Queue}
 use Rattle.semantics.proofs.Tidy.{queue-in-more}
 use Rattle.words.proofs.Rows.{row-in}
 use Rattle.state.specs.declared.Layout.{Layout}
-use Rattle.state.specs.Rows.{rows-of}
+use Rattle.state.specs.Rows.{width-of, rows-of}
 use Rattle.waitlist.specs.Waits.{waits}
 use Rattle.reached.specs.Reached.{Kept}
 use Rattle.reached.proofs.FormKept.{in-table}
@@ -45,12 +45,15 @@ module _ (c : tie.After-take-slot) where
 get-row-requires : tie.Need-get-row-requires
 get-row-requires c κs =
     let d = c .before .before .before in
-    (start d .pre .3, omega (arith, row-in (slot d) (a d .used) (y d .stride) (taken d .1), in-table (form d), form d .apart))
+    omega (arith, row-in (slot d) (a d .used) (y d .stride) (taken d .1), in-table (form d), form d .apart, start d .pre .3)
 
--- what is known once the slot's row is copied, and then once its edges are played
+-- the row of the slot, and what is known once its edges are played
 module _ (c : tie.After-copy) where
   abbrev d : tie.After-take-slot
   d = c .before .before .before .before .before
+
+  row-is : c .before .get-row .last .1 .1 .1 .0 ≡ take (width-of (y d)) (drop (slot d * y d .stride) (start d .args .table .now))
+  row-is = c .before .get-row .ensures ∙ ap (λ (w : ℕ). take w (drop (slot d * y d .stride) (start d .args .table .now))) (start d .pre .3)
 
 visit-all-requires : tie.Need-visit-all-requires
 visit-all-requires c κs =
@@ -78,7 +81,7 @@ module _ (c : tie.After-visit-all) where
       let w = c .before .before .before .before .with-counts .ensures in
       let r = same-list (d p) ∙ s .pre .0 .capacity in
       record {
-        out = c .visit-all .ensures .out ∙ (λ i. visit-all (domain-of (s .args .chart .now)) (w i .settings) (r i) (p .before .get-row .ensures i) (edges-from 0 (s .args .outline .edges)) (rows-of (y (d p)) (w i .used) (s .args .table .now)) (waits (w i .waiting) (rest (d p))));
+        out = c .visit-all .ensures .out ∙ (λ i. visit-all (domain-of (s .args .chart .now)) (w i .settings) (r i) (row-is p i) (edges-from 0 (s .args .outline .edges)) (rows-of (y (d p)) (w i .used) (s .args .table .now)) (waits (w i .waiting) (rest (d p))));
         kept = c .visit-all .ensures .kept;
       }
 

@@ -1,8 +1,9 @@
 -- `checks::lent_ok` meets its contract: the counts first, then all the rest. Assumes nothing.
-use Rattle.semantics.proofs.Prelude.{sym, ap, _∙_, _&&_, and-assoc, and-true, ℕ, _*_, _≤_, mul-le-mul-right, arith, needs, le-leb, lt-leb, length, take, drop, length-take-le}
+use Rattle.semantics.proofs.Prelude.{_≡_, sym, ap, _∙_, _&&_, and-assoc, and-true, ℕ, _*_, _≤_, mul-le-mul-right, arith, needs, le-leb, lt-leb, length, take, drop, length-take-le}
 use Rattle.semantics.specs.Memory.{zeros}
 use Rattle.words.proofs.Rows.{drop-take}
 use Rattle.state.proofs.Layouts.{is-layout}
+use Rattle.state.proofs.Slots.{place-of}
 use Rattle.checks.proofs.lent_ok.Statement.{statement}
 use Rattle.checks.proofs.lent_ok.Tie as tie
 
@@ -30,8 +31,15 @@ module _ (c : tie.Else2) where
   in-list = omega (arith, c .if2 .left, c .before .if1 .left, start .pre .list)
 
 -- once the rows and the list are tested
-abbrev counted : tie.After-waits-ok → tie.Else2
-counted w = w .before .before .before .before .before
+module _ (w : tie.After-waits-ok) where
+  abbrev first-unused : tie.After-slot
+  first-unused = w .before .before .before .before
+
+  abbrev counted : tie.Else2
+  counted = first-unused .before
+
+  from : first-unused .slot .result .at ≡ used counted * stride counted
+  from = let e = first-unused .slot .ensures in place-of (start counted .args .layout) (first-unused .slot .result) (e .1) (used counted) (e .0)
 
 returns : tie.Need-returns
 returns c = rw (lt-leb _ _ (c .if1 .taken))
@@ -48,7 +56,7 @@ returns-3 c =
     let a = start f .args in
     let n = is-layout (a .chart .now) _ (start f .pre .layout .0) .stride in
     let slots =
-    z .all-zero .ensures ∙ ap zeros (sym (drop-take (used f * stride f) (capacity f * stride f) (a .table .now)))
+    (rw (from w) at (z .all-zero .ensures)) ∙ ap zeros (sym (drop-take (used f * stride f) (capacity f * stride f) (a .table .now)))
     ∙ λ j. zeros (drop (used f * n j) (take (capacity f * n j) (a .table .now))) in
     let list = c .all-zero2 .ensures ∙ ap zeros (sym (drop-take (a .a .waiting) (capacity f) (a .list .now))) in
     rw (le-leb _ _ (f .before .if1 .left), le-leb _ _ (f .if2 .left)) ((λ j. ((r .rows-ok .ensures j && w .waits-ok .ensures j) && slots j) && list j) ∙ simp (and-assoc, and-true))
@@ -60,14 +68,14 @@ lent-ok-spec =
     (λ c. search needs)
     returns
     returns-2
-    (λ c. omega (arith, below-room (c .before), room (c .before), start (c .before) .good))
+    (λ c κs. omega (arith, below-room c, room c, start c .good))
     (λ c. omega (arith, room (c .before .before), start (c .before .before) .good))
     (λ c κs. let f = c .before .before in (start f .pre .layout, omega (arith, below-room f, room f)))
     (λ c. let f = c .before .before .before .before in sym (length-take-le _ _ (in-list f)))
     (λ c κs. search needs)
-    (λ c. let f = counted c in omega (arith, below-room f, room f, start f .good))
-    (λ c. let f = counted c in omega (arith, below-room f))
-    (λ c. let f = counted c in omega (arith, below-room f))
+    (λ c. let f = counted c in omega (arith, from c, below-room f, room f, start f .good))
+    (λ c. let f = counted c in omega (arith, from c, below-room f))
+    (λ c. let f = counted c in omega (arith, from c, below-room f))
     (λ c. let f = counted c in omega (arith, room f))
     (λ c κs. search needs) (λ c. search needs) (λ c. search needs) (λ c. search needs) (λ c. search needs)
     (λ c κs. search needs)

@@ -1,11 +1,11 @@
 -- `checks::rows_ok` meets its contract. The invariant: the slots in use pass exactly when those from the loop's slot on
 -- do. Assumes nothing.
-use Rattle.semantics.proofs.Prelude.{_≡_, sym, ap, _∙_, Bool, true, false, _&&_, List, ℕ, _+_, _-_, _*_, sub-zero, arith, needs, not-true, not-false, ℤ, length, drop}
+use Rattle.semantics.proofs.Prelude.{_≡_, sym, ap, _∙_, Bool, true, false, _&&_, List, ℕ, _+_, _-_, _*_, sub-zero, arith, needs, not-true, not-false, ℤ, drop}
 use Rattle.semantics.specs.Encoding.{decode}
 use Rattle.semantics.specs.Memory.{rows-ok}
 use Rattle.state.specs.declared.Layout.{Layout}
 use Rattle.state.proofs.Layouts.{LayoutOf, is-layout}
-use Rattle.state.proofs.Slots.{OnSlot, InUse, first-slot, in-use, none-left, next-slot, row-length}
+use Rattle.state.proofs.Slots.{OnSlot, InUse, first-slot, in-use, none-left, next-slot}
 use Rattle.checks.proofs.FormTests.{rows-ok-turn}
 use Rattle.checks.proofs.rows_ok.Statement.{statement}
 use Rattle.checks.proofs.rows_ok.Tie as tie
@@ -54,7 +54,7 @@ module _ (c : tie.Then1 Inv-loop μ-loop) where
 row-ok-requires : tie.Need-row-ok-requires Inv-loop μ-loop
 row-ok-requires c κs =
     let p = c .before in
-    let l = ap length (c .row-of .ensures) ∙ row-length (y p) (at-loop p .loop .slot) (at-loop p .loop .inv .0 .placed) (table p) (used-slot p .row) in
+    let l = c .row-of .ensures .1 in
     (l ∙ layout p .wide, omega (arith, l, start p .pre .0 .1))
 
 turn : (c : tie.After-row-ok Inv-loop μ-loop) (b : Bool) → c .row-ok .result ≡ b →
@@ -64,15 +64,15 @@ turn : (c : tie.After-row-ok Inv-loop μ-loop) (b : Bool) → c .row-ok .result 
 turn c b h =
     let p = c .before .before in
     at-loop p .loop .inv .1 ∙ ap (λ (n : ℕ). rows-ok (decode (chart p)) n (drop (s p * y p .stride) (table p))) (used-slot p .left)
-    ∙ rows-ok-turn (chart p) (table p) (y p) (layout p) (s p) (used p - (s p + 1)) b (sym (rw (c .before .row-of .ensures) at (c .row-ok .ensures)) ∙ h)
+    ∙ rows-ok-turn (chart p) (table p) (y p) (layout p) (s p) (used p - (s p + 1)) b (sym (rw (c .before .row-of .ensures .0) at (c .row-ok .ensures)) ∙ h)
 
 returns : tie.Need-returns Inv-loop μ-loop
 returns c = sym (turn (c .before) false (not-true (c .before .row-ok .result) (c .if2 .taken)))
 
 after-requires : tie.Need-after-requires Inv-loop μ-loop
 after-requires c κs =
-    let p = c .before .before .before in
-    (at-loop p .loop .inv .0 .placed, omega (arith, used-slot p .below), omega (arith, used-slot p .slot))
+    let u = used-slot (c .before .before .before) in
+    (u .placed, omega (arith, u .below), omega (arith, u .slot))
 
 loop-again : tie.Need-loop-again Inv-loop μ-loop
 loop-again c =
@@ -95,7 +95,7 @@ rows-ok-spec =
     (λ c κs. search needs)
     loop-holds
     (λ c κs. search needs)
-    (λ c κs. (at-loop c .loop .inv .0 .placed, used-slot c .row))
+    (λ c κs. (used-slot c .placed, used-slot c .row))
     row-ok-requires
     returns
     after-requires

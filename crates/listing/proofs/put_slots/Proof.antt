@@ -8,7 +8,7 @@ use Rattle.semantics.specs.Memory.{width, state-in, states-in}
 use Rattle.semantics.specs.Listing.{slot-text, slots-text}
 use Rattle.state.specs.declared.Layout.{Layout}
 use Rattle.state.proofs.Layouts.{LayoutOf, is-layout, slots-in}
-use Rattle.state.proofs.Slots.{OnSlot, InUse, first-slot, in-use, none-left, next-slot, row-length}
+use Rattle.state.proofs.Slots.{OnSlot, InUse, first-slot, in-use, none-left, next-slot}
 use Rattle.writer.proofs.Written.{Completes, one-more, all-put}
 use Rattle.listing.proofs.TextPieces.{slots-turn, marked-from-none}
 use Rattle.listing.proofs.put_slots.Statement.{statement}
@@ -89,13 +89,13 @@ array-read-waiting c = omega (arith, start (outer c) .pre .2, used-slot c .below
 put-slot-requires : tie.Need-put-slot-requires Inv-loop μ-loop
 put-slot-requires c κs =
     let p = c .before .before in
-    let l = ap length (c .before .row-of .ensures) ∙ row-length (y (outer p)) (at-loop p .loop .slot) (at-loop p .loop .inv .0 .placed) (table (outer p)) (used-slot p .row) in
-    (start (outer p) .pre .0, omega (arith, l, layout (outer p) .wide))
+    (start (outer p) .pre .0, omega (arith, c .before .row-of .ensures .1, layout (outer p) .wide))
 
 after-requires : tie.Need-after-requires Inv-loop μ-loop
 after-requires c κs =
     let p = c .before .before .before .before .before in
-    (at-loop p .loop .inv .0 .placed, omega (arith, used-slot p .below), omega (arith, used-slot p .slot, start (outer p) .good))
+    let u = used-slot p in
+    (u .placed, omega (arith, u .below), omega (arith, u .slot, start (outer p) .good))
 
 loop-again : tie.Need-loop-again Inv-loop μ-loop
 loop-again c =
@@ -108,7 +108,7 @@ loop-again c =
     let e = c .after .ensures in
     let n = used-slot p .left in
     let turn = (λ j. slots-text d (waits o) (s p) (states-in (width d) (n j) (drop (s p * y o .stride) (table o)))) ∙ slots-turn d (waits o) (y o) (layout o) (s p) (used o - (s p + 1)) (table o)
-    ∙ (λ j. slot-text d (s p) (state-in (sym (r .row-of .ensures) j)) (sym (mark-of p) j) ++ slots-text d (waits o) (s p + 1) (states-in (width d) (used o - (s p + 1)) (drop ((s p + 1) * y o .stride) (table o)))) in
+    ∙ (λ j. slot-text d (s p) (state-in (sym (r .row-of .ensures .0) j)) (sym (mark-of p) j) ++ slots-text d (waits o) (s p + 1) (states-in (width d) (used o - (s p + 1)) (drop ((s p + 1) * y o .stride) (table o)))) in
     (next-slot (l .inv .0) (used-slot p .below) (e .0) (e .1), k .put-slot .kept .0 ∙ l .inv .1, rw (e .0) (one-more (l .inv .2) turn (k .put-slot .ensures)))
 
 returns : tie.Need-returns Inv-loop μ-loop
@@ -128,7 +128,7 @@ put-slots-spec =
     loop-holds
     (λ c κs. search needs)
     array-read-waiting
-    (λ c κs. (at-loop c .loop .inv .0 .placed, used-slot c .row))
+    (λ c κs. (used-slot c .placed, used-slot c .row))
     put-slot-requires
     after-requires
     (λ c. omega (arith, used-slot (c .before .before .before .before .before .before) .below, c .after .ensures .0))

@@ -1,8 +1,8 @@
 -- `reached::covered` meets its contract. Assumes nothing.
-use Rattle.semantics.proofs.Prelude.{_≡_, sym, ap, _∙_, Bool, true, false, ℕ, _+_, _-_, _*_, arith, needs, length, drop}
+use Rattle.semantics.proofs.Prelude.{_≡_, sym, ap, _∙_, Bool, true, false, ℕ, _+_, _-_, _*_, sub-zero, arith, needs, drop}
 use Rattle.semantics.specs.Lists.{some-of}
 use Rattle.state.specs.Rows.{row-leq, rows-of}
-use Rattle.state.proofs.Slots.{OnSlot, InUse, first-slot, in-use, none-left, next-slot, row-length}
+use Rattle.state.proofs.Slots.{OnSlot, InUse, first-slot, in-use, none-left, next-slot}
 use Rattle.reached.proofs.SlotLoops.{covered-turn}
 use Rattle.reached.proofs.covered.Statement.{statement}
 use Rattle.reached.proofs.covered.Tie as tie
@@ -17,10 +17,8 @@ abbrev μ-loop : tie.MeasureT-loop
 
 loop-holds : tie.Need-loop-holds Inv-loop μ-loop
 loop-holds c =
-    let a = c .before .args in
-    let n : a .used - 0 ≡ a .used = omega arith in
-    let z : 0 * a .layout .stride ≡ 0 = omega arith in
-    (first-slot (c .slot .ensures .0) (c .slot .ensures .1), rw (c .slot .ensures .0, n, z))
+    let z : 0 * c .before .args .layout .stride ≡ 0 = omega arith in
+    (first-slot (c .slot .ensures .0) (c .slot .ensures .1), rw (c .slot .ensures .0, sub-zero (c .before .args .used), z))
 
 -- a turn, at a slot in use
 module _ (c : tie.Then1 Inv-loop μ-loop) where
@@ -37,12 +35,12 @@ module _ (c : tie.Then1 Inv-loop μ-loop) where
   used-slot = in-use (at-loop .loop .inv .0) (c .before .is-below .ensures) (c .if1 .taken) (start .args .table .now) (start .pre .apart) (start .pre .table)
 
 row-of-requires : tie.Need-row-of-requires Inv-loop μ-loop
-row-of-requires c κs = (at-loop c .loop .inv .0 .placed, used-slot c .row)
+row-of-requires c κs = (used-slot c .placed, used-slot c .row)
 
 leq-row-requires : tie.Need-leq-row-requires Inv-loop μ-loop
 leq-row-requires c κs =
     let p = c .before in
-    (ap length (c .row-of .ensures) ∙ row-length _ _ (at-loop p .loop .inv .0 .placed) (start p .args .table .now) (used-slot p .row) ∙ sym (start p .pre .row), start p .pre .some)
+    (c .row-of .ensures .1 ∙ sym (start p .pre .row), start p .pre .some)
 
 -- the turn, seen from its test
 abbrev turn-of : tie.After-leq-row Inv-loop μ-loop → tie.Then1 Inv-loop μ-loop
@@ -57,14 +55,14 @@ turn : (c : tie.After-leq-row Inv-loop μ-loop) (b : Bool) → c .leq-row .resul
 turn c b h =
     let p = turn-of c in
     let a = start p .args in
-    let q = sym (rw (c .before .row-of .ensures) at (c .leq-row .ensures)) ∙ h in
+    let q = sym (rw (c .before .row-of .ensures .0) at (c .leq-row .ensures)) ∙ h in
     at-loop p .loop .inv .1 ∙ ap (λ (n : ℕ). some-of (row-leq (a .e .now)) (rows-of (a .layout) n (drop (s p * a .layout .stride) (a .table .now)))) (used-slot p .left)
     ∙ covered-turn (a .e .now) (a .table .now) (a .layout) (s p) (a .used - (s p + 1)) b q
 
 after-requires : tie.Need-after-requires Inv-loop μ-loop
 after-requires c κs =
-    let p = turn-of (c .before) in
-    (at-loop p .loop .inv .0 .placed, omega (arith, used-slot p .below), omega (arith, used-slot p .slot))
+    let u = used-slot (turn-of (c .before)) in
+    (u .placed, omega (arith, u .below), omega (arith, u .slot))
 
 loop-less : tie.Need-loop-less Inv-loop μ-loop
 loop-less c = omega (arith, used-slot (turn-of (c .before .before)) .below, c .after .ensures .0)

@@ -1,12 +1,12 @@
 -- `reached::merge_slots` meets its contract. Assumes nothing.
-use Rattle.semantics.proofs.Prelude.{_≡_, refl, sym, _∙_, List, _++_, _+_, _-_, _≤_, add-one, arith, needs, ℤ, length, take, drop, take-append-drop}
+use Rattle.semantics.proofs.Prelude.{_≡_, refl, sym, _∙_, List, _++_, _+_, _-_, _≤_, sub-zero, add-one, arith, needs, ℤ, length, take, drop, take-append-drop}
 use Rattle.semantics.specs.Tidy.{Queue}
 use Rattle.semantics.proofs.Tidy.{queue-in-more}
 use Rattle.words.proofs.Rows.{span, part-length, length-put, drop-put}
 use Rattle.state.specs.declared.Layout.{Layout}
 use Rattle.state.specs.declared.SlotRow.{SlotRow}
 use Rattle.state.specs.Rows.{width-of, row-merge, same-words, rows-merge, rows-of}
-use Rattle.state.proofs.Slots.{OnSlot, InUse, first-slot, in-use, none-left, next-slot, next-place, place-of, put-slot, slot-length, slot, merge-turn}
+use Rattle.state.proofs.Slots.{OnSlot, InUse, first-slot, in-use, none-left, next-slot, place-after, place-of, put-slot, slot-length, slot, merge-turn}
 use Rattle.waitlist.specs.Waits.{waits, Stored}
 use Rattle.waitlist.proofs.WaitWords.{waits-are, kept}
 use Rattle.reached.specs.Reached.{rewaits}
@@ -31,7 +31,7 @@ loop-holds : tie.Need-loop-holds Inv-loop μ-loop
 loop-holds c =
     let a = c .before .args in
     let s = c .slot .ensures in
-    let n : a .used - 0 ≡ a .used = omega arith in
+    let n = sub-zero (a .used) in
     let z : c .slot .result .at ≡ 0 = omega (arith, place-of (a .layout) (c .slot .result) (s .1) 0 (s .0)) in
     (first-slot (s .0) (s .1), refl, rw (s .0, z, n), refl, c .before .pre .1 .0, c .before .pre .1 .1, rw (s .0, z, n))
 
@@ -58,6 +58,10 @@ module _ (c : tie.Then1 Inv-loop μ-loop) where
   inside : slot-at .at + length (start .args .e .now) ≤ length table
   inside = omega (arith, used-slot .row, start .pre .0 .row)
 
+-- the turn, seen from its last call
+abbrev turn-of : tie.After-wait-unless Inv-loop μ-loop → tie.Then1 Inv-loop μ-loop
+turn-of w = w .before .before .before .before .before
+
 merge-row-requires : tie.Need-merge-row-requires Inv-loop μ-loop
 merge-row-requires c κs =
     let p = c .before in
@@ -73,14 +77,14 @@ wait-unless-requires c κs =
 
 after-requires : tie.Need-after-requires Inv-loop μ-loop
 after-requires c κs =
-    let p = c .before .before .before .before .before .before in
-    (at-loop p .loop .inv .0 .placed, omega (arith, used-slot p .below), omega (arith, used-slot p .slot))
+    let u = used-slot (turn-of (c .before)) in
+    (u .placed, omega (arith, u .below), omega (arith, u .slot))
 
 loop-again : tie.Need-loop-again Inv-loop μ-loop
 loop-again c =
     let j = c .before .before .wait-unless in
-    let p = c .before .before .before .before .before .before .before in
     let m = c .before .before .before .before .before .merge-row in
+    let p = c .before .before .before .before .before .before .before in
     let b = at-loop p in
     let a = start p .args in
     let g = start p .pre .0 in
@@ -98,7 +102,7 @@ loop-again c =
     let now-waits = waits-are (j .ensures) in
     let past : drop (at + y .stride) (take at t ++ (ws ++ drop (width-of y) (drop at t))) ≡ drop (y .stride) (drop at t) =
     rw (put-slot t at (width-of y) (y .stride) ws (u .slot) (g .apart) len) (drop-put t at (y .stride) (slot t at (width-of y) (y .stride) ws (u .slot) (g .apart) len) (u .slot) (slot-length t at (width-of y) (y .stride) ws (u .slot) (g .apart) len)) in
-    let place = next-place (b .loop .inv .0) (u .below) (n .0) (n .1) in (
+    let place = place-after (b .loop .inv .0) (u .below) (n .0) (n .1) in (
       next-slot (b .loop .inv .0) (u .below) (n .0) (n .1),
       rw (span, g .row) (length-put t at (width-of y) ws (omega (arith, inside p, g .row)) len) ∙ b .loop .inv .1,
       rw (span, g .row, n .0, place) (b .loop .inv .2 ∙ rw k (merge-turn (a .e .now) t y at (a .used - (s + 1)) ws (u .slot) (g .apart) len is-merged)),
@@ -131,7 +135,7 @@ merge-slots-spec =
     merge-row-requires
     wait-unless-requires
     after-requires
-    (λ c. omega (arith, used-slot (c .before .before .before .before .before .before .before) .below, c .after .ensures .0))
+    (λ c. omega (arith, used-slot (turn-of (c .before .before)) .below, c .after .ensures .0))
     loop-again
     (λ c. c .before .before .loop .inv .1)
     (λ c. c .before .before .loop .inv .3)
