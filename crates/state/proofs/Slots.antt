@@ -6,12 +6,7 @@ use Rattle.state.specs.Rows.{width-of, Placed, row-merge, slot-merge, ro
 use Rattle.state.specs.declared.Layout.{Layout}
 use Rattle.state.specs.declared.SlotRow.{SlotRow}
 
--- a loop over n slots is at a slot; past the last one it is at slot n
-pub record OnSlot (y : Layout) (n : ℕ) (s : SlotRow) : Type 0 where
-  pub within : s .id .0 ≤ n
-  pub placed : Placed y s
-
--- the slot is one of the n, so it and its state are in their table, and it is the first of those left
+-- a loop over n slots is at one of them: it and its state are in their table, and it is the first of those left
 pub record InUse (y : Layout) (n : ℕ) (s : SlotRow) (t : List ℤ) : Type 0 where
   pub placed : Placed y s
   pub below : s .id .0 < n
@@ -19,32 +14,22 @@ pub record InUse (y : Layout) (n : ℕ) (s : SlotRow) (t : List ℤ) : Type 0 wh
   pub row : s .at + width-of y ≤ length t
   pub left : n - s .id .0 ≡ suc (n - (s .id .0 + 1))
 
--- the loop begins at slot 0
-pub first-slot : {y : Layout} {n : ℕ} {s : SlotRow} → s .id .0 ≡ 0 → Placed y s → OnSlot y n s
-first-slot e p = record { within = omega (arith, e); placed = p }
+-- the loop has asked whether its slot is below n
+pub none-left : (n i : ℕ) {b : Bool} → b ≡ ltb i n → b ≡ false → n - i ≡ 0
+none-left n i e h = let u : n ≤ i = ltb-false _ _ (sym e ∙ h) in omega arith
 
-module _ {y : Layout} {n : ℕ} {s : SlotRow} (o : OnSlot y n s) where
-  -- it asks whether the slot is below n
-  module _ {b : Bool} (e : b ≡ ltb (s .id .0) n) where
-    pub in-use : b ≡ true → (t : List ℤ) → width-of y ≤ y .stride → n * y .stride ≤ length t → InUse y n s t
-    in-use h t w f = record { placed = o .placed; below = u; slot = i; row = omega (arith, i); left = omega (arith, u) }
-      where
-        u : s .id .0 < n
-        u = ltb-true _ _ (sym e ∙ h)
+pub in-use : (y : Layout) (n : ℕ) (s : SlotRow) (t : List ℤ) → Placed y s → {b : Bool} → b ≡ ltb (s .id .0) n → b ≡ true → width-of y ≤ y .stride → n * y .stride ≤ length t → InUse y n s t
+in-use y n s t p e h w f = record { placed = p; below = u; slot = i; row = omega (arith, i); left = omega (arith, u) }
+  where
+    u : s .id .0 < n
+    u = ltb-true _ _ (sym e ∙ h)
 
-        i : s .at + y .stride ≤ length t
-        i = omega (arith, row-in (s .id .0) n (y .stride) u, o .placed)
+    i : s .at + y .stride ≤ length t
+    i = omega (arith, row-in (s .id .0) n (y .stride) u, p)
 
-    pub none-left : b ≡ false → n - s .id .0 ≡ 0
-    none-left h = let u : n ≤ s .id .0 = ltb-false _ _ (sym e ∙ h) in omega arith
-
-  -- and goes on to the next
-  module _ (h : s .id .0 < n) {r : SlotRow} (e : r .id .0 ≡ s .id .0 + 1) (p : Placed y r) where
-    pub next-slot : OnSlot y n r
-    next-slot = record { within = omega (arith, e, h); placed = p }
-
-    pub place-after : r .at ≡ s .at + y .stride
-    place-after = rw (p, e, add-one, suc-mul, ← o .placed)
+-- the place of the next slot
+pub place-after : (y : Layout) (s r : SlotRow) → Placed y s → r .id .0 ≡ s .id .0 + 1 → Placed y r → r .at ≡ s .at + y .stride
+place-after y s r p e q = rw (q, e, add-one, suc-mul, ← p)
 
 -- the place of a slot by its id
 pub place-of : (y : Layout) (s : SlotRow) → Placed y s → (n : ℕ) → s .id .0 ≡ n → s .at ≡ n * y .stride

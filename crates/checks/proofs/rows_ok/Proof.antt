@@ -4,15 +4,16 @@ use Rattle.semantics.proofs.Prelude.{_≡_, sym, ap, _∙_, Bool, true, false, 
 use Rattle.semantics.specs.Encoding.{decode}
 use Rattle.semantics.specs.Memory.{rows-ok}
 use Rattle.state.specs.declared.Layout.{Layout}
+use Rattle.state.specs.Rows.{Placed}
 use Rattle.state.proofs.Layouts.{LayoutOf, is-layout}
-use Rattle.state.proofs.Slots.{OnSlot, InUse, first-slot, in-use, none-left, next-slot}
+use Rattle.state.proofs.Slots.{InUse, in-use, none-left}
 use Rattle.checks.proofs.FormTests.{rows-ok-turn}
 use Rattle.checks.proofs.rows_ok.Statement.{statement}
 use Rattle.checks.proofs.rows_ok.Tie as tie
 
 abbrev Inv-loop : tie.InvT-loop
 Inv-loop chart layout table used slot₀ slot =
-    OnSlot layout used slot × (rows-ok (decode chart) used table ≡ rows-ok (decode chart) (used - slot .id .0) (drop (slot .id .0 * layout .stride) table))
+    Placed layout slot × (rows-ok (decode chart) used table ≡ rows-ok (decode chart) (used - slot .id .0) (drop (slot .id .0 * layout .stride) table))
 
 abbrev μ-loop : tie.MeasureT-loop
 μ-loop chart layout table used slot₀ slot = used - slot .id .0
@@ -20,7 +21,7 @@ abbrev μ-loop : tie.MeasureT-loop
 loop-holds : tie.Need-loop-holds Inv-loop μ-loop
 loop-holds c =
     let z : 0 * c .before .args .layout .stride ≡ 0 = omega arith in
-    (first-slot (c .slot .ensures .0) (c .slot .ensures .1), rw (c .slot .ensures .0, sub-zero (c .before .args .used), z))
+    (c .slot .ensures .1, rw (c .slot .ensures .0, sub-zero (c .before .args .used), z))
 
 -- a turn, at a slot in use
 module _ (c : tie.Then1 Inv-loop μ-loop) where
@@ -49,7 +50,7 @@ module _ (c : tie.Then1 Inv-loop μ-loop) where
   layout = is-layout chart y (start .pre .0 .0)
 
   used-slot : InUse y used (at-loop .loop .slot) table
-  used-slot = in-use (at-loop .loop .inv .0) (c .before .is-below .ensures) (c .if1 .taken) table (omega (arith, layout .wide, layout .stride)) (start .pre .1)
+  used-slot = in-use _ _ _ _ (at-loop .loop .inv .0) (c .before .is-below .ensures) (c .if1 .taken) (omega (arith, layout .wide, layout .stride)) (start .pre .1)
 
 row-ok-requires : tie.Need-row-ok-requires Inv-loop μ-loop
 row-ok-requires c κs =
@@ -77,14 +78,13 @@ after-requires c κs =
 loop-again : tie.Need-loop-again Inv-loop μ-loop
 loop-again c =
     let i = c .before in
-    let p = i .before .before .before in
     let e = c .after .ensures in
-    (next-slot (at-loop p .loop .inv .0) (used-slot p .below) (e .0) (e .1), rw (e .0) (turn (i .before) true (not-false (i .before .row-ok .result) (i .if2 .left))))
+    (e .1, rw (e .0) (turn (i .before) true (not-false (i .before .row-ok .result) (i .if2 .left))))
 
 returns-2 : tie.Need-returns-2 Inv-loop μ-loop
 returns-2 c =
     let b = c .before .before in
-    sym (b .loop .inv .1 ∙ rw (none-left (b .loop .inv .0) (c .before .is-below .ensures) (c .if1 .left)))
+    sym (b .loop .inv .1 ∙ rw (none-left _ _ (c .before .is-below .ensures) (c .if1 .left)))
 
 pub rows-ok-spec : {M : Type 1} → statement M
 rows-ok-spec =

@@ -7,8 +7,9 @@ use Rattle.semantics.specs.Encoding.{decode}
 use Rattle.semantics.specs.Memory.{width, state-in, states-in}
 use Rattle.semantics.specs.Listing.{slot-text, slots-text}
 use Rattle.state.specs.declared.Layout.{Layout}
+use Rattle.state.specs.Rows.{Placed}
 use Rattle.state.proofs.Layouts.{LayoutOf, is-layout, slots-in}
-use Rattle.state.proofs.Slots.{OnSlot, InUse, first-slot, in-use, none-left, next-slot}
+use Rattle.state.proofs.Slots.{InUse, in-use, none-left}
 use Rattle.writer.proofs.Written.{Completes, one-more, all-put}
 use Rattle.listing.proofs.TextPieces.{slots-turn, marked-from-none}
 use Rattle.listing.proofs.put_slots.Statement.{statement}
@@ -20,7 +21,7 @@ lines chart list s n t = slots-text (decode chart) (map natAbs list) s (states-i
 
 abbrev Inv-loop : tie.InvT-loop
 Inv-loop out₀ at chart table list used layout marks place₀ slot₀ out place slot =
-    OnSlot layout used slot
+    Placed layout slot
     × (length out ≡ length out₀)
     × Completes at (lines chart list 0 used table) out₀ place (lines chart list (slot .id .0) (used - slot .id .0) (drop (slot .id .0 * layout .stride) table)) out
 
@@ -61,7 +62,7 @@ loop-holds c =
     let m = c .before .before in
     let e = c .slot .ensures in
     let z : 0 * y m .stride ≡ 0 = omega arith in
-    (first-slot (e .0) (e .1), refl, rw (e .0, sub-zero (used m), z) λ _ _ p. p)
+    (e .1, refl, rw (e .0, sub-zero (used m), z) λ _ _ p. p)
 
 -- a turn, at a slot in use
 module _ (c : tie.Then1 Inv-loop μ-loop) where
@@ -75,7 +76,7 @@ module _ (c : tie.Then1 Inv-loop μ-loop) where
   s = at-loop .loop .slot .id .0
 
   used-slot : InUse (y outer) (used outer) (at-loop .loop .slot) (table outer)
-  used-slot = in-use (at-loop .loop .inv .0) (c .before .is-below .ensures) (c .if1 .taken) (table outer) (omega (arith, layout outer .wide, layout outer .stride)) (fits outer)
+  used-slot = in-use _ _ _ _ (at-loop .loop .inv .0) (c .before .is-below .ensures) (c .if1 .taken) (omega (arith, layout outer .wide, layout outer .stride)) (fits outer)
 
   -- the slot's mark
   mark-of : getD (outer .mark-waiting .last .0) s false ≡ some-of (eqb s) (waits outer)
@@ -109,12 +110,12 @@ loop-again c =
     let n = used-slot p .left in
     let turn = (λ j. slots-text d (waits o) (s p) (states-in (width d) (n j) (drop (s p * y o .stride) (table o)))) ∙ slots-turn d (waits o) (y o) (layout o) (s p) (used o - (s p + 1)) (table o)
     ∙ (λ j. slot-text d (s p) (state-in (sym (r .row-of .ensures .0) j)) (sym (mark-of p) j) ++ slots-text d (waits o) (s p + 1) (states-in (width d) (used o - (s p + 1)) (drop ((s p + 1) * y o .stride) (table o)))) in
-    (next-slot (l .inv .0) (used-slot p .below) (e .0) (e .1), k .put-slot .kept .0 ∙ l .inv .1, rw (e .0) (one-more (l .inv .2) turn (k .put-slot .ensures)))
+    (e .1, k .put-slot .kept .0 ∙ l .inv .1, rw (e .0) (one-more (l .inv .2) turn (k .put-slot .ensures)))
 
 returns : tie.Need-returns Inv-loop μ-loop
 returns c =
     let b = c .before .before in
-    all-put (b .loop .inv .2) (rw (none-left (b .loop .inv .0) (c .before .is-below .ensures) (c .if1 .left))) (omega arith)
+    all-put (b .loop .inv .2) (rw (none-left _ _ (c .before .is-below .ensures) (c .if1 .left))) (omega arith)
 
 pub put-slots-spec : {M : Type 1} → statement M
 put-slots-spec =

@@ -1,15 +1,15 @@
 -- `reached::covered` meets its contract. Assumes nothing.
 use Rattle.semantics.proofs.Prelude.{_≡_, sym, ap, _∙_, Bool, true, false, ℕ, _+_, _-_, _*_, sub-zero, arith, needs, drop}
 use Rattle.semantics.specs.Lists.{some-of}
-use Rattle.state.specs.Rows.{row-leq, rows-of}
-use Rattle.state.proofs.Slots.{OnSlot, InUse, first-slot, in-use, none-left, next-slot}
+use Rattle.state.specs.Rows.{Placed, row-leq, rows-of}
+use Rattle.state.proofs.Slots.{InUse, in-use, none-left}
 use Rattle.reached.proofs.SlotLoops.{covered-turn}
 use Rattle.reached.proofs.covered.Statement.{statement}
 use Rattle.reached.proofs.covered.Tie as tie
 
 abbrev Inv-loop : tie.InvT-loop
 Inv-loop layout table used e slot₀ slot =
-    OnSlot layout used slot
+    Placed layout slot
     × (some-of (row-leq e) (rows-of layout used table) ≡ some-of (row-leq e) (rows-of layout (used - slot .id .0) (drop (slot .id .0 * layout .stride) table)))
 
 abbrev μ-loop : tie.MeasureT-loop
@@ -18,7 +18,7 @@ abbrev μ-loop : tie.MeasureT-loop
 loop-holds : tie.Need-loop-holds Inv-loop μ-loop
 loop-holds c =
     let z : 0 * c .before .args .layout .stride ≡ 0 = omega arith in
-    (first-slot (c .slot .ensures .0) (c .slot .ensures .1), rw (c .slot .ensures .0, sub-zero (c .before .args .used), z))
+    (c .slot .ensures .1, rw (c .slot .ensures .0, sub-zero (c .before .args .used), z))
 
 -- a turn, at a slot in use
 module _ (c : tie.Then1 Inv-loop μ-loop) where
@@ -32,7 +32,7 @@ module _ (c : tie.Then1 Inv-loop μ-loop) where
   s = at-loop .loop .slot .id .0
 
   used-slot : InUse (start .args .layout) (start .args .used) (at-loop .loop .slot) (start .args .table .now)
-  used-slot = in-use (at-loop .loop .inv .0) (c .before .is-below .ensures) (c .if1 .taken) (start .args .table .now) (start .pre .apart) (start .pre .table)
+  used-slot = in-use _ _ _ _ (at-loop .loop .inv .0) (c .before .is-below .ensures) (c .if1 .taken) (start .pre .apart) (start .pre .table)
 
 row-of-requires : tie.Need-row-of-requires Inv-loop μ-loop
 row-of-requires c κs = (used-slot c .placed, used-slot c .row)
@@ -69,14 +69,13 @@ loop-less c = omega (arith, used-slot (turn-of (c .before .before)) .below, c .a
 
 loop-again : tie.Need-loop-again Inv-loop μ-loop
 loop-again c =
-    let p = turn-of (c .before .before) in
     let e = c .after .ensures in
-    (next-slot (at-loop p .loop .inv .0) (used-slot p .below) (e .0) (e .1), rw (e .0) (turn (c .before .before) false (c .before .if2 .left)))
+    (e .1, rw (e .0) (turn (c .before .before) false (c .before .if2 .left)))
 
 returns-2 : tie.Need-returns-2 Inv-loop μ-loop
 returns-2 c =
     let b = c .before .before in
-    sym (b .loop .inv .1 ∙ rw (none-left (b .loop .inv .0) (c .before .is-below .ensures) (c .if1 .left)))
+    sym (b .loop .inv .1 ∙ rw (none-left _ _ (c .before .is-below .ensures) (c .if1 .left)))
 
 pub covered-spec : {M : Type 1} → statement M
 covered-spec =

@@ -5,8 +5,8 @@ use Rattle.semantics.proofs.Tidy.{queue-in-more}
 use Rattle.words.proofs.Rows.{span, part-length, length-put, drop-put}
 use Rattle.state.specs.declared.Layout.{Layout}
 use Rattle.state.specs.declared.SlotRow.{SlotRow}
-use Rattle.state.specs.Rows.{width-of, row-merge, same-words, rows-merge, rows-of}
-use Rattle.state.proofs.Slots.{OnSlot, InUse, first-slot, in-use, none-left, next-slot, place-after, place-of, put-slot, slot-length, slot, merge-turn}
+use Rattle.state.specs.Rows.{width-of, Placed, row-merge, same-words, rows-merge, rows-of}
+use Rattle.state.proofs.Slots.{InUse, in-use, none-left, place-after, place-of, put-slot, slot-length, slot, merge-turn}
 use Rattle.waitlist.specs.Waits.{waits, Stored}
 use Rattle.waitlist.proofs.WaitWords.{waits-are, kept}
 use Rattle.reached.specs.Reached.{rewaits}
@@ -16,7 +16,7 @@ use Rattle.reached.proofs.merge_slots.Tie as tie
 
 abbrev Inv-loop : tie.InvT-loop
 Inv-loop layout table₀ used e list₀ waiting width count₀ slot₀ table list count slot =
-    OnSlot layout used slot
+    Placed layout slot
     × (length table ≡ length table₀)
     × (rows-merge e layout used table₀ ≡ take (slot .at) table ++ rows-merge e layout (used - slot .id .0) (drop (slot .at) table))
     × (length list ≡ length list₀)
@@ -33,7 +33,7 @@ loop-holds c =
     let s = c .slot .ensures in
     let n = sub-zero (a .used) in
     let z : c .slot .result .at ≡ 0 = omega (arith, place-of (a .layout) (c .slot .result) (s .1) 0 (s .0)) in
-    (first-slot (s .0) (s .1), refl, rw (s .0, z, n), refl, c .before .pre .1 .0, c .before .pre .1 .1, rw (s .0, z, n))
+    (s .1, refl, rw (s .0, z, n), refl, c .before .pre .1 .0, c .before .pre .1 .1, rw (s .0, z, n))
 
 -- a turn, at a slot in use
 module _ (c : tie.Then1 Inv-loop μ-loop) where
@@ -53,7 +53,7 @@ module _ (c : tie.Then1 Inv-loop μ-loop) where
   table = at-loop .loop .table
 
   used-slot : InUse layout (start .args .used) slot-at table
-  used-slot = in-use (at-loop .loop .inv .0) (c .before .is-below .ensures) (c .if1 .taken) table (start .pre .0 .apart) (omega (arith, start .pre .0 .table, at-loop .loop .inv .1))
+  used-slot = in-use _ _ _ _ (at-loop .loop .inv .0) (c .before .is-below .ensures) (c .if1 .taken) (start .pre .0 .apart) (omega (arith, start .pre .0 .table, at-loop .loop .inv .1))
 
   inside : slot-at .at + length (start .args .e .now) ≤ length table
   inside = omega (arith, used-slot .row, start .pre .0 .row)
@@ -102,8 +102,8 @@ loop-again c =
     let now-waits = waits-are (j .ensures) in
     let past : drop (at + y .stride) (take at t ++ (ws ++ drop (width-of y) (drop at t))) ≡ drop (y .stride) (drop at t) =
     rw (put-slot t at (width-of y) (y .stride) ws (u .slot) (g .apart) len) (drop-put t at (y .stride) (slot t at (width-of y) (y .stride) ws (u .slot) (g .apart) len) (u .slot) (slot-length t at (width-of y) (y .stride) ws (u .slot) (g .apart) len)) in
-    let place = place-after (b .loop .inv .0) (u .below) (n .0) (n .1) in (
-      next-slot (b .loop .inv .0) (u .below) (n .0) (n .1),
+    let place = place-after y (slot-at p) (c .after .result) (b .loop .inv .0) (n .0) (n .1) in (
+      n .1,
       rw (span, g .row) (length-put t at (width-of y) ws (omega (arith, inside p, g .row)) len) ∙ b .loop .inv .1,
       rw (span, g .row, n .0, place) (b .loop .inv .2 ∙ rw k (merge-turn (a .e .now) t y at (a .used - (s + 1)) ws (u .slot) (g .apart) len is-merged)),
       j .kept .1 .0 ∙ b .loop .inv .3,
@@ -115,7 +115,7 @@ loop-again c =
 returns : tie.Need-returns Inv-loop μ-loop
 returns c =
     let b = c .before .before in
-    let n = none-left (b .loop .inv .0) (c .before .is-below .ensures) (c .if1 .left) in
+    let n = none-left (b .before .before .args .used) (b .loop .slot .id .0) (c .before .is-below .ensures) (c .if1 .left) in
     (sym (b .loop .inv .2 ∙ rw n (take-append-drop (b .loop .slot .at) (b .loop .table))), rw (b .loop .inv .6, n) (b .loop .inv .4))
 
 pub merge-slots-spec : {M : Type 1} → statement M
