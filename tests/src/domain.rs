@@ -5,7 +5,8 @@
 
 use std::ops::{Add, Sub};
 
-use crate::chart::{Chart, Edge, Operand, Operation, Relation, Variable, MAX_VARIABLES};
+use crate::chart::{Chart, Edge, Operand, Operation, Variable, MAX_VARIABLES};
+use Value::{Known, Unknown};
 
 /// Document 01's "unspecific", as the lent words write it; no variable can hold it.
 pub const TOP: i32 = 32_768;
@@ -83,21 +84,17 @@ pub fn transfer(chart: &Chart, edge: &Edge, source: &[i32], successor: &mut [i32
             Move::Successor
         }
         Operation::If { target, relation, right } => {
-            let left = Operand::Variable(target);
-            let passes = match (known(source, left), known(source, right)) {
-                (Some(left), Some(right)) => relation.holds(left, right),
-                (Some(value), None) if relation == Relation::Eq => {
-                    specify(chart, right, value, successor)
+            let value_of = |operand| value_of(source, operand);
+            match (value_of(Operand::Variable(target)), value_of(right)) {
+                (Known(left), Known(right)) if relation.holds(left, right) => Move::Successor,
+                (Known(_), Known(_)) => Move::Blocked,
+                (Unknown(left), Known(right)) => {
+                    narrow(chart, left, successor, |left| relation.holds(left, right))
                 }
-                (None, Some(value)) if relation == Relation::Eq => {
-                    specify(chart, left, value, successor)
+                (Known(left), Unknown(right)) => {
+                    narrow(chart, right, successor, |right| relation.holds(left, right))
                 }
-                _ => true,
-            };
-            if passes {
-                Move::Successor
-            } else {
-                Move::Blocked
+                (Unknown(_), Unknown(_)) => Move::Successor,
             }
         }
     }
@@ -130,19 +127,12 @@ pub fn result(
 
 /// The known value, or all of the declared range.
 fn span(variables: &[Variable], source: &[i32], operand: Operand) -> Span {
-    match operand {
-        Operand::Variable(variable) if source[variable + 1] == TOP => {
+    match value_of(source, operand) {
+        Known(value) => Span { low: value, high: value, unknown: 0 },
+        Unknown(variable) => {
             let Variable { low, high, .. } = variables[variable];
             Span { low, high, unknown: 1 }
         }
-        Operand::Variable(variable) => Span::of(source[variable + 1]),
-        Operand::Number(number) => Span::of(number),
-    }
-}
-
-impl Span {
-    fn of(value: i32) -> Self {
-        Span { low: value, high: value, unknown: 0 }
     }
 }
 
@@ -172,20 +162,38 @@ impl Sub for Span {
     }
 }
 
-fn known(state: &[i32], operand: Operand) -> Option<i32> {
+/// What an abstract state says of an operand.
+#[derive(Clone, Copy, Debug, PartialEq, Eq)]
+pub enum Value {
+    Known(i32),
+    /// Of this variable, unspecific.
+    Unknown(usize),
+}
+
+pub fn value_of(state: &[i32], operand: Operand) -> Value {
     match operand {
-        Operand::Number(number) => Some(number),
-        Operand::Variable(variable) => Some(state[variable + 1]).filter(|&value| value != TOP),
+        Operand::Number(number) => Value::Known(number),
+        Operand::Variable(variable) => match state[variable + 1] {
+            TOP => Value::Unknown(variable),
+            value => Value::Known(value),
+        },
     }
 }
 
-/// Gives the unspecific side of a passed `eq` the value of the known side.
-fn specify(chart: &Chart, side: Operand, value: i32, successor: &mut [i32]) -> bool {
-    match side {
-        Operand::Number(_) => true,
-        Operand::Variable(variable) => {
-            successor[variable + 1] = value;
-            chart.variables[variable].contains(value)
-        }
+/// Counts the values of an unspecific variable's range that satisfy a condition: none blocks the move,
+/// one becomes known, more leave the variable as it is.
+fn narrow(
+    chart: &Chart,
+    variable: usize,
+    successor: &mut [i32],
+    is_satisfied: impl Fn(i32) -> bool,
+) -> Move {
+    let Variable { low, high, .. } = chart.variables[variable];
+    let mut satisfying = (low..=high).filter(|&value| is_satisfied(value));
+    match (satisfying.next(), satisfying.next()) {
+        (None, _) => return Move::Blocked,
+        (Some(only), None) => successor[variable + 1] = only,
+        (Some(_), Some(_)) => {}
     }
+    Move::Successor
 }
