@@ -13,7 +13,7 @@ pub struct Worked {
 
 /// The worked cases of `tests/cases`.
 pub fn cases() -> Vec<Worked> {
-    in_folder("cases", 305)
+    in_folder("cases", 370)
 }
 
 /// The charts of `examples` that a trainer would know.

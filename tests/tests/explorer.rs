@@ -72,7 +72,7 @@ fn some_value_overruns_or_none_does() {
     }
 }
 
-/// The analysis does not see the condition, which keeps every run from overrunning.
+/// The condition keeps every run from overrunning, but leaves three values, of which the analysis knows none.
 #[test]
 fn an_overrun_of_no_run() {
     let chart = chart("V x 0 3 *\nL a o\nL b o\nE 0 1 if $0 lt 3\nE 1 0 add $0 $0 1");

@@ -1,5 +1,5 @@
-//! Document 01's marked and worked cases, and what request 2.1 makes of them, on the modules and the
-//! calls themselves.
+//! Document 01's marked and worked cases, and what requests 2.1 and 2.6 make of them, on the modules
+//! and the calls themselves.
 
 mod common;
 
@@ -123,6 +123,60 @@ fn conditions_on_an_unspecific_variable() {
     assert_eq!(with("eq 1"), Ok(vec![1]));
     assert_eq!(with("eq 12"), Err(Move::Blocked));
     assert_eq!(with("ne 1"), Ok(vec![TOP]));
+    // And by 2.6, which counts for every relation.
+    assert_eq!(with("gt 8"), Ok(vec![9]));
+    assert_eq!(with("gt 9"), Err(Move::Blocked));
+    assert_eq!(with("gt 7"), Ok(vec![TOP]));
+    assert_eq!(with("lt 1"), Ok(vec![0]));
+    assert_eq!(with("lt 0"), Err(Move::Blocked));
+    assert_eq!(with("ge 9"), Ok(vec![9]));
+    assert_eq!(with("le 0"), Ok(vec![0]));
+}
+
+/// The relation is read in the order of its sides, whichever of them is known.
+#[test]
+fn a_known_variable_on_the_left() {
+    let with = |relation: &str, known: i32| {
+        step_of_two(("-9 19", "0 9"), &format!("if $0 {relation} $1"), [known, TOP])
+    };
+    for (relation, none, one, value, more) in [
+        ("eq", 10, 9, 9, None),
+        ("lt", 9, 8, 9, Some(7)),
+        ("le", 10, 9, 9, Some(8)),
+        ("gt", 0, 1, 0, Some(2)),
+        ("ge", -1, 0, 0, Some(1)),
+    ] {
+        assert_eq!(with(relation, none), Err(Move::Blocked), "{relation}");
+        assert_eq!(with(relation, one), Ok(vec![one, value]), "{relation}");
+        if let Some(more) = more {
+            assert_eq!(with(relation, more), Ok(vec![more, TOP]), "{relation}");
+        }
+    }
+    assert_eq!(with("ne", 9), Ok(vec![9, TOP]));
+}
+
+#[test]
+fn unequal_on_short_ranges() {
+    let with = |range: &str, number: i32| {
+        step(&format!("V y {range} *\nL a o\nE 0 0 if $0 ne {number}"), &[TOP])
+    };
+    assert_eq!(with("5 5", 5), Err(Move::Blocked));
+    assert_eq!(with("5 5", 4), Ok(vec![5]), "known, though the condition says nothing new");
+    assert_eq!(with("4 5", 4), Ok(vec![5]));
+    assert_eq!(with("4 5", 5), Ok(vec![4]));
+    assert_eq!(with("4 5", 6), Ok(vec![TOP]));
+    assert_eq!(with("4 6", 5), Ok(vec![TOP]), "4 and 6 are left");
+}
+
+#[test]
+fn without_a_known_side_conditions_pass_unchanged() {
+    for relation in ["eq", "ne", "lt", "le", "gt", "ge"] {
+        for right in ["$0", "$1"] {
+            let condition = format!("if $0 {relation} {right}");
+            let passed = step_of_two(("5 5", "6 6"), &condition, [TOP, TOP]);
+            assert_eq!(passed, Ok(vec![TOP, TOP]), "{condition}");
+        }
+    }
 }
 
 #[test]
@@ -219,7 +273,7 @@ fn an_unspecific_variable_of_one_value() {
 fn conditions_and_inputs_do_not_overrun() {
     for (operation, expected) in [
         ("if $0 eq 9", Err(Move::Blocked)),
-        ("if $0 gt 32767", Ok(vec![TOP, TOP])),
+        ("if $0 gt 32767", Err(Move::Blocked)),
         ("if $0 lt $1", Ok(vec![TOP, TOP])),
         ("in $0 0 3", Ok(vec![TOP, TOP])),
         ("in $0 3 3", Ok(vec![3, TOP])),

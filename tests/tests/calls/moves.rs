@@ -78,22 +78,47 @@ fn if_moves() {
             assert_eq!(with(relation, &literal, values), expected, "{relation} {values:?}");
         }
     }
-    // With eq the unspecific side takes the known one's value if it can, on either side.
-    assert_eq!(with("eq", "$1", [TOP, 9]), Ok([9, 9]));
-    assert_eq!(with("eq", "$1", [TOP, 10]), BLOCKED);
-    assert_eq!(with("eq", "$1", [5, TOP]), Ok([5, 5]));
-    assert_eq!(with("eq", "$1", [4, TOP]), BLOCKED);
-    assert_eq!(with("eq", "0", [TOP, TOP]), Ok([0, TOP]));
-    assert_eq!(with("eq", "-1", [TOP, TOP]), BLOCKED);
-    // Every other case passes unchanged, even where no value could hold.
-    for relation in &RELATIONS[1..] {
-        for right in ["$1", "12", "-1", "4"] {
-            assert_eq!(with(relation, right, [TOP, 9]), Ok([TOP, 9]));
-            assert_eq!(with(relation, right, [TOP, TOP]), Ok([TOP, TOP]));
-        }
-        assert_eq!(with(relation, "$1", [4, TOP]), Ok([4, TOP]));
+    // One side known: of the other's range no value is left, one, which becomes known, or more.
+    for (relation, right, values, expected) in [
+        ("eq", "-1", [TOP, TOP], BLOCKED),
+        ("eq", "0", [TOP, TOP], Ok([0, TOP])),
+        ("eq", "$1", [TOP, 9], Ok([9, 9])),
+        ("eq", "$1", [TOP, 10], BLOCKED),
+        ("eq", "$1", [4, TOP], BLOCKED),
+        ("eq", "$1", [5, TOP], Ok([5, 5])),
+        ("ne", "0", [TOP, TOP], Ok([TOP, TOP])),
+        ("ne", "$1", [TOP, 9], Ok([TOP, 9])),
+        ("ne", "$1", [5, TOP], Ok([5, TOP])),
+        ("lt", "0", [TOP, TOP], BLOCKED),
+        ("lt", "1", [TOP, TOP], Ok([0, TOP])),
+        ("lt", "2", [TOP, TOP], Ok([TOP, TOP])),
+        ("lt", "$1", [TOP, 9], Ok([TOP, 9])),
+        ("lt", "$1", [4, TOP], Ok([4, TOP])),
+        ("le", "-1", [TOP, TOP], BLOCKED),
+        ("le", "0", [TOP, TOP], Ok([0, TOP])),
+        ("le", "1", [TOP, TOP], Ok([TOP, TOP])),
+        ("le", "$1", [5, TOP], Ok([5, TOP])),
+        ("gt", "9", [TOP, TOP], BLOCKED),
+        ("gt", "8", [TOP, TOP], Ok([9, TOP])),
+        ("gt", "7", [TOP, TOP], Ok([TOP, TOP])),
+        ("gt", "$1", [TOP, 9], BLOCKED),
+        ("gt", "$1", [TOP, 8], Ok([9, 8])),
+        ("gt", "$1", [5, TOP], BLOCKED),
+        ("gt", "$1", [6, TOP], Ok([6, 5])),
+        ("gt", "$1", [7, TOP], Ok([7, TOP])),
+        ("ge", "10", [TOP, TOP], BLOCKED),
+        ("ge", "9", [TOP, TOP], Ok([9, TOP])),
+        ("ge", "8", [TOP, TOP], Ok([TOP, TOP])),
+        ("ge", "$1", [4, TOP], BLOCKED),
+        ("ge", "$1", [5, TOP], Ok([5, 5])),
+        ("ge", "$1", [6, TOP], Ok([6, TOP])),
+    ] {
+        assert_eq!(with(relation, right, values), expected, "{relation} {right} on {values:?}");
     }
-    assert_eq!(with("eq", "$1", [TOP, TOP]), Ok([TOP, TOP]));
+    // No side known passes unchanged.
+    for relation in RELATIONS {
+        assert_eq!(with(relation, "$1", [TOP, TOP]), Ok([TOP, TOP]));
+    }
     // A variable against itself: known it decides, unspecific it passes.
     for relation in RELATIONS {
         let holds = ["eq", "le", "ge"].contains(&relation);
