@@ -156,7 +156,10 @@ impl Analysis {
             let edge = chart.edge(id);
             let moved = domain::transfer(chart, edge, source, successor);
             match moved {
-                Move::Blocked => continue,
+                Move::Blocked => {
+                    corner::note_comparison(&mut self.corners, chart, edge.operation, source, None);
+                    continue;
+                }
                 Move::Overrun => {
                     corner::note_result(&mut self.corners, chart, edge.operation, source);
                     let is_any_stored = self.reached.len() > used_before;
@@ -187,6 +190,8 @@ impl Analysis {
             // Only of a successor that is left in the table: others come by far too often.
             if is_new || is_widening {
                 corner::note_result(&mut self.corners, chart, edge.operation, source);
+                let passed = Some(&*successor);
+                corner::note_comparison(&mut self.corners, chart, edge.operation, source, passed);
             }
         }
         if self.waitlist.is_empty() {

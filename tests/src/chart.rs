@@ -71,7 +71,7 @@ pub enum Operand {
     Variable(usize),
 }
 
-#[derive(Clone, Copy, Debug, PartialEq, Eq)]
+#[derive(Clone, Copy, Debug, PartialEq, Eq, PartialOrd, Ord)]
 pub enum Relation {
     Eq,
     Ne,

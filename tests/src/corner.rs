@@ -2,8 +2,8 @@
 
 use std::collections::BTreeSet;
 
-use crate::chart::{Chart, Operand, Operation, Variable};
-use crate::domain::{self, TOP};
+use crate::chart::{Chart, Operand, Operation, Relation, Variable};
+use crate::domain::{self, value_of, Value, TOP};
 
 #[derive(Clone, Copy, Debug, PartialEq, Eq, PartialOrd, Ord)]
 pub enum Corner {
@@ -29,12 +29,36 @@ pub enum Corner {
     OverrunAfterStored,
     /// An overrun after an earlier edge of the iteration widened a slot.
     OverrunAfterWidened,
+    /// A comparison of a known value with an unspecific variable that has no successor, or one that is
+    /// left in the table; `low` and `high` are where the value lies beside the variable's range.
+    Comparison { relation: Relation, known: KnownSide, rest: Rest, low: End, high: End },
+    /// A comparison of two unspecific variables, or of one with itself.
+    NoneKnown { relation: Relation, is_itself: bool },
 }
 
-/// Where a result ends, beside the target's range.
+/// Which side of a comparison is known; a number stands on the right alone.
+#[derive(Clone, Copy, Debug, PartialEq, Eq, PartialOrd, Ord)]
+pub enum KnownSide {
+    Left,
+    Right,
+    Number,
+}
+
+/// What a comparison leaves of the range of an unspecific variable.
+#[derive(Clone, Copy, Debug, PartialEq, Eq, PartialOrd, Ord)]
+pub enum Rest {
+    Nothing,
+    /// All there is, so that the comparison says nothing new; the value becomes known still.
+    OnlyValue,
+    OneOfSeveral,
+    Several,
+}
+
+/// Where a number lies beside one end of a range.
 #[derive(Clone, Copy, Debug, PartialEq, Eq, PartialOrd, Ord)]
 pub enum End {
     Inside,
+    OneInside,
     AtBound,
     OnePast,
     FarPast,
@@ -47,7 +71,8 @@ impl End {
 
     fn beyond_bound_by(distance: i32) -> Self {
         match distance {
-            ..0 => End::Inside,
+            ..-1 => End::Inside,
+            -1 => End::OneInside,
             0 => End::AtBound,
             1 => End::OnePast,
             _ => End::FarPast,
@@ -89,4 +114,39 @@ pub fn note_result(
     if operands.into_iter().any(is_of_one_value) {
         corners.insert(Corner::OneValue { overruns });
     }
+}
+
+/// How a comparison with an unspecific side came out; `None` where it has no successor.
+pub fn note_comparison(
+    corners: &mut BTreeSet<Corner>,
+    chart: &Chart,
+    operation: Operation,
+    source: &[i32],
+    successor: Option<&[i32]>,
+) {
+    let Operation::If { target, relation, right } = operation else {
+        return;
+    };
+    let left = value_of(source, Operand::Variable(target));
+    let (value, variable, known) = match (left, value_of(source, right)) {
+        (Value::Known(_), Value::Known(_)) => return,
+        (Value::Unknown(left), Value::Unknown(right)) => {
+            corners.insert(Corner::NoneKnown { relation, is_itself: left == right });
+            return;
+        }
+        (Value::Known(value), Value::Unknown(variable)) => (value, variable, KnownSide::Left),
+        (Value::Unknown(variable), Value::Known(value)) => match right {
+            Operand::Variable(_) => (value, variable, KnownSide::Right),
+            Operand::Number(_) => (value, variable, KnownSide::Number),
+        },
+    };
+    let Variable { low, high, .. } = chart.variables[variable];
+    let rest = match successor.map(|successor| successor[variable + 1]) {
+        None => Rest::Nothing,
+        Some(TOP) => Rest::Several,
+        Some(_) if low == high => Rest::OnlyValue,
+        Some(_) => Rest::OneOfSeveral,
+    };
+    let (low, high) = (End::beyond_bound_by(low - value), End::beyond_bound_by(value - high));
+    corners.insert(Corner::Comparison { relation, known, rest, low, high });
 }

@@ -4,7 +4,8 @@ use std::collections::{BTreeMap, BTreeSet};
 use std::fmt::Debug;
 
 use crate::analysis::{Analysis, Merge, Order, Settings, Verdict, MAX_CAPACITY};
-use crate::corner::{Corner, End};
+use crate::chart::Relation;
+use crate::corner::{Corner, End, KnownSide, Rest};
 use crate::random::permitted_settings;
 
 /// How often each label was met.
@@ -91,7 +92,12 @@ pub fn corner_labels_of(analysis: &Analysis) -> BTreeSet<String> {
             Corner::Result { operation, unknown, low, high } => {
                 labels.extend(result_labels(operation, unknown, low, high));
             }
-            Corner::OneValue { .. } => labels.extend([format!("{corner:?}")]),
+            Corner::Comparison { relation, known, rest, low, high } => {
+                labels.extend(comparison_labels(relation, known, rest, low, high));
+            }
+            Corner::OneValue { .. } | Corner::NoneKnown { .. } => {
+                labels.extend([format!("{corner:?}")]);
+            }
             _ => labels.extend([format!("{corner:?} {order}")]),
         }
     }
@@ -126,6 +132,31 @@ fn result_labels(operation: &str, unknown: usize, low: End, high: End) -> Vec<St
         }
     }
     labels
+}
+
+/// What a comparison leaves, and where the known value lies beside the range.
+fn comparison_labels(
+    relation: Relation,
+    known: KnownSide,
+    rest: Rest,
+    low: End,
+    high: End,
+) -> Vec<String> {
+    let comparison = comparison_label(relation, known);
+    let mut labels = vec![format!("{comparison}, leaves {rest:?}")];
+    if low < End::AtBound && high < End::AtBound {
+        labels.push(format!("{comparison}, within"));
+    }
+    for (name, end) in [("low", low), ("high", high)] {
+        if end != End::Inside {
+            labels.push(format!("{comparison}, {end:?} {name}"));
+        }
+    }
+    labels
+}
+
+fn comparison_label(relation: Relation, known: KnownSide) -> String {
+    format!("if {}, {known:?} known", relation.word())
 }
 
 /// Every label that `corner_labels_of` gives.
@@ -167,5 +198,23 @@ pub fn corner_labels() -> Vec<String> {
         );
     }
     labels.extend([true, false].map(|overruns| format!("{:?}", Corner::OneValue { overruns })));
+    for relation in Relation::ALL {
+        for is_itself in [true, false] {
+            labels.push(format!("{:?}", Corner::NoneKnown { relation, is_itself }));
+        }
+        for known in [KnownSide::Left, KnownSide::Right, KnownSide::Number] {
+            let comparison = comparison_label(relation, known);
+            labels.push(format!("{comparison}, within"));
+            for end in [End::OneInside, End::AtBound, End::OnePast, End::FarPast] {
+                labels.extend(["low", "high"].map(|name| format!("{comparison}, {end:?} {name}")));
+            }
+            for rest in [Rest::Nothing, Rest::OnlyValue, Rest::OneOfSeveral, Rest::Several] {
+                // One value at most is equal to the known one.
+                if (relation, rest) != (Relation::Eq, Rest::Several) {
+                    labels.push(format!("{comparison}, leaves {rest:?}"));
+                }
+            }
+        }
+    }
     labels
 }

@@ -174,7 +174,7 @@ pub fn brink(random: &mut Random) -> Chart {
         to: LocationId(to),
         operation,
     };
-    // Behind a condition on an unknown variable, of which the analysis knows no more there, runs may fit.
+    // Behind a condition on an unknown variable, of which the analysis seldom knows more there, runs may fit.
     let (unknown, from) = (random.pick(&[1, 2]), random.pick(&[0, 1]));
     let mut edges = vec![
         lead(0, 1, operations.condition(random, unknown)),
@@ -205,11 +205,66 @@ fn beside(random: &mut Random, variables: &[Variable], computation: Operation) -
     }
 }
 
+/// As small as `SMALL`, with conditions between an unspecific variable and values at the ends of its range or
+/// beside them: each leads to a location of its own, from where it goes on.
+pub fn gates(random: &mut Random) -> Chart {
+    let (lowest, highest) = (*NUMBERS.start(), *NUMBERS.end());
+    let reach = random.pick(&[0, 0, 0, 1, 1, 2, 3, 4]);
+    let low = random.pick(&[lowest, highest - reach, -reach, -1, 0, 1, 2]);
+    let unspecific = Variable { name: name(random, 0), low, high: low + reach, init: None };
+    let known = |random: &mut Random, index: usize| {
+        let value = operations::threshold(random, &unspecific);
+        let low = (value - random.between(0, 2)).max(lowest);
+        let high = (value + random.between(0, 2)).min(highest);
+        Variable { name: name(random, index), low, high, init: Some(value) }
+    };
+    let mut variables = vec![unspecific, known(random, 1), known(random, 2)];
+    if random.percent(15) {
+        variables[2].init = None;
+    }
+
+    let count = random.pick(&[8, 12, 16]);
+    let has_error = random.percent(20);
+    let locations: Vec<Location> = (0..count)
+        .map(|index| {
+            let is_error = has_error && index + 1 == count;
+            Location { name: name(random, index), is_error }
+        })
+        .collect();
+    let operations =
+        Operations { variables: &variables, risk: random.pick(&[0, 10]), has_long_counts: false };
+    let gate = |random: &mut Random| {
+        let relation = random.pick(&Relation::ALL);
+        let other = random.pick(&[1, 2]);
+        let (target, right) = match random.below(12) {
+            0 => (0, Operand::Variable(0)),
+            1..=3 => (0, Operand::Number(operations::threshold(random, &variables[0]))),
+            4..=7 => (0, Operand::Variable(other)),
+            _ => (other, Operand::Variable(0)),
+        };
+        Operation::If { target, relation, right }
+    };
+    let mut edges = Vec::new();
+    for to in (1..count).map(LocationId) {
+        edges.push(Edge { from: Chart::START, to, operation: gate(random) });
+        // Past a gate that leaves one value a count may fit.
+        let operation = match random.below(10) {
+            0 => operations::counting(random, 0),
+            1..=4 => operations.any(random),
+            _ => continue,
+        };
+        edges.push(Edge { from: to, to: LocationId(random.below(count)), operation });
+    }
+    random.shuffle(&mut edges);
+    Chart { variables, locations, edges }
+}
+
 /// Any of those that have few enough states to go through all of them.
 pub fn small(random: &mut Random) -> Chart {
     match random.below(20) {
         0..=2 => hub(random),
         3..=5 => brink(random),
+        6 | 7 => gates(random),
         _ => chart(random, SMALL),
     }
 }

@@ -7,7 +7,7 @@ use crate::renderer::render;
 
 /// A go line and a chart, of which about a third have been damaged.
 pub fn program_input(random: &mut Random) -> Vec<u8> {
-    if random.percent(30) {
+    if random.percent(40) {
         return corner_input(random);
     }
     let chart = chart(random);
@@ -27,21 +27,23 @@ pub fn program_input(random: &mut Random) -> Vec<u8> {
 }
 
 /// An accepted input for what few others meet: all 256 slots used, a taken slot that waits again
-/// when its iteration ends in an alarm or in a full table, or an overrun of each sort.
+/// when its iteration ends in an alarm or in a full table, an overrun of each sort, or a comparison
+/// of each sort with one side unspecific.
 fn corner_input(random: &mut Random) -> Vec<u8> {
     let (sep, join) = (&permitted_settings()[..2], &permitted_settings()[2..]);
-    let (chart, settings, capacity) = match random.below(10) {
+    let (chart, settings, capacity) = match random.below(14) {
         0 | 1 => (charts::fan(random), random.pick(sep), 256),
         2..=5 => {
             let (chart, settings) = (charts::hub(random), random.pick(join));
             let capacity = tight_capacity(random, &chart, settings);
             (chart, settings, capacity)
         }
-        _ => {
+        6..=10 => {
             let (chart, settings) = (charts::brink(random), random.settings());
             let capacity = capacity(random, &chart, settings);
             (chart, settings, capacity)
         }
+        _ => (charts::gates(random), random.settings(), 256),
     };
     let budget = match random.percent(10) {
         true => tight_budget(random, &chart, settings, capacity),
@@ -52,12 +54,13 @@ fn corner_input(random: &mut Random) -> Vec<u8> {
 
 /// A chart of any shape.
 pub fn chart(random: &mut Random) -> Chart {
-    let shape = match random.below(20) {
+    let shape = match random.below(22) {
         0..=3 => charts::LARGE,
         4 | 5 => charts::DEEP,
         6..=8 => return charts::hub(random),
         9..=12 => return charts::brink(random),
-        13..=15 => return charts::fan(random),
+        13 | 14 => return charts::gates(random),
+        15..=17 => return charts::fan(random),
         _ => charts::SMALL,
     };
     charts::chart(random, shape)

@@ -61,9 +61,10 @@ impl Operations<'_> {
 
     pub fn condition(&self, random: &mut Random, target: usize) -> Operation {
         let relation = random.pick(&Relation::ALL);
-        let right = match random.percent(40) {
-            true => self.variable(random),
-            false => Operand::Number(literal(random, &self.variables[target])),
+        let right = match random.below(10) {
+            0..=3 => self.variable(random),
+            4..=6 => Operand::Number(threshold(random, &self.variables[target])),
+            _ => Operand::Number(literal(random, &self.variables[target])),
         };
         Operation::If { target, relation, right }
     }
@@ -171,6 +172,14 @@ pub fn counting(random: &mut Random, target: usize) -> Operation {
         0 => Operation::Sub { target, left, right },
         _ => Operation::Add { target, left, right },
     }
+}
+
+/// At an end of the range, a little within it or a little past it: compared with it, about one value is
+/// left of the range, or nothing, or all of it.
+pub fn threshold(random: &mut Random, variable: &Variable) -> i32 {
+    let end = random.pick(&[variable.low, variable.high]);
+    let aside = random.pick(&[-2, -1, -1, 0, 0, 1, 1, 2]);
+    (end + aside).clamp(*NUMBERS.start(), *NUMBERS.end())
 }
 
 /// Inside the range, beside it, or at the ends of all numbers.
