@@ -94,13 +94,8 @@ pub fn hub(random: &mut Random) -> Chart {
     if random.percent(70) {
         variables.iter_mut().for_each(|variable| variable.init = Some(variable.low));
     }
-    let (count, has_error) = (random.pick(&[3, 4, 5]), random.percent(60));
-    let locations: Vec<Location> = (0..count)
-        .map(|index| {
-            let is_error = has_error && index + 1 == count;
-            Location { name: name(random, index), is_error }
-        })
-        .collect();
+    let count = random.pick(&[3, 4, 5]);
+    let locations = ending_in_error(random, count, 60);
     let mut ends: Vec<(usize, usize)> =
         [0, 0].into_iter().chain(1..count).map(|to| (0, to)).collect();
     let others = ends.len() - usize::from(random.percent(70));
@@ -161,13 +156,7 @@ pub fn brink(random: &mut Random) -> Chart {
     variables[target] = variable(random, target, range, is_known);
 
     let count = random.pick(&[2, 3, 4]);
-    let has_error = random.percent(20);
-    let locations: Vec<Location> = (0..count)
-        .map(|index| {
-            let is_error = has_error && index + 1 == count;
-            Location { name: name(random, index), is_error }
-        })
-        .collect();
+    let locations = ending_in_error(random, count, 20);
     let operations = Operations { variables: &variables, risk: 0, has_long_counts: false };
     let lead = |from: usize, to: usize, operation: Operation| Edge {
         from: LocationId(from),
@@ -224,13 +213,7 @@ pub fn gates(random: &mut Random) -> Chart {
     }
 
     let count = random.pick(&[8, 12, 16]);
-    let has_error = random.percent(20);
-    let locations: Vec<Location> = (0..count)
-        .map(|index| {
-            let is_error = has_error && index + 1 == count;
-            Location { name: name(random, index), is_error }
-        })
-        .collect();
+    let locations = ending_in_error(random, count, 20);
     let operations =
         Operations { variables: &variables, risk: random.pick(&[0, 10]), has_long_counts: false };
     let gate = |random: &mut Random| {
@@ -314,6 +297,17 @@ fn locations(random: &mut Random, shape: Shape) -> Vec<Location> {
         .map(|index| {
             let percent = if index == 0 { errors / 3 } else { errors };
             Location { name: name(random, index), is_error: random.percent(percent) }
+        })
+        .collect()
+}
+
+/// So many, the last of them an error location in so many percent of all charts.
+fn ending_in_error(random: &mut Random, count: usize, percent: usize) -> Vec<Location> {
+    let has_error = random.percent(percent);
+    (0..count)
+        .map(|index| {
+            let is_error = has_error && index + 1 == count;
+            Location { name: name(random, index), is_error }
         })
         .collect()
 }

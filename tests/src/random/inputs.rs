@@ -5,7 +5,7 @@ use crate::analysis::{Analysis, Settings, MAX_CAPACITY, MAX_ITERATIONS};
 use crate::chart::Chart;
 use crate::renderer::render;
 
-/// A go line and a chart, of which about a third have been damaged.
+/// A go line and a chart, of which more than a quarter have been damaged.
 pub fn program_input(random: &mut Random) -> Vec<u8> {
     if random.percent(40) {
         return corner_input(random);
