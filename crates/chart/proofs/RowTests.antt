@@ -9,7 +9,8 @@ use Rattle.semantics.specs.Encoding.{kind-word, var-words, loc-words, tag, oper
 use Rattle.semantics.specs.Memory.{below, zeros}
 use Rattle.semantics.proofs.Bools.{and-left, and-right, and-regroup, both-true}
 use Rattle.semantics.proofs.MemoryInForm.{word-back}
-use Rattle.words.proofs.Words.{eqZ-self, eqZ-sym}
+use Rattle.semantics.proofs.Integers.{eqZ-sym}
+use Rattle.words.proofs.Words.{eqZ-self}
 use Rattle.chart.specs.Encoded.{name-word, location-fine, operand-fine, ranged, two-fine, one-fine, input-fine, operands-fine, operation-fine, edge-fine, at-most}
 use Rattle.chart.proofs.Rows.{iff, interchange}
 

@@ -6,7 +6,7 @@ use Rattle.semantics.specs.Layout.{variable-size, location-size}
 use Rattle.semantics.specs.Chart.{Loc, Chart}
 use Rattle.semantics.specs.Encoding.{var-words, loc-words, edge-words, loc-in, several}
 use Rattle.semantics.proofs.Encoded.{each-length, several-back, every-of, every-any, loc-wide, loc-back}
-use Rattle.words.proofs.Words.{eqZ-sym}
+use Rattle.semantics.proofs.Integers.{eqZ-sym}
 use Rattle.words.proofs.Rows.{tail}
 use Rattle.chart.specs.Rows.{stored, rows-size, the-location}
 use Rattle.chart.proofs.Names.{other-name}

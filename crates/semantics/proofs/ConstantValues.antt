@@ -1,19 +1,14 @@
 -- Facts of values, of any number of variables. Assumes nothing.
-use Rattle.semantics.proofs.Prelude.{_≡_, refl, sym, ap, _∙_, subst, _⊎_, inl, inr, Bool, true, false, not, List, [], _∷_, Option, none, some, ℕ, zero, suc, _<_, arith, T, eqb, eqb→eq, length, getD, set, ℤ, pos, negsuc, _+ℤ_, _-ℤ_, leZ}
+use Rattle.semantics.proofs.Prelude.{_≡_, refl, sym, ap, _∙_, subst, _⊎_, inl, inr, Bool, true, false, not, List, [], _∷_, Option, none, some, ℕ, zero, suc, _<_, arith, T, eqb, length, getD, set, ℤ, pos, _+ℤ_, _-ℤ_, leZ}
 use Rattle.semantics.specs.declared.Span.{Span}
 use Rattle.semantics.specs.Lists.{all-pairs, get, map-or, pick}
-use Rattle.semantics.specs.Chart.{Value, known, top, Var, Operand, num, var, Rel, eq, ne, lt, le, gt, ge, Op, assign, add, sub, input, assume, skip, Edge, Chart, eqZ, within, holds, Ranged, Matches₁, Matches, value, Becomes, result-outside, in-range}
+use Rattle.semantics.specs.Chart.{Value, known, top, Var, Operand, num, var, Rel, Op, assign, add, sub, input, assume, skip, Edge, Chart, eqZ, within, holds, Ranged, Matches₁, Matches, value, Becomes, result-outside, in-range}
 use Rattle.semantics.specs.Algorithm.{Step, blocked, fault, to}
-use Rattle.semantics.specs.Constants.{AbstractState, equal-value, leq-value, join-values, operand-value, both, only, range-of, value-span, operand-span, sums, differences, span-in-range, assign-value, computed, refine, one-known, tested, one-of, effect, arrive-at, post}
+use Rattle.semantics.specs.Constants.{AbstractState, equal-value, leq-value, join-values, operand-value, both, only, range-of, value-span, operand-span, sums, differences, span-in-range, assign-value, computed, turned, satisfying, refine, tested, one-of, effect, arrive-at, post}
 use Rattle.semantics.proofs.Bools.{from-true, to-false, and-left, and-right, both-true, not-both}
-use Rattle.semantics.proofs.Integers.{leZ-refl, leZ-antisym, leZ-trans, add-mono, sub-mono}
+use Rattle.semantics.proofs.Integers.{eqZ-same, leZ-antisym, leZ-trans}
+use Rattle.semantics.proofs.Spans.{Among, among-only, among-sums, among-differences, satisfying-has, satisfying-ends, holds-turned}
 use Rattle.semantics.proofs.Covering.{blocked-to, fault-to}
-
-pub eqZ-same : (a b : ℤ) → T (eqZ a b) → a ≡ b
-eqZ-same (pos a) (pos b) t = ap pos (eqb→eq a b t)
-eqZ-same (pos a) (negsuc b) t = absurd t
-eqZ-same (negsuc a) (pos b) t = absurd t
-eqZ-same (negsuc a) (negsuc b) t = ap negsuc (eqb→eq a b t)
 
 -- one value
 equal-value-same : (v w : Value) → T (equal-value v w) → v ≡ w
@@ -99,18 +94,12 @@ matches-set (w ∷ ws) (y ∷ ys) zero v x m h = (h, m .1)
 matches-set (w ∷ ws) (y ∷ ys) (suc k) v x m h = (m .0, matches-set ws ys k v x (m .1) h)
 
 -- a value found out: the state is as it was
-matches-learn : (vs : List Value) (xs : List ℤ) (k : ℕ) (z : ℤ) → Matches vs xs → getD xs k (pos 0) ≡ z → Matches (set vs k (known z)) xs
-matches-learn [] [] k z m h = tt
-matches-learn [] (x ∷ xs) k z m h = absurd m
-matches-learn (v ∷ vs) [] k z m h = absurd m
-matches-learn (v ∷ vs) (x ∷ xs) zero z m h = (sym h, m .1)
-matches-learn (v ∷ vs) (x ∷ xs) (suc k) z m h = (m .0, matches-learn vs xs k z (m .1) h)
-
-ranged-get : (vars : List Var) (xs : List ℤ) (k : ℕ) → Ranged vars xs → T (in-range vars k (getD xs k (pos 0)))
-ranged-get [] xs k r = tt
-ranged-get (v ∷ vs) [] k r = absurd r
-ranged-get (v ∷ vs) (x ∷ xs) zero r = r .0
-ranged-get (v ∷ vs) (x ∷ xs) (suc k) r = ranged-get vs xs k (r .1)
+matches-learn : (vs : List Value) (xs : List ℤ) (k : ℕ) (v : Value) → Matches vs xs → Matches₁ v (getD xs k (pos 0)) → Matches (set vs k v) xs
+matches-learn [] [] k v m h = tt
+matches-learn [] (x ∷ xs) k v m h = absurd m
+matches-learn (w ∷ ws) [] k v m h = absurd m
+matches-learn (w ∷ ws) (x ∷ xs) zero v m h = (h, m .1)
+matches-learn (w ∷ ws) (x ∷ xs) (suc k) v m h = (m .0, matches-learn ws xs k v (m .1) h)
 
 pub ranged-set : (vars : List Var) (xs : List ℤ) (k : ℕ) (z : ℤ) → Ranged vars (set xs k z) → T (in-range vars k z)
 ranged-set [] xs k z q = tt
@@ -127,24 +116,25 @@ ranged-as-set (v ∷ vs) (x ∷ xs) (suc k) z r t = (r .0, ranged-as-set vs xs k
 
 -- ---- spans
 
--- x is a number of the span
-abbrev pub Among : Span → ℤ → Type 0
-Among r x = T (leZ (r .low) x) × T (leZ x (r .high))
-
-pub among-only : (z x : ℤ) → z ≡ x → Among (only z) x
-among-only z x e = subst (Among (only z)) e (leZ-refl z, leZ-refl z)
-
-pub among-sums : (a b : Span) (x y : ℤ) → Among a x → Among b y → Among (sums a b) (x +ℤ y)
-among-sums a b x y h k = (add-mono (a .low) x (b .low) y (h .0) (k .0), add-mono x (a .high) y (b .high) (h .1) (k .1))
-
-pub among-differences : (a b : Span) (x y : ℤ) → Among a x → Among b y → Among (differences a b) (x -ℤ y)
-among-differences a b x y h k = (sub-mono (a .low) x y (b .high) (h .0) (k .1), sub-mono x (a .high) (b .low) y (h .1) (k .0))
-
 -- the test of a range by its ends
 pub in-range-of : (vars : List Var) (k : ℕ) (z : ℤ) → k < length vars → in-range vars k z ≡ within (range-of vars k .low) (range-of vars k .high) z
 in-range-of [] k z h = absurd (omega arith)
 in-range-of (v ∷ vs) zero z h = refl
 in-range-of (v ∷ vs) (suc k) z h = in-range-of vs k z (omega arith)
+
+-- the numbers in the range are those of it
+pub among-range : (vars : List Var) (k : ℕ) (x : ℤ) → k < length vars → T (in-range vars k x) → Among (range-of vars k) x
+among-range vars k x l t =
+    let r = range-of vars k in
+    let s : T (within (r .low) (r .high) x) = subst T (in-range-of vars k x l) t in
+    (and-left (leZ (r .low) x) (leZ x (r .high)) s, and-right (leZ (r .low) x) (leZ x (r .high)) s)
+
+pub range-in : (vars : List Var) (k : ℕ) (z : ℤ) → Among (range-of vars k) z → T (in-range vars k z)
+range-in vars k z h = go (get vars k) h
+  where
+    go : (o : Option Var) → Among (map-or o (only (pos 0)) (λ v. record { low = v .lo; high = v .hi })) z → T (map-or o true (λ v. within (v .lo) (v .hi) z))
+    go none h = tt
+    go (some v) h = both-true (leZ (v .lo) z) (leZ z (v .hi)) (h .0) (h .1)
 
 -- a number between two of the range is of it
 between : (vars : List Var) (k : ℕ) (low z high : ℤ) → T (leZ low z) → T (leZ z high) → T (in-range vars k low) → T (in-range vars k high) → T (in-range vars k z)
@@ -163,20 +153,21 @@ span-outside vars k r z h t =
     (λ s. not-both (in-range vars k z)
     (between vars k (r .low) z (r .high) (h .0) (h .1) (and-left (in-range vars k (r .low)) (in-range vars k (r .high)) s) (and-right (in-range vars k (r .low)) (in-range vars k (r .high)) s)) t)
 
--- the value of a variable lies in its span
+-- the value of a variable lies in its range
+range-among : (vars : List Var) (xs : List ℤ) (k : ℕ) → Ranged vars xs → Among (range-of vars k) (getD xs k (pos 0))
+range-among [] [] k r = (tt, tt)
+range-among [] (x ∷ xs) k r = absurd r
+range-among (v ∷ vars) [] k r = absurd r
+range-among (v ∷ vars) (x ∷ xs) zero r = (and-left (leZ (v .lo) x) (leZ x (v .hi)) (r .0), and-right (leZ (v .lo) x) (leZ x (v .hi)) (r .0))
+range-among (v ∷ vars) (x ∷ xs) (suc k) r = range-among vars xs k (r .1)
+
+-- and in its span
 value-among : (vars : List Var) (vs : List Value) (xs : List ℤ) (k : ℕ) → Ranged vars xs → Matches vs xs → Among (value-span vars k (getD vs k (known (pos 0)))) (getD xs k (pos 0))
-value-among [] [] [] k r m = (tt, tt)
-value-among [] (w ∷ ws) [] k r m = absurd m
-value-among [] vs (x ∷ xs) k r m = absurd r
-value-among (v ∷ vars) vs [] k r m = absurd r
-value-among (v ∷ vars) [] (x ∷ xs) k r m = absurd m
-value-among (v ∷ vars) (known z ∷ ws) (x ∷ xs) zero r m = among-only z x (m .0)
-value-among (v ∷ vars) (top ∷ ws) (x ∷ xs) zero r m = (and-left (leZ (v .lo) x) (leZ x (v .hi)) (r .0), and-right (leZ (v .lo) x) (leZ x (v .hi)) (r .0))
-value-among (v ∷ vars) (w ∷ ws) (x ∷ xs) (suc k) r m = go (getD ws k (known (pos 0))) (value-among vars ws xs k (r .1) (m .1))
+value-among vars vs xs k r m = go (getD vs k (known (pos 0))) (matches-get vs xs k m)
   where
-    go : (u : Value) → Among (value-span vars k u) (getD xs k (pos 0)) → Among (value-span (v ∷ vars) (suc k) u) (getD xs k (pos 0))
-    go (known z) h = h
-    go top h = h
+    go : (v : Value) → Matches₁ v (getD xs k (pos 0)) → Among (value-span vars k v) (getD xs k (pos 0))
+    go (known z) h = among-only z (getD xs k (pos 0)) h
+    go top h = range-among vars xs k r
 
 operand-among : (vars : List Var) (a : Operand) (vs : List Value) (xs : List ℤ) → Ranged vars xs → Matches vs xs → Among (operand-span vars a vs) (value a xs)
 operand-among vars (num z) vs xs r m = among-only z z refl
@@ -237,24 +228,21 @@ computed-gives vars k g f a b vs xs m =
     assign-gives vars k (g (operand-span vars a vs) (operand-span vars b vs)) (both f (operand-value a vs) (operand-value b vs)) vs xs (f (value a xs) (value b xs)) m
     (both-matches f (operand-value a vs) (operand-value b vs) (value a xs) (value b xs) (known-matches a vs xs m) (known-matches b vs xs m))
 
-refine-gives : (vars : List Var) (a : Operand) (z : ℤ) (vs : List Value) (xs : List ℤ) → Ranged vars xs → Matches vs xs → value a xs ≡ z → Gives (refine vars a z vs) xs
-refine-gives vars (num a) z vs xs r m h = to-gives vs xs m
-refine-gives vars (var k) z vs xs r m h =
-    test-gives (in-range vars k z) (set vs k (known z)) xs (subst (λ (y : ℤ). T (in-range vars k y)) h (ranged-get vars xs k r)) (matches-learn vs xs k z m h)
+-- what satisfies the comparison is between the ends of all that does
+refine-gives : (vars : List Var) (g : Rel) (a : Operand) (z : ℤ) (vs : List Value) (xs : List ℤ) → Ranged vars xs → Matches vs xs → T (holds g (value a xs) z) → Gives (refine vars g a z vs) xs
+refine-gives vars g (num a) z vs xs r m t = to-gives vs xs m
+refine-gives vars g (var k) z vs xs r m t =
+    let x = getD xs k (pos 0) in
+    let s = satisfying g z (range-of vars k) in
+    let h : Among s x = satisfying-has g z (range-of vars k) x (range-among vars xs k r) t in
+    test-gives (leZ (s .low) (s .high)) (set vs k (one-of (s .low) (s .high))) xs (leZ-trans (s .low) x (s .high) (h .0) (h .1))
+    (matches-learn vs xs k (one-of (s .low) (s .high)) m (one-of-matches (s .low) (s .high) x (eqZ (s .low) (s .high)) refl (both-true (leZ (s .low) x) (leZ x (s .high)) (h .0) (h .1))))
 
-one-known-gives : (vars : List Var) (r : Rel) (a : Operand) (x y z : ℤ) (vs : List Value) (xs : List ℤ) → Ranged vars xs → Matches vs xs → T (holds r x y) → (x ≡ y → value a xs ≡ z) → Gives (one-known vars r a z vs) xs
-one-known-gives vars eq a x y z vs xs r m t f = refine-gives vars a z vs xs r m (f (eqZ-same x y t))
-one-known-gives vars ne a x y z vs xs r m t f = to-gives vs xs m
-one-known-gives vars lt a x y z vs xs r m t f = to-gives vs xs m
-one-known-gives vars le a x y z vs xs r m t f = to-gives vs xs m
-one-known-gives vars gt a x y z vs xs r m t f = to-gives vs xs m
-one-known-gives vars ge a x y z vs xs r m t f = to-gives vs xs m
-
-tested-gives : (vars : List Var) (r : Rel) (a b : Operand) (v w : Value) (vs : List Value) (xs : List ℤ) → Ranged vars xs → Matches vs xs → Matches₁ v (value a xs) → Matches₁ w (value b xs) → T (holds r (value a xs) (value b xs)) → Gives (tested vars r a b v w vs) xs
-tested-gives vars r a b (known x) (known y) vs xs g m p q t = test-gives (holds r x y) vs xs (rw (p, q) t) m
-tested-gives vars r a b (known x) top vs xs g m p q t = one-known-gives vars r b (value a xs) (value b xs) x vs xs g m t (λ h. sym h ∙ sym p)
-tested-gives vars r a b top (known y) vs xs g m p q t = one-known-gives vars r a (value a xs) (value b xs) y vs xs g m t (λ h. h ∙ sym q)
-tested-gives vars r a b top top vs xs g m p q t = to-gives vs xs m
+tested-gives : (vars : List Var) (g : Rel) (a b : Operand) (v w : Value) (vs : List Value) (xs : List ℤ) → Ranged vars xs → Matches vs xs → Matches₁ v (value a xs) → Matches₁ w (value b xs) → T (holds g (value a xs) (value b xs)) → Gives (tested vars g a b v w vs) xs
+tested-gives vars g a b (known x) (known y) vs xs r m p q t = test-gives (holds g x y) vs xs (rw (p, q) t) m
+tested-gives vars g a b (known x) top vs xs r m p q t = refine-gives vars (turned g) b x vs xs r m (subst T (sym (holds-turned g x (value b xs))) (rw p t))
+tested-gives vars g a b top (known y) vs xs r m p q t = refine-gives vars g a y vs xs r m (rw q t)
+tested-gives vars g a b top top vs xs r m p q t = to-gives vs xs m
 
 pub effect-gives : (vars : List Var) (o : Op) (vs : List Value) (xs ys : List ℤ) → Ranged vars xs → Matches vs xs → Becomes o xs ys → (effect vars o vs ≡ fault) ⊎ ((us : List Value) × (effect vars o vs ≡ to us) × Matches us ys)
 unfolding Gives
@@ -321,22 +309,24 @@ module _ (c : Chart) (P : List Value → Type 0) (Ok : ℕ → Value → Type 0)
       assign-keeps k (g (operand-span (c .vars) a vs) (operand-span (c .vars) b vs)) (both f (operand-value a vs) (operand-value b vs)) vs
       (spans-both g f e (operand-span (c .vars) a vs) (operand-span (c .vars) b vs) (operand-value a vs) (operand-value b vs) (spans-operand (c .vars) a vs) (spans-operand (c .vars) b vs)) h
 
-  one-known-keeps : (r : Rel) (a : Operand) (z : ℤ) (vs : List Value) → P vs → Whenever P (one-known (c .vars) r a z vs)
+  refine-keeps : (g : Rel) (a : Operand) (z : ℤ) (vs : List Value) → P vs → Whenever P (refine (c .vars) g a z vs)
   unfolding Whenever
-  one-known-keeps eq (num a) z vs h = h
-  one-known-keeps eq (var k) z vs h = test-keeps (in-range (c .vars) k z) (set vs k (known z)) (λ t. set-keeps k (known z) vs (known-ok k z t) h)
-  one-known-keeps ne a z vs h = h
-  one-known-keeps lt a z vs h = h
-  one-known-keeps le a z vs h = h
-  one-known-keeps gt a z vs h = h
-  one-known-keeps ge a z vs h = h
+  refine-keeps g (num a) z vs h = h
+  refine-keeps g (var k) z vs h =
+      let s = satisfying g z (range-of (c .vars) k) in
+      test-keeps (leZ (s .low) (s .high)) (set vs k (one-of (s .low) (s .high)))
+      (λ t. set-keeps k (one-of (s .low) (s .high)) vs (one-ok (eqZ (s .low) (s .high)) (s .low) (range-in (c .vars) k (s .low) (satisfying-ends g z (range-of (c .vars) k) t .0 .0))) h)
+    where
+      one-ok : (b : Bool) (x : ℤ) → T (in-range (c .vars) k x) → Ok k (pick b (known x) top)
+      one-ok true x t = known-ok k x t
+      one-ok false x t = top-ok k
 
-  tested-keeps : (r : Rel) (a b : Operand) (v w : Value) (vs : List Value) → P vs → Whenever P (tested (c .vars) r a b v w vs)
+  tested-keeps : (g : Rel) (a b : Operand) (v w : Value) (vs : List Value) → P vs → Whenever P (tested (c .vars) g a b v w vs)
   unfolding Whenever
-  tested-keeps r a b (known x) (known y) vs h = test-keeps (holds r x y) vs (λ t. h)
-  tested-keeps r a b (known x) top vs h = one-known-keeps r b x vs h
-  tested-keeps r a b top (known y) vs h = one-known-keeps r a y vs h
-  tested-keeps r a b top top vs h = h
+  tested-keeps g a b (known x) (known y) vs h = test-keeps (holds g x y) vs (λ t. h)
+  tested-keeps g a b (known x) top vs h = refine-keeps (turned g) b x vs h
+  tested-keeps g a b top (known y) vs h = refine-keeps g a y vs h
+  tested-keeps g a b top top vs h = h
 
   -- what `in` gives is Ok
   abbrev pub InputOk : Op → Type 0

@@ -1,6 +1,6 @@
 -- Names and laws of the logic (Prelude, Bools, Integers). Then what holds of the definitions: over any domain (to Simulate), of the constants (to Executions), of words (MemoryOf,
 -- MemoryInForm), of a chart's text and its words (to Exactness), of the calls (to Realisable), of the program (to
--- ProgramSafe). The claims are in Verdicts, Overruns, Executions, Exactness, WholeWalks, ProgramSafe and MarkedCases.
+-- ProgramSafe). The claims are in Verdicts, Overruns, Comparisons, Executions, Exactness, WholeWalks, ProgramSafe and MarkedCases.
 pub mod Prelude
 pub mod Bools
 pub mod Integers
@@ -11,10 +11,12 @@ pub mod Tidy
 pub mod SettingsKept
 pub mod Verdicts
 pub mod Simulate
+pub mod Spans
 pub mod ConstantValues
 pub mod ConstantsSound
 pub mod StatesOk
 pub mod Overruns
+pub mod Comparisons
 pub mod Executions
 pub mod MemoryOf
 pub mod MemoryInForm

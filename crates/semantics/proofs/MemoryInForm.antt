@@ -10,7 +10,7 @@ use Rattle.semantics.specs.Encoding.{word, val, padded}
 use Rattle.semantics.specs.Memory.{value-ok, Memory, width, row, table-of, waitlist-of, state-in, states-in, load, below, row-ok, rows-ok, each-once, zeros, is-alarm, empty-if-safe, capacity-ok, form-tests, analysis-ok}
 use Rattle.semantics.specs.Outcomes.{put-in}
 use Rattle.semantics.proofs.Bools.{from-true, and-left, and-right}
-use Rattle.semantics.proofs.ConstantValues.{eqZ-same}
+use Rattle.semantics.proofs.Integers.{eqZ-same}
 use Rattle.semantics.proofs.StatesOk.{ValOk, ValsOk, StateOk}
 
 all-each : (bs : List Bool) → T (all-of bs) → Every (λ b. T b) bs

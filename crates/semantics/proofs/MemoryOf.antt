@@ -1,5 +1,5 @@
 -- An exploration stored in words, with any words after, is read back and is in form. Assumes nothing.
-use Rattle.semantics.proofs.Prelude.{_≡_, refl, sym, ap, _∙_, subst, inl, inr, Bool, true, false, _||_, not, List, [], _∷_, _++_, map, append-assoc, ℕ, zero, suc, _-_, _*_, _≤_, _<_, mul-le-mul-right, arith, T, ltb, eqb, leb→le, le→leb, lt→ltb, eqb-refl, length, take, drop, replicate, length-append, length-map, length-replicate, take-at, drop-at, ℤ, pos, negsuc, natAbs, leZ, ne-eqb, not-T, eqb-true, eqb·suc-zero, nonNeg}
+use Rattle.semantics.proofs.Prelude.{_≡_, refl, sym, ap, _∙_, subst, inl, inr, Bool, true, false, _||_, not, List, [], _∷_, _++_, map, append-assoc, ℕ, zero, suc, _-_, _*_, _≤_, _<_, mul-le-mul-right, arith, T, ltb, eqb, leb→le, le→leb, lt→ltb, length, take, drop, replicate, length-append, length-map, length-replicate, take-at, drop-at, ℤ, pos, negsuc, natAbs, leZ, ne-eqb, not-T, eqb-true, eqb·suc-zero, nonNeg}
 use Rattle.semantics.specs.Lists.{In, some-of, each, all, all-of, all-pairs, pick}
 use Rattle.semantics.specs.Layout.{most-iterations, most-slots, most-number, top-word}
 use Rattle.semantics.specs.Chart.{Value, known, top, Var, Chart, eqZ, within, small}
@@ -18,10 +18,6 @@ use Rattle.semantics.proofs.Tidy.{queue-few}
 use Rattle.semantics.proofs.StatesOk.{ValOk, ValsOk, StateOk, Bounds}
 
 -- ---- tests
-
-pub eqZ-refl : (z : ℤ) → T (eqZ z z)
-eqZ-refl (pos n) = eqb-refl n
-eqZ-refl (negsuc n) = eqb-refl n
 
 -- a capacity that 11 lets pass is a number from 1 to 256
 pub record Counted (z : ℤ) : Type 0 where

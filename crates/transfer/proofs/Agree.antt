@@ -14,7 +14,7 @@ use Rattle.semantics.proofs.Tidy.{Keeps}
 use Rattle.semantics.proofs.StatesOk.{StateOk, join-ok, bounds, states-kept, initial-ok}
 use Rattle.semantics.proofs.Encoded.{well-formed-split}
 use Rattle.semantics.proofs.Simulate.{AllPairs, StepR, Agree}
-use Rattle.words.proofs.Words.{eqZ-sym}
+use Rattle.semantics.proofs.Integers.{eqZ-sym}
 use Rattle.state.specs.Rows.{word-limit, id-word, word-leq, word-join, words-join, same-words, same-place, row-leq, row-join, join-of, leq-join-of, row-domain}
 use Rattle.state.proofs.Layouts.{id-fits}
 use Rattle.transfer.specs.Transfer.{edge-at, edges-from, post-at, post-words, error-row, initial-row}

@@ -1,13 +1,13 @@
 -- The effect of an operation on a row's words is its effect on the values that they say. Assumes nothing.
-use Rattle.semantics.proofs.Prelude.{_≡_, refl, sym, ap, _∙_, Bool, true, false, _&&_, _||_, List, [], _∷_, _++_, map, ℕ, zero, suc, _+_, _<_, add-one, arith, T, ltb→lt, ℤ, pos, natAbs, _+ℤ_, _-ℤ_, length, getD, set, List·getD-map}
+use Rattle.semantics.proofs.Prelude.{_≡_, refl, sym, ap, _∙_, Bool, true, false, _&&_, _||_, List, [], _∷_, _++_, map, ℕ, zero, suc, _+_, _<_, add-one, arith, T, ltb→lt, ℤ, pos, natAbs, _+ℤ_, _-ℤ_, leZ, length, getD, set, List·getD-map}
 use Rattle.semantics.specs.declared.Span.{Span}
 use Rattle.semantics.specs.declared.Arithmetic.{Arithmetic}
 use Rattle.semantics.specs.declared.Arithmetic.the-variants.{Add, Sub}
 use Rattle.semantics.specs.Layout.{top-word, edge-size, operation-place, target-place, first-tag-place, first-value-place, second-tag-place, second-value-place, add-code, sub-code}
 use Rattle.semantics.specs.Lists.{pick, all}
-use Rattle.semantics.specs.Chart.{Value, known, top, Var, Operand, num, var, Rel, eq, ne, lt, le, gt, ge, Op, assign, add, sub, input, assume, skip, Chart, eqZ, holds, in-range}
+use Rattle.semantics.specs.Chart.{Value, known, top, Var, Operand, num, var, Rel, eq, ne, lt, le, gt, ge, Op, assign, add, sub, input, assume, skip, Chart, eqZ, holds}
 use Rattle.semantics.specs.Algorithm.{Step, blocked, fault, to}
-use Rattle.semantics.specs.Constants.{operand-value, both, only, value-span, operand-span, span-in-range, assign-value, computed, one-of, refine, one-known, tested, effect}
+use Rattle.semantics.specs.Constants.{operand-value, both, only, value-span, operand-span, span-in-range, assign-value, computed, one-of, turned, satisfying, range-of, refine, tested, effect}
 use Rattle.semantics.specs.Encoding.{word, word-at, tag, operand-word, rel-code, op-words, encode, count, var-ok, operand-ok, op-ok, chart-ok}
 use Rattle.semantics.proofs.Bools.{and-left, and-right}
 use Rattle.semantics.proofs.ConstantValues.{Spans, spans-operand, spans-both}
@@ -15,7 +15,7 @@ use Rattle.semantics.proofs.StatesOk.{ValOk, ValsOk}
 use Rattle.semantics.proofs.MemoryOf.{small-not-top, known-not-top}
 use Rattle.words.proofs.Words.{eqZ-true}
 use Rattle.state.specs.Rows.{value-at, with-value, word-join}
-use Rattle.transfer.specs.Transfer.{results-by, operand-by, span-at, assign-result, assign-at, compute-at, input-at, holds-by, assign-ranged, refine-by, tested-by, assume-at, op-by}
+use Rattle.transfer.specs.Transfer.{results-by, operand-by, span-at, assign-result, assign-at, compute-at, input-at, refine-by, tested-by, assume-at, op-by}
 use Rattle.transfer.proofs.Places.{range-of-is, range-is}
 
 -- a value whose word is top's only where it is top
@@ -82,10 +82,6 @@ module _ (c : Chart) (ok : T (chart-ok c)) (rest : List ℤ) (l : ℤ) (xs : Lis
   set-word : (k : ℕ) (x : Value) → with-value e k (word x) ≡ l ∷ map word (set xs k x)
   set-word k x = rw (add-one k) (ap (λ (m : List ℤ). l ∷ m) (map-set xs k x))
 
-  assign-ranged-is : (k : ℕ) (z : ℤ) → k < length (c .vars) → assign-ranged ws k z e ≡ row-step l (refine (c .vars) (var k) z xs)
-  unfolding assign-ranged
-  assign-ranged-is k z h = (λ i. pick (range-is c ok rest k z h i) (to (set-word k (known z) i)) blocked) ∙ row-step-pick l (in-range (c .vars) k z) (set xs k (known z)) blocked
-
   assign-is : (k : ℕ) (r : Span) (t : Bool) (x : Value) → k < length (c .vars) → pick t top-word (r .low) ≡ word x → assign-result ws k t r e ≡ row-step l (assign-value (c .vars) k r x xs)
   unfolding assign-result
   assign-is k r t x h q =
@@ -101,27 +97,12 @@ module _ (c : Chart) (ok : T (chart-ok c)) (rest : List ℤ) (l : ℤ) (xs : Lis
 
   -- ---- tests
 
-  holds-is : (r : Rel) (a b : ℤ) → holds-by (rel-code r) a b ≡ holds r a b
-  unfolding holds-by
-  holds-is eq a b = refl
-  holds-is ne a b = refl
-  holds-is lt a b = refl
-  holds-is le a b = refl
-  holds-is gt a b = refl
-  holds-is ge a b = refl
-
-  refine-is : (r : Rel) (k : ℕ) (z : ℤ) → k < length (c .vars) → Writable (known z) → refine-by ws (rel-code r) k z e ≡ row-step l (one-known (c .vars) r (var k) z xs)
+  refine-is : (r : Rel) (k : ℕ) (z : ℤ) → k < length (c .vars) → refine-by ws r k z e ≡ row-step l (refine (c .vars) r (var k) z xs)
   unfolding refine-by
-  refine-is eq k z h p = rw p (assign-ranged-is k z h)
-  refine-is ne k z h p = rw p
-  refine-is lt k z h p = rw p
-  refine-is le k z h p = rw p
-  refine-is gt k z h p = rw p
-  refine-is ge k z h p = rw p
-
-  nothing-known : (n k : ℕ) → refine-by ws n k top-word e ≡ to e
-  unfolding refine-by
-  nothing-known n k = refl
+  refine-is r k z h =
+      let s = satisfying r z (range-of (c .vars) k) in
+      rw (range-of-is c ok rest k h)
+      (ap (λ (o : Step (List ℤ)). pick (leZ (s .low) (s .high)) o blocked) (join-is k (s .low) (s .high)) ∙ row-step-pick l (leZ (s .low) (s .high)) (set xs k (one-of (s .low) (s .high))) blocked)
 
   -- only a variable is at top
   abbrev Sided : Operand → Value → Type 0
@@ -130,13 +111,13 @@ module _ (c : Chart) (ok : T (chart-ok c)) (rest : List ℤ) (l : ℤ) (xs : Lis
   Sided (var j) y = Unit
 
   tested-is : (r : Rel) (k : ℕ) (a : Operand) (x y : Value) → k < length (c .vars) → T (operand-ok (c .vars) a) → Writable x → Writable y → Sided a y
-      → tested-by ws (rel-code r) k (natAbs (operand-word a)) (word x) (word y) e ≡ row-step l (tested (c .vars) r (var k) a x y xs)
+      → tested-by ws r k (natAbs (operand-word a)) (word x) (word y) e ≡ row-step l (tested (c .vars) r (var k) a x y xs)
   unfolding tested-by
-  tested-is r k a (known x) (known y) h o p q s = rw (p, q, holds-is r x y) (row-step-pick l (holds r x y) xs blocked)
+  tested-is r k a (known x) (known y) h o p q s = rw (p, q) (row-step-pick l (holds r x y) xs blocked)
   tested-is r k (num z) (known x) top h o p q s = absurd s
-  tested-is r k (var j) (known x) top h o p q s = rw p (refine-is r j x (ltb→lt j (length (c .vars)) o) p)
-  tested-is r k a top (known y) h o p q s = refine-is r k y h q
-  tested-is r k a top top h o p q s = nothing-known (rel-code r) k
+  tested-is r k (var j) (known x) top h o p q s = rw p (refine-is (turned r) j x (ltb→lt j (length (c .vars)) o))
+  tested-is r k a top (known y) h o p q s = rw q (refine-is r k y h)
+  tested-is r k a top top h o p q s = refl
 
   -- ---- operands
 
@@ -202,7 +183,7 @@ module _ (c : Chart) (ok : T (chart-ok c)) (rest : List ℤ) (l : ℤ) (xs : Lis
         coded g (ap natAbs (r operation-place (omega arith)))
         ∙ rw (r target-place (omega arith), r first-tag-place (omega arith), r first-value-place (omega arith), operand-is a, get-word v) (tested-is g v a (operand-value (var v) xs) (operand-value a xs) k u (get-plain xs v plain) (operand-plain a u) (operand-sided a))
       where
-        coded : (g : Rel) → count ws (i + operation-place) ≡ rel-code g → op-by (count ws (i + operation-place)) ws i e ≡ assume-at ws (rel-code g) i e
+        coded : (g : Rel) → count ws (i + operation-place) ≡ rel-code g → op-by (count ws (i + operation-place)) ws i e ≡ assume-at ws g i e
         coded eq h = rw h
         coded ne h = rw h
         coded lt h = rw h

@@ -1,20 +1,20 @@
 -- The transfer of an edge of the encoded chart on a row of words, the test of an error location, and the initial row,
 -- with no word on the form of either: a word past the end is 0, a number's sign does not count. Assumes nothing.
-use mathlib.Core.Bool.{Bool, true, _&&_, _||_, not}
+use mathlib.Core.Bool.{Bool, true, _&&_, _||_}
 use mathlib.Core.List.{List, [], _∷_}
 use Prim.Native.Nat.{ℕ, zero, suc, _+_, _*_}
 use lib.Dec.{eqb}
 use lib.IntN.{ℤ, natAbs}
-use lib.Signed.{leZ, ltZ}
+use lib.Signed.{leZ}
 use mir.Syntax.{w32}
 use mir.Val.{SFits}
 use Rattle.semantics.specs.declared.Arithmetic.{Arithmetic}
 use Rattle.semantics.specs.declared.Arithmetic.the-variants.{Add, Sub}
 use Rattle.semantics.specs.Lists.{pick}
-use Rattle.semantics.specs.Chart.{eqZ, within}
+use Rattle.semantics.specs.Chart.{Rel, eq, ne, lt, le, gt, ge, eqZ, within, holds}
 use Rattle.semantics.specs.Algorithm.{Step, blocked, fault, to}
 use Rattle.semantics.specs.declared.Span.{Span}
-use Rattle.semantics.specs.Constants.{only, sums, differences}
+use Rattle.semantics.specs.Constants.{only, sums, differences, turned, satisfying}
 use Rattle.semantics.specs.Layout.{top-word, variable-size, location-size, edge-size, variable-at, high-place, init-place, to-place, operation-place, target-place, first-tag-place, first-value-place, second-tag-place, second-value-place, skip-code, set-code, add-code, sub-code, in-code, eq-code, ne-code, lt-code, le-code, gt-code, number-tag}
 use Rattle.semantics.specs.Encoding.{word-at, count, kind-word, variable-count}
 use Rattle.state.specs.Rows.{location-in, row-at, value-at, with-location, with-value, word-join}
@@ -109,33 +109,32 @@ compute-at s c i e =
 unfoldable pub input-at : List ℤ → ℕ → List ℤ → Step (List ℤ)
 input-at c i e = to (with-value e (target-at c i) (word-join (word-at c (i + first-value-place)) (word-at c (i + second-value-place))))
 
--- the relation of code n holds
-unfoldable pub holds-by : ℕ → ℤ → ℤ → Bool
-holds-by n a b =
-    pick (eqb n eq-code) (eqZ a b) (pick (eqb n ne-code) (not (eqZ a b)) (pick (eqb n lt-code) (ltZ a b) (pick (eqb n le-code) (leZ a b) (pick (eqb n gt-code) (ltZ b a) (leZ b a)))))
+-- ---- `if`: the relation of a code
 
--- variable k becomes z if that lies in its range
-unfoldable pub assign-ranged : List ℤ → ℕ → ℤ → List ℤ → Step (List ℤ)
-assign-ranged c k z e = pick (in-range-at c k z) (to (with-value e k z)) blocked
+-- the relation of code n; past the last it is the last
+abbrev pub rel-by : ℕ → Rel
+rel-by n = pick (eqb n eq-code) eq (pick (eqb n ne-code) ne (pick (eqb n lt-code) lt (pick (eqb n le-code) le (pick (eqb n gt-code) gt ge))))
 
--- a side of the relation of code n is variable k, at top; the other side is x. "With eq, one side known [..]: that
--- variable takes the value if in its range, else no successor. Every other case passes unchanged"
-unfoldable pub refine-by : List ℤ → ℕ → ℕ → ℤ → List ℤ → Step (List ℤ)
-refine-by c n k x e = pick (not (eqZ x top-word) && eqb n eq-code) (assign-ranged c k x e) (to e)
+-- variable k, at top, stands in the relation to x, which is known: "count the values of its declared range that satisfy it:
+-- none gives no successor, one becomes known, more leave it unspecific"
+unfoldable pub refine-by : List ℤ → Rel → ℕ → ℤ → List ℤ → Step (List ℤ)
+refine-by c r k x e = let s = satisfying r x (range-at c k) in pick (leZ (s .low) (s .high)) (to (with-value e k (word-join (s .low) (s .high)))) blocked
 
 -- its sides are x, variable k, and y, variable j where it is at top
-unfoldable pub tested-by : List ℤ → ℕ → ℕ → ℕ → ℤ → ℤ → List ℤ → Step (List ℤ)
-tested-by c n k j x y e =
-    pick (eqZ x top-word) (refine-by c n k y e) (pick (eqZ y top-word) (refine-by c n j x e) (pick (holds-by n x y) (to e) blocked))
+unfoldable pub tested-by : List ℤ → Rel → ℕ → ℕ → ℤ → ℤ → List ℤ → Step (List ℤ)
+tested-by c r k j x y e =
+    pick (eqZ x top-word && eqZ y top-word) (to e) (pick (eqZ x top-word) (refine-by c r k y e) (pick (eqZ y top-word) (refine-by c (turned r) j x e) (pick (holds r x y) (to e) blocked)))
 
--- `if v rel a`, the relation of code n
-unfoldable pub assume-at : List ℤ → ℕ → ℕ → List ℤ → Step (List ℤ)
-assume-at c n i e = tested-by c n (target-at c i) (first-variable-at c i) (value-at e (target-at c i)) (first-at c i e) e
+-- `if v rel a`
+unfoldable pub assume-at : List ℤ → Rel → ℕ → List ℤ → Step (List ℤ)
+assume-at c r i e = tested-by c r (target-at c i) (first-variable-at c i) (value-at e (target-at c i)) (first-at c i e) e
+
+-- ---- every operation
 
 -- the operation of code n
 unfoldable pub op-by : ℕ → List ℤ → ℕ → List ℤ → Step (List ℤ)
 op-by n c i e =
-    pick (eqb n skip-code) (to e) (pick (eqb n set-code) (assign-at c i e) (pick (eqb n add-code) (compute-at Add c i e) (pick (eqb n sub-code) (compute-at Sub c i e) (pick (eqb n in-code) (input-at c i e) (assume-at c n i e)))))
+    pick (eqb n skip-code) (to e) (pick (eqb n set-code) (assign-at c i e) (pick (eqb n add-code) (compute-at Add c i e) (pick (eqb n sub-code) (compute-at Sub c i e) (pick (eqb n in-code) (input-at c i e) (assume-at c (rel-by n) i e)))))
 
 -- ---- the transfer
 

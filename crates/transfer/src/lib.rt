@@ -2,6 +2,7 @@
 use chart::EdgeRow;
 use semantics::Arithmetic;
 use semantics::LocationId;
+use semantics::Relation;
 use semantics::Span;
 ghost use mathlib.Core.Path.{_≡_};
 ghost use mathlib.Core.Bool.{true};
@@ -10,9 +11,12 @@ ghost use lib.ListN.{length};
 ghost use mir.Syntax.{w32};
 ghost use mir.Val.{SFits};
 ghost use Rattle.semantics.specs.Layout.{operation-place, index-limit};
+ghost use Rattle.semantics.specs.Chart.{holds};
+ghost use Rattle.semantics.specs.Operations.{the-relation};
+ghost use Rattle.semantics.specs.Constants.{turned, at-least, at-most, other-than, satisfying};
 ghost use Rattle.semantics.specs.Encoding.{count};
 ghost use Rattle.state.specs.Rows.{layout-of, width-of};
-ghost use Rattle.transfer.specs.Transfer.{step-of, Narrow, range-at, in-range-at, results-by, operand-by, first-at, second-at, span-at, assign-result, assign-at, compute-at, input-at, holds-by, assign-ranged, refine-by, assume-at, op-by, post-at, error-row, initial-row};
+ghost use Rattle.transfer.specs.Transfer.{step-of, Narrow, range-at, in-range-at, results-by, operand-by, first-at, second-at, span-at, assign-result, assign-at, compute-at, input-at, rel-by, refine-by, assume-at, op-by, post-at, error-row, initial-row};
 
 // What a transfer answers, as the rules' `Step`: no successor; a fault, which is an overrun (request 2.1); or a successor,
 // which stands in the row lent.
@@ -170,64 +174,146 @@ fn input(chart: &[i32], edge: EdgeRow, row: &mut [i32]) -> Move
     Move::Successor
 }
 
-// Whether the relation of a code (docs/memory.md) holds.
-fn holds(n: usize, a: i32, b: i32) -> bool
-    ensures { λ r. ⌜ r ≡ holds-by n a b ⌝ }
+// ---- `if`
+
+// The relation of a code (docs/memory.md).
+fn relation(n: usize) -> Relation
+    ensures { λ r. ⌜ the-relation r ≡ rel-by n ⌝ }
 {
     match n {
-        chart::EQ_CODE => a == b,
-        chart::NE_CODE => a != b,
-        chart::LT_CODE => a < b,
-        chart::LE_CODE => a <= b,
-        chart::GT_CODE => a > b,
-        _ => a >= b,
+        chart::EQ_CODE => Relation::Eq,
+        chart::NE_CODE => Relation::Ne,
+        chart::LT_CODE => Relation::Lt,
+        chart::LE_CODE => Relation::Le,
+        chart::GT_CODE => Relation::Gt,
+        _ => Relation::Ge,
     }
 }
 
-// Variable k becomes z where that lies in its range.
-fn assign_ranged(chart: &[i32], k: usize, z: i64, row: &mut [i32]) -> Move
-    requires { ⌜ k < index-limit ⌝ }
-    ensures { λ r. ⌜ step-of r (now (row .exit)) ≡ assign-ranged (now (chart .entry)) k z (now (row .entry)) ⌝ }
+fn holds(rel: Relation, a: i32, b: i32) -> bool
+    ensures { λ r. ⌜ r ≡ holds (the-relation rel) a b ⌝ }
 {
-    if !in_range(chart, k, z) {
+    match rel {
+        Relation::Eq => a == b,
+        Relation::Ne => a != b,
+        Relation::Lt => a < b,
+        Relation::Le => a <= b,
+        Relation::Gt => a > b,
+        Relation::Ge => a >= b,
+    }
+}
+
+// The relation with its sides changed over.
+fn turned(rel: Relation) -> Relation
+    ensures { λ r. ⌜ the-relation r ≡ turned (the-relation rel) ⌝ }
+{
+    match rel {
+        Relation::Eq => Relation::Eq,
+        Relation::Ne => Relation::Ne,
+        Relation::Lt => Relation::Gt,
+        Relation::Le => Relation::Ge,
+        Relation::Gt => Relation::Lt,
+        Relation::Ge => Relation::Le,
+    }
+}
+
+// The numbers of the range from z on.
+fn at_least(z: i64, range: Span) -> Span
+    ensures { λ r. ⌜ r ≡ at-least z range ⌝ }
+{
+    if range.low < z {
+        return Span {
+            low: z,
+            high: range.high,
+        };
+    }
+    range
+}
+
+// And those up to z.
+fn at_most(z: i64, range: Span) -> Span
+    ensures { λ r. ⌜ r ≡ at-most z range ⌝ }
+{
+    if z < range.high {
+        return Span {
+            low: range.low,
+            high: z,
+        };
+    }
+    range
+}
+
+// From the first number of the range that is not z to the last.
+fn other_than(z: i64, range: Span) -> Span
+    requires { ⌜ SFits w32 z ⌝ }
+    ensures { λ r. ⌜ r ≡ other-than z range ⌝ }
+{
+    if range.low == z {
+        return at_least(z + 1, range);
+    }
+    if range.high == z {
+        return at_most(z - 1, range);
+    }
+    range
+}
+
+// From the first number of the range that stands in the relation to z to the last; low is above high where there is none.
+fn satisfying(rel: Relation, z: i64, range: Span) -> Span
+    requires { ⌜ SFits w32 z ⌝ }
+    ensures { λ r. ⌜ r ≡ satisfying (the-relation rel) z range ⌝ }
+{
+    match rel {
+        Relation::Eq => at_least(z, at_most(z, range)),
+        Relation::Ne => other_than(z, range),
+        Relation::Lt => at_most(z - 1, range),
+        Relation::Le => at_most(z, range),
+        Relation::Gt => at_least(z + 1, range),
+        Relation::Ge => at_least(z, range),
+    }
+}
+
+// Variable k, at top, stands in the relation to x, which is known (request 2.6): no successor where no number of its range
+// does; known where one does.
+fn refine(chart: &[i32], rel: Relation, k: usize, x: i32, row: &mut [i32]) -> Move
+    requires { ⌜ k < index-limit ⌝ }
+    ensures { λ r. ⌜ step-of r (now (row .exit)) ≡ refine-by (now (chart .entry)) (the-relation rel) k x (now (row .entry)) ⌝ }
+{
+    let left = satisfying(rel, words::wide(x), range_of(chart, k));
+    if left.high < left.low {
         return Move::Blocked;
     }
-    let x = z as i32;
-    state::set_value(row, k, x);
+    let low = left.low as i32;
+    let high = left.high as i32;
+    let v = state::join_word(low, high);
+    state::set_value(row, k, v);
     Move::Successor
 }
 
-// A side of the relation is variable k, at top, and the other side is x: only `eq` says something of k.
-fn refine(chart: &[i32], n: usize, k: usize, x: i32, row: &mut [i32]) -> Move
-    requires { ⌜ k < index-limit ⌝ }
-    ensures { λ r. ⌜ step-of r (now (row .exit)) ≡ refine-by (now (chart .entry)) n k x (now (row .entry)) ⌝ }
-{
-    if (x != words::TOP) & (n == chart::EQ_CODE) {
-        return assign_ranged(chart, k, words::wide(x), row);
-    }
-    Move::Successor
-}
-
-// The relation of code n between the target and an operand: a test, or what it says of a side at top.
-fn assume(chart: &[i32], n: usize, edge: EdgeRow, row: &mut [i32]) -> Move
+// The relation between the target and an operand: a test where both are known, or what it says of the one at top.
+fn assume(chart: &[i32], rel: Relation, edge: EdgeRow, row: &mut [i32]) -> Move
     requires { ⌜ edge .at < index-limit ⌝ }
-    ensures { λ r. ⌜ step-of r (now (row .exit)) ≡ assume-at (now (chart .entry)) n (edge .at) (now (row .entry)) ⌝ }
+    ensures { λ r. ⌜ step-of r (now (row .exit)) ≡ assume-at (now (chart .entry)) (the-relation rel) (edge .at) (now (row .entry)) ⌝ }
 {
     let k = chart::edge_target(chart, edge);
     let x = state::value_at(row, k);
     let y = first_operand(chart, edge, row);
+    if (x == words::TOP) & (y == words::TOP) {
+        return Move::Successor;
+    }
     if x == words::TOP {
-        return refine(chart, n, k, y, row);
+        return refine(chart, rel, k, y, row);
     }
     if y == words::TOP {
         let j = chart::first_variable(chart, edge);
-        return refine(chart, n, j, x, row);
+        return refine(chart, turned(rel), j, x, row);
     }
-    if holds(n, x, y) {
+    if holds(rel, x, y) {
         return Move::Successor;
     }
     Move::Blocked
 }
+
+// ---- every operation
 
 // The operation of the edge, by its code.
 fn apply(chart: &[i32], edge: EdgeRow, row: &mut [i32]) -> Move
@@ -241,7 +327,7 @@ fn apply(chart: &[i32], edge: EdgeRow, row: &mut [i32]) -> Move
         chart::ADD_CODE => compute(chart, edge, Arithmetic::Add, row),
         chart::SUB_CODE => compute(chart, edge, Arithmetic::Sub, row),
         chart::IN_CODE => input(chart, edge, row),
-        _ => assume(chart, n, edge, row),
+        _ => assume(chart, relation(n), edge, row),
     }
 }
 

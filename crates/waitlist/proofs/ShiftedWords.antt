@@ -3,7 +3,7 @@ use Rattle.semantics.proofs.Prelude.{_≡_, refl, sym, ap, _∙_, Bool, true, f
 use Rattle.semantics.specs.Chart.{eqZ}
 use Rattle.semantics.specs.declared.Order.the-variants.{Old, New}
 use Rattle.semantics.specs.Algorithm.{without, take-last}
-use Rattle.words.proofs.Words.{eqZ-sym}
+use Rattle.semantics.proofs.Integers.{eqZ-sym}
 use Rattle.semantics.proofs.Waitlist.{take-last-snoc}
 use Rattle.waitlist.specs.Waits.{Stored, pushed, shifted, others, next-place, kept-at, TakenFrom}
 use Rattle.waitlist.proofs.WaitWords.{waits-are, kept, front, zeros-after}

@@ -3,8 +3,7 @@ use Rattle.semantics.specs.Layout.{index-limit}
 use Rattle.semantics.proofs.Prelude.{_≡_, refl, sym, ap, subst, _∙_, Bool, true, false, cond, ℕ, zero, suc, _+_, _<_, _≤_, arith, lt-of-le-of-lt, zero-add, eqb, ltb, T, ℤ, pos, negsuc, natAbs, negℤ, _+ℤ_, _-ℤ_, nonNeg, mag, leZ, ltZ, Width, w32, w64, SFits, ofZ, toZ, toZ-ofZ, sfits-widen, sfits-lit, eq-eqb, ne-eqb, le-leb, leb-true, ltb-true}
 use Rattle.semantics.specs.Chart.{eqZ}
 use Rattle.semantics.proofs.Bools.{from-true, to-true}
-use Rattle.semantics.proofs.ConstantValues.{eqZ-same}
-use Rattle.semantics.proofs.MemoryOf.{eqZ-refl}
+use Rattle.semantics.proofs.Integers.{eqZ-same, eqZ-refl}
 
 -- the test for a sign
 pub from-zero : (z : ℤ) → leZ (pos 0) z ≡ nonNeg z
@@ -16,15 +15,6 @@ eqZ-true a b e = eqZ-same a b (from-true e)
 
 pub eqZ-self : (a : ℤ) → eqZ a a ≡ true
 eqZ-self a = to-true (eqZ a a) (eqZ-refl a)
-
-pub eqZ-sym : (a b : ℤ) → eqZ a b ≡ eqZ b a
-eqZ-sym a b = by-case (eqZ a b) refl where
-  by-case : (t : Bool) → eqZ a b ≡ t → eqZ a b ≡ eqZ b a
-  by-case true e = subst (λ (z : ℤ). eqZ a z ≡ eqZ z a) (eqZ-true a b e) refl
-  by-case false e = other (eqZ b a) refl where
-    other : (u : Bool) → eqZ b a ≡ u → eqZ a b ≡ eqZ b a
-    other true f = subst (λ (z : ℤ). eqZ z b ≡ eqZ b z) (eqZ-true b a f) refl
-    other false f = e ∙ sym f
 
 pub eq-eqZ : {a b : ℤ} → a ≡ b → eqZ a b ≡ true
 eq-eqZ {a} {b} e = subst (λ (z : ℤ). eqZ a z ≡ true) e (eqZ-self a)

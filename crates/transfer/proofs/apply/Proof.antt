@@ -1,8 +1,9 @@
 -- `transfer::apply` meets its contract. Assumes nothing.
 use Rattle.semantics.proofs.Prelude.{_≡_, sym, ap, _∙_, ℕ, _+_, needs, ne-eqb}
 use Rattle.semantics.specs.Layout.{operation-place, skip-code, set-code, add-code, sub-code, in-code}
+use Rattle.semantics.specs.Chart.{Rel}
 use Rattle.semantics.specs.Encoding.{count}
-use Rattle.transfer.specs.Transfer.{assume-at, op-by}
+use Rattle.transfer.specs.Transfer.{rel-by, assume-at, op-by}
 use Rattle.transfer.proofs.apply.Statement.{statement}
 use Rattle.transfer.proofs.apply.Tie as tie
 
@@ -40,9 +41,9 @@ returns-5 c = let m = c .before .before .before in rw (code (m .before) in-code 
 returns-6 : tie.Need-returns-6
 unfolding op-by
 returns-6 c =
-    let m = c .before .before .before in
-    let r = m .match .rest in
-    let p = m .before in
+    let g = c .before .before .before in
+    let r = g .before .match .rest in
+    let p = g .before .before in
     rw (
       ne-eqb (op p) skip-code (not-code p skip-code (r .0 .0 .0 .0 .1)),
       ne-eqb (op p) set-code (not-code p set-code (r .0 .0 .0 .1)),
@@ -50,14 +51,14 @@ returns-6 c =
       ne-eqb (op p) sub-code (not-code p sub-code (r .0 .1)),
       ne-eqb (op p) in-code (not-code p in-code (r .1)),
     )
-    (c .before .assume .ensures ∙ ap (λ (n : ℕ). assume-at (p .before .args .chart .now) n (p .before .args .edge .at) (p .before .args .row .now)) (p .edge-operation .ensures .0))
+    (c .before .assume .ensures ∙ ap (λ (t : Rel). assume-at (p .before .args .chart .now) t (p .before .args .edge .at) (p .before .args .row .now)) (g .relation .ensures ∙ ap rel-by (p .edge-operation .ensures .0)))
 
 pub apply-spec : {M : Type 1} → statement M
 apply-spec =
     tie.close
     (tie.spec
     (λ c κs. search needs) (λ c κs. search needs) (λ c κs. search needs) (λ c κs. search needs) (λ c κs. search needs)
-    (λ c κs. search needs)
+    (λ c κs. search needs) (λ c κs. search needs)
     returns
     (λ c. search needs)
     returns-2

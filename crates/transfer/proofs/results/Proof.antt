@@ -1,28 +1,8 @@
 -- `transfer::results` meets its contract. Assumes nothing.
-use Rattle.semantics.proofs.Prelude.{_≡_, _∙_, needs, ℤ, _+ℤ_, _-ℤ_, w32, w64, SFits, ofZ, toZ, toZ-ofZ, sfits-widen}
-use Rattle.words.proofs.Words.{sum-fits, diff-fits}
+use Rattle.semantics.proofs.Prelude.{needs}
+use Rattle.transfer.proofs.TransferTests.{sum, sum-is, difference, difference-is}
 use Rattle.transfer.proofs.results.Statement.{statement}
 use Rattle.transfer.proofs.results.Tie as tie
-
--- ends as they are read, and what is made of them
-abbrev read : ℤ → ℤ
-read z = toZ w64 (ofZ w64 z)
-
-module _ {a b : ℤ} (fa : SFits w32 a) (fb : SFits w32 b) where
-  as-read : (read a ≡ a) × (read b ≡ b)
-  as-read = (toZ-ofZ w64 a (sfits-widen tt fa), toZ-ofZ w64 b (sfits-widen tt fb))
-
-  sum : SFits w64 (read a +ℤ read b)
-  sum = rw (as-read .0, as-read .1) (sum-fits fa fb)
-
-  sum-is : read (read a +ℤ read b) ≡ a +ℤ b
-  sum-is = toZ-ofZ w64 _ sum ∙ λ i. as-read .0 i +ℤ as-read .1 i
-
-  difference : SFits w64 (read a -ℤ read b)
-  difference = rw (as-read .0, as-read .1) (diff-fits fa fb)
-
-  difference-is : read (read a -ℤ read b) ≡ a -ℤ b
-  difference-is = toZ-ofZ w64 _ difference ∙ λ i. as-read .0 i -ℤ as-read .1 i
 
 -- the low end is made first, then the high one
 abbrev add-start : tie.After-struct-told2 → tie.Start

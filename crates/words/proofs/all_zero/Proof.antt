@@ -2,7 +2,8 @@
 use Rattle.semantics.proofs.Prelude.{_≡_, refl, sym, ap, _∙_, _&&_, _+_, _-_, _≤_, add-one, arith, ℤ, pos, length, drop, getD, drop-of-length-le, drop-cons, w32, sfits-lit, sfits-of}
 use Rattle.semantics.specs.Chart.{eqZ}
 use Rattle.semantics.specs.Memory.{zeros}
-use Rattle.words.proofs.Words.{bits-eq, bits-ne, eqZ-sym}
+use Rattle.semantics.proofs.Integers.{eqZ-sym}
+use Rattle.words.proofs.Words.{bits-eq, bits-ne}
 use Rattle.words.proofs.all_zero.Statement.{statement}
 use Rattle.words.proofs.all_zero.Tie as tie
 
