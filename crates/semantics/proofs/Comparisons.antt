@@ -1,17 +1,15 @@
--- A comparison counts the values that satisfy it: by the ends of those values, what document 02 says of their number.
--- Assumes nothing.
-use Rattle.semantics.proofs.Prelude.{_≡_, refl, sym, ap, _∙_, subst, Bool, true, false, List, [], _∷_, ℕ, zero, suc, _<_, T, ltb→lt, length, getD, set, ℤ, pos, leZ}
+-- Comparisons are exact: by the ends of the values that satisfy them, what document 02 says of their number. Assumes nothing.
+use Rattle.semantics.proofs.Prelude.{_≡_, refl, sym, ap, _∙_, subst, Bool, true, false, List, [], _∷_, some, ℕ, zero, suc, T, getD, set, ℤ, pos, leZ}
 use Rattle.semantics.specs.declared.Span.{Span}
-use Rattle.semantics.specs.Lists.{pick}
+use Rattle.semantics.specs.Lists.{get, pick}
 use Rattle.semantics.specs.Chart.{Value, known, top, Var, var, Rel, eqZ, holds}
 use Rattle.semantics.specs.Algorithm.{Step, blocked, fault, to}
-use Rattle.semantics.specs.Constants.{range-of, one-of, turned, satisfying, refine}
-use Rattle.semantics.specs.Exact.{Satisfies, Counts, CountsExactly}
+use Rattle.semantics.specs.Constants.{one-of, turned, satisfying, refine}
+use Rattle.semantics.specs.Exact.{Satisfies, Counts, ComparesExactly}
 use Rattle.semantics.proofs.AtAndIn.{clash}
-use Rattle.semantics.proofs.Bools.{from-true, from-false, and-left, and-right}
+use Rattle.semantics.proofs.Bools.{from-true, from-false, and-left, and-right, both-true}
 use Rattle.semantics.proofs.Integers.{eqZ-refl, eqZ-same, leZ-antisym, leZ-trans}
 use Rattle.semantics.proofs.Spans.{Among, satisfying-has, satisfying-ends, holds-turned}
-use Rattle.semantics.proofs.ConstantValues.{range-in, among-range}
 use Rattle.semantics.proofs.Covering.{blocked-to}
 
 -- the value of variable k after a step that has one
@@ -37,20 +35,23 @@ set-top [] k e = refl
 set-top (w ∷ ws) zero e = ap (λ (v : Value). v ∷ ws) (sym e)
 set-top (w ∷ ws) (suc k) e = ap (λ (us : List Value). w ∷ us) (set-top ws k e)
 
-module _ (vars : List Var) (k : ℕ) (here : k < length vars) (g : Rel) (z : ℤ) (p : ℤ → Bool) (same : (x : ℤ) → holds g x z ≡ p x) (vs : List Value) (unspecific : getD vs k (known (pos 0)) ≡ top) where
+module _ (v : Var) (g : Rel) (z : ℤ) (p : ℤ → Bool) (same : (x : ℤ) → holds g x z ≡ p x) (k : ℕ) (vs : List Value) (unspecific : getD vs k (known (pos 0)) ≡ top) where
+  abbrev range : Span
+  range = record { low = v .lo; high = v .hi }
+
   abbrev s : Span
-  s = satisfying g z (range-of vars k)
+  s = satisfying g z range
 
   abbrev Left : ℤ → Type 0
-  Left = Satisfies vars k p
+  Left = Satisfies v p
 
   among : (x : ℤ) → Left x → Among s x
-  among x h = satisfying-has g z (range-of vars k) x (among-range vars k x here (h .0)) (subst T (sym (same x)) (h .1))
+  among x h = satisfying-has g z range x (and-left (leZ (v .lo) x) (leZ x (v .hi)) (h .0), and-right (leZ (v .lo) x) (leZ x (v .hi)) (h .0)) (subst T (sym (same x)) (h .1))
 
   ends : T (leZ (s .low) (s .high)) → Left (s .low) × Left (s .high)
   ends t =
-      let e = satisfying-ends g z (range-of vars k) t in
-      let left : (x : ℤ) → Among (range-of vars k) x × T (holds g x z) → Left x = λ x h. (range-in vars k x (h .0), subst T (same x) (h .1)) in
+      let e = satisfying-ends g z range t in
+      let left : (x : ℤ) → Among range x × T (holds g x z) → Left x = λ x h. (both-true (leZ (v .lo) x) (leZ x (v .hi)) (h .0 .0) (h .0 .1), subst T (same x) (h .1)) in
       (left (s .low) (e .0), left (s .high) (e .1))
 
   alone : (x y : ℤ) → s .low ≡ s .high → Left x → Left y → x ≡ y
@@ -60,13 +61,13 @@ module _ (vars : List Var) (k : ℕ) (here : k < length vars) (g : Rel) (z : ℤ
       let low : (w : ℤ) → Among s w → w ≡ s .low = λ w m. leZ-antisym w (s .low) (subst (λ (u : ℤ). T (leZ w u)) (sym e) (m .1)) (m .0) in
       low x a ∙ sym (low y b)
 
-  counts : Counts vars k p vs (refine vars g (var k) z vs)
-  counts = by-order (leZ (s .low) (s .high)) refl
+  counts : (vars : List Var) → get vars k ≡ some v → Counts v p k vs (refine vars g (var k) z vs)
+  counts vars e = rw e (by-order (leZ (s .low) (s .high)) refl)
     where
       none-left : leZ (s .low) (s .high) ≡ false → (x : ℤ) → Left x → ⊥
       none-left e x h = let a = among x h in from-false e (leZ-trans (s .low) x (s .high) (a .0) (a .1))
 
-      by-ends : T (leZ (s .low) (s .high)) → (b : Bool) → eqZ (s .low) (s .high) ≡ b → Counts vars k p vs (to (set vs k (pick b (known (s .low)) top)))
+      by-ends : T (leZ (s .low) (s .high)) → (b : Bool) → eqZ (s .low) (s .high) ≡ b → Counts v p k vs (to (set vs k (pick b (known (s .low)) top)))
       by-ends t true e =
           let only : s .low ≡ s .high = eqZ-same (s .low) (s .high) (from-true e) in
           let it : Left (s .low) = ends t .0 in
@@ -91,7 +92,7 @@ module _ (vars : List Var) (k : ℕ) (here : k < length vars) (g : Rel) (z : ℤ
             more = (λ q. (s .low, s .high, ends t .0, ends t .1, two), λ h. ap to (set-top vs k unspecific));
           }
 
-      by-order : (b : Bool) → leZ (s .low) (s .high) ≡ b → Counts vars k p vs (pick b (to (set vs k (one-of (s .low) (s .high)))) blocked)
+      by-order : (b : Bool) → leZ (s .low) (s .high) ≡ b → Counts v p k vs (pick b (to (set vs k (one-of (s .low) (s .high)))) blocked)
       by-order true e = by-ends (from-true e) (eqZ (s .low) (s .high)) refl
       by-order false e = record {
         none = (λ q. none-left e, λ h. refl);
@@ -99,12 +100,10 @@ module _ (vars : List Var) (k : ℕ) (here : k < length vars) (g : Rel) (z : ℤ
         more = (λ q. absurd (blocked-to refl q), λ h. absurd (none-left e (h .0) (h .2)));
       }
 
-pub counts-exactly : CountsExactly
-counts-exactly = record {
-  left = λ vars r k a vs z ok u e.
-      let here : k < length vars = ltb→lt k (length vars) (search (and-left, and-right)) in
-      rw (u, e) (counts vars k here r z (λ x. holds r x z) (λ x. refl) vs u);
-  right = λ vars r v k vs z ok e u.
-      let here : k < length vars = ltb→lt k (length vars) (search (and-left, and-right)) in
-      rw (e, u) (counts vars k here (turned r) z (λ x. holds r z x) (λ x. holds-turned r z x) vs u);
+pub compares-exactly : ComparesExactly
+compares-exactly = record {
+  left = λ vars r k v a vs z here u e. rw (u, e) (counts v r z (λ x. holds r x z) (λ x. refl) k vs u vars here);
+  right = λ vars r j k v vs z here e u. rw (e, u) (counts v (turned r) z (λ x. holds r z x) (λ x. holds-turned r z x) k vs u vars here);
+  decided = λ vars r k a vs x z p q. rw (p, q);
+  passes = λ vars r k a vs p q. rw (p, q);
 }

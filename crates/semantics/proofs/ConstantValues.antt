@@ -122,13 +122,7 @@ in-range-of [] k z h = absurd (omega arith)
 in-range-of (v ∷ vs) zero z h = refl
 in-range-of (v ∷ vs) (suc k) z h = in-range-of vs k z (omega arith)
 
--- the numbers in the range are those of it
-pub among-range : (vars : List Var) (k : ℕ) (x : ℤ) → k < length vars → T (in-range vars k x) → Among (range-of vars k) x
-among-range vars k x l t =
-    let r = range-of vars k in
-    let s : T (within (r .low) (r .high) x) = subst T (in-range-of vars k x l) t in
-    (and-left (leZ (r .low) x) (leZ x (r .high)) s, and-right (leZ (r .low) x) (leZ x (r .high)) s)
-
+-- a number of the range is in it
 pub range-in : (vars : List Var) (k : ℕ) (z : ℤ) → Among (range-of vars k) z → T (in-range vars k z)
 range-in vars k z h = go (get vars k) h
   where

@@ -1,9 +1,9 @@
 -- Overruns are exact: of runs, what is without a move and nothing else; of abstract moves, by the ends of spans, what
 -- document 02 says of all results. Assumes nothing.
-use Rattle.semantics.proofs.Prelude.{_≡_, refl, ap, _∙_, subst, _⊎_, inl, inr, Bool, true, false, _&&_, not, List, [], _∷_, ℕ, zero, suc, T, eqb, eqb→eq, ltb, ltb→lt, length, set, ℤ, _+ℤ_, _-ℤ_, leZ}
+use Rattle.semantics.proofs.Prelude.{_≡_, refl, ap, _∙_, subst, _⊎_, inl, inr, Bool, true, false, _&&_, not, List, [], _∷_, ℕ, zero, suc, _<_, T, eqb, eqb→eq, ltb, ltb→lt, length, set, ℤ, _+ℤ_, _-ℤ_, leZ}
 use Rattle.semantics.specs.declared.Span.{Span}
 use Rattle.semantics.specs.Lists.{pick, all}
-use Rattle.semantics.specs.Chart.{Value, known, top, Var, Operand, num, var, Op, assign, add, sub, input, assume, skip, Edge, Chart, in-range, Ranged, value, Becomes, result-outside, holds, Rel}
+use Rattle.semantics.specs.Chart.{Value, known, top, Var, Operand, num, var, Op, assign, add, sub, input, assume, skip, Edge, Chart, within, in-range, Ranged, value, Becomes, result-outside, holds, Rel}
 use Rattle.semantics.specs.Algorithm.{Step, blocked, fault, to}
 use Rattle.semantics.specs.Constants.{AbstractState, operand-value, range-of, value-span, operand-span, sums, differences, assign-value, one-of, turned, satisfying, refine, tested, effect, arrive-at, post}
 use Rattle.semantics.specs.Encoding.{var-ok, operand-ok, op-ok, edge-ok, chart-ok}
@@ -12,7 +12,7 @@ use Rattle.semantics.proofs.Bools.{from-true, and-left, and-right, both
 use Rattle.semantics.proofs.Integers.{leZ-refl}
 use Rattle.semantics.proofs.Spans.{Among, among-only, among-sums, among-differences}
 use Rattle.semantics.proofs.Covering.{blocked-fault, fault-to}
-use Rattle.semantics.proofs.ConstantValues.{ranged-set, ranged-as-set, among-range, assign-faults, computed-faults}
+use Rattle.semantics.proofs.ConstantValues.{ranged-set, ranged-as-set, in-range-of, assign-faults, computed-faults}
 use Rattle.semantics.proofs.ConstantsSound.{along}
 use Rattle.semantics.proofs.StatesOk.{bounds}
 
@@ -71,6 +71,12 @@ range-ends (v ∷ vs) zero t =
     let h : T (leZ (v .lo) (v .hi)) = search (and-left, and-right) depth 8 in
     (both-true (leZ (v .lo) (v .lo)) (leZ (v .lo) (v .hi)) (leZ-refl (v .lo)) h, both-true (leZ (v .lo) (v .hi)) (leZ (v .hi) (v .hi)) h (leZ-refl (v .hi)))
 range-ends (v ∷ vs) (suc k) t = range-ends vs k (and-right (var-ok v) (all var-ok vs) t)
+
+among-range : (vars : List Var) (k : ℕ) (x : ℤ) → k < length vars → T (in-range vars k x) → Among (range-of vars k) x
+among-range vars k x l t =
+    let r = range-of vars k in
+    let s : T (within (r .low) (r .high) x) = subst T (in-range-of vars k x l) t in
+    (and-left (leZ (r .low) x) (leZ x (r .high)) s, and-right (leZ (r .low) x) (leZ x (r .high)) s)
 
 module _ (vars : List Var) where
   among : (a : Operand) (vs : List Value) (x : ℤ) → T (operand-ok vars a) → OperandMayBe vars a vs x → Among (operand-span vars a vs) x

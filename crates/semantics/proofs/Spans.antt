@@ -59,11 +59,14 @@ End r x = (x ≡ r .low) ⊎ (x ≡ r .high)
 apart : (x z : ℤ) → (x ≡ z → ⊥) → T (not (eqZ x z))
 apart x z h = not-T (eqZ x z) (λ t. h (eqZ-same x z t))
 
--- but for z itself: all others are left, and the ends are two of them
+-- but for z itself, by the tests of the two ends: all others are left, and the ends are two of them
+abbrev by-tests : ℤ → Span → Bool → Bool → Span
+by-tests z r p q = pick p (at-least (z +ℤ pos 1) r) (pick q (at-most (z -ℤ pos 1) r) r)
+
 other-has : (z : ℤ) (r : Span) (x : ℤ) → Among r x → (x ≡ z → ⊥) → Among (other-than z r) x
 other-has z r x h d = go (eqZ (r .low) z) refl (eqZ (r .high) z) refl
   where
-    go : (p : Bool) → eqZ (r .low) z ≡ p → (q : Bool) → eqZ (r .high) z ≡ q → Among (pick p (at-least (z +ℤ pos 1) r) (pick q (at-most (z -ℤ pos 1) r) r)) x
+    go : (p : Bool) → eqZ (r .low) z ≡ p → (q : Bool) → eqZ (r .high) z ≡ q → Among (by-tests z r p q) x
     go true e q f = at-least-has (z +ℤ pos 1) r x h (subst T (lt-suc z x) (lt-of z x (subst (λ (y : ℤ). T (leZ y x)) (eqZ-same (r .low) z (from-true e)) (h .0)) d))
     go false e true f = at-most-has (z -ℤ pos 1) r x h (subst T (lt-pred x z) (lt-of x z (subst (λ (y : ℤ). T (leZ x y)) (eqZ-same (r .high) z (from-true f)) (h .1)) (λ k. d (sym k))))
     go false e false f = h
@@ -74,8 +77,7 @@ other-end z r x h d = go (eqZ (r .low) z) refl (eqZ (r .high) z) refl h d
     is-not : (y : ℤ) → eqZ y z ≡ false → x ≡ y → x ≡ z → ⊥
     is-not y e p q = from-false e (subst (λ (w : ℤ). T (eqZ y w)) (sym p ∙ q) (eqZ-refl y))
 
-    go : (p : Bool) → eqZ (r .low) z ≡ p → (q : Bool) → eqZ (r .high) z ≡ q
-        → Among (pick p (at-least (z +ℤ pos 1) r) (pick q (at-most (z -ℤ pos 1) r) r)) x → End (pick p (at-least (z +ℤ pos 1) r) (pick q (at-most (z -ℤ pos 1) r) r)) x → Among r x × (x ≡ z → ⊥)
+    go : (p : Bool) → eqZ (r .low) z ≡ p → (q : Bool) → eqZ (r .high) z ≡ q → Among (by-tests z r p q) x → End (by-tests z r p q) x → Among r x × (x ≡ z → ⊥)
     go true e q f h d = let u = at-least-only (z +ℤ pos 1) r x h in (u .0, λ k. lt-apart z x (subst T (sym (lt-suc z x)) (u .1)) (sym k))
     go false e true f h d = let u = at-most-only (z -ℤ pos 1) r x h in (u .0, lt-apart x z (subst T (sym (lt-pred x z)) (u .1)))
     go false e false f h d = (h, elim d [ inl p ↦ is-not (r .low) e p | inr p ↦ is-not (r .high) f p ])
