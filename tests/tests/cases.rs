@@ -28,12 +28,13 @@ fn assert_prints(all: &[Worked]) {
 /// location or overruns, which is found out by going through all concrete states.
 #[test]
 fn every_example_means_what_its_description_says() {
-    const DESCRIBED: [(&str, &str, bool); 14] = [
+    const DESCRIBED: [(&str, &str, bool); 15] = [
         ("axis", "alarm", true),
         ("axis-join", "alarm", false),
         ("axis-mended", "safe", false),
         ("feeder-pitch", "safe", false),
         ("feeder-pitch-open", "open", false),
+        ("gripper", "safe", false),
         ("head-nozzle", "alarm", true),
         ("head-nozzle-mended", "safe", false),
         ("nozzle", "alarm", true),
