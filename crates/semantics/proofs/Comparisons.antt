@@ -1,4 +1,4 @@
--- Comparisons are exact: by the ends of the values that satisfy them, what document 02 says of their number. Assumes nothing.
+-- Comparisons go by the ends of the values that satisfy them, and so count these values as document 02 says. Assumes nothing.
 use Rattle.semantics.proofs.Prelude.{_≡_, refl, sym, ap, _∙_, subst, Bool, true, false, List, [], _∷_, some, ℕ, zero, suc, T, getD, set, ℤ, pos, leZ}
 use Rattle.semantics.specs.declared.Span.{Span}
 use Rattle.semantics.specs.Lists.{get, pick}
@@ -9,7 +9,7 @@ use Rattle.semantics.specs.Exact.{Satisfies, Counts, ComparesExactly}
 use Rattle.semantics.proofs.AtAndIn.{clash}
 use Rattle.semantics.proofs.Bools.{from-true, from-false, and-left, and-right, both-true}
 use Rattle.semantics.proofs.Integers.{eqZ-refl, eqZ-same, leZ-antisym, leZ-trans}
-use Rattle.semantics.proofs.Spans.{Among, satisfying-has, satisfying-ends, holds-turned}
+use Rattle.semantics.proofs.SpanNumbers.{Among, satisfying-has, satisfying-ends, holds-turned}
 use Rattle.semantics.proofs.Covering.{blocked-to}
 
 -- the value of variable k after a step that has one
@@ -24,7 +24,7 @@ known-top z e = clash cc
 known-same : (x y : ℤ) → known x ≡ known y → x ≡ y
 known-same x y e = cc
 
--- a value that is top, set
+-- where variable k is at top, and so one of vs: what is set there is found there, and top changes nothing
 set-get : (vs : List Value) (k : ℕ) (v : Value) → getD vs k (known (pos 0)) ≡ top → getD (set vs k v) k (known (pos 0)) ≡ v
 set-get [] k v e = absurd (known-top (pos 0) e)
 set-get (w ∷ ws) zero v e = refl
@@ -45,6 +45,7 @@ module _ (v : Var) (g : Rel) (z : ℤ) (p : ℤ → Bool) (same : (x : ℤ) → 
   abbrev Left : ℤ → Type 0
   Left = Satisfies v p
 
+  -- what satisfies it lies between the ends, and these satisfy it where there are any
   among : (x : ℤ) → Left x → Among s x
   among x h = satisfying-has g z range x (and-left (leZ (v .lo) x) (leZ x (v .hi)) (h .0), and-right (leZ (v .lo) x) (leZ x (v .hi)) (h .0)) (subst T (sym (same x)) (h .1))
 
@@ -67,6 +68,7 @@ module _ (v : Var) (g : Rel) (z : ℤ) (p : ℤ → Bool) (same : (x : ℤ) → 
       none-left : leZ (s .low) (s .high) ≡ false → (x : ℤ) → Left x → ⊥
       none-left e x h = let a = among x h in from-false e (leZ-trans (s .low) x (s .high) (a .0) (a .1))
 
+      -- one value, or two, which are the ends
       by-ends : T (leZ (s .low) (s .high)) → (b : Bool) → eqZ (s .low) (s .high) ≡ b → Counts v p k vs (to (set vs k (pick b (known (s .low)) top)))
       by-ends t true e =
           let only : s .low ≡ s .high = eqZ-same (s .low) (s .high) (from-true e) in
@@ -92,6 +94,7 @@ module _ (v : Var) (g : Rel) (z : ℤ) (p : ℤ → Bool) (same : (x : ℤ) → 
             more = (λ q. (s .low, s .high, ends t .0, ends t .1, two), λ h. ap to (set-top vs k unspecific));
           }
 
+      -- some, or none
       by-order : (b : Bool) → leZ (s .low) (s .high) ≡ b → Counts v p k vs (pick b (to (set vs k (one-of (s .low) (s .high)))) blocked)
       by-order true e = by-ends (from-true e) (eqZ (s .low) (s .high)) refl
       by-order false e = record {

@@ -7,7 +7,7 @@ use Rattle.semantics.specs.Algorithm.{Step, blocked, fault, to}
 use Rattle.semantics.specs.Constants.{AbstractState, equal-value, leq-value, join-values, operand-value, both, only, range-of, value-span, operand-span, sums, differences, span-in-range, assign-value, computed, turned, satisfying, refine, tested, one-of, effect, arrive-at, post}
 use Rattle.semantics.proofs.Bools.{from-true, to-false, and-left, and-right, both-true, not-both}
 use Rattle.semantics.proofs.Integers.{eqZ-same, leZ-antisym, leZ-trans}
-use Rattle.semantics.proofs.Spans.{Among, among-only, among-sums, among-differences, satisfying-has, satisfying-ends, holds-turned}
+use Rattle.semantics.proofs.SpanNumbers.{Among, among-only, among-sums, among-differences, satisfying-has, satisfying-ends, holds-turned}
 use Rattle.semantics.proofs.Covering.{blocked-to, fault-to}
 
 -- one value
@@ -123,7 +123,7 @@ in-range-of (v ∷ vs) zero z h = refl
 in-range-of (v ∷ vs) (suc k) z h = in-range-of vs k z (omega arith)
 
 -- a number of the range is in it
-pub range-in : (vars : List Var) (k : ℕ) (z : ℤ) → Among (range-of vars k) z → T (in-range vars k z)
+range-in : (vars : List Var) (k : ℕ) (z : ℤ) → Among (range-of vars k) z → T (in-range vars k z)
 range-in vars k z h = go (get vars k) h
   where
     go : (o : Option Var) → Among (map-or o (only (pos 0)) (λ v. record { low = v .lo; high = v .hi })) z → T (map-or o true (λ v. within (v .lo) (v .hi) z))

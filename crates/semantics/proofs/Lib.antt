@@ -11,7 +11,7 @@ pub mod Tidy
 pub mod SettingsKept
 pub mod Verdicts
 pub mod Simulate
-pub mod Spans
+pub mod SpanNumbers
 pub mod ConstantValues
 pub mod ConstantsSound
 pub mod StatesOk

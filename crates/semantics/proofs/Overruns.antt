@@ -10,7 +10,7 @@ use Rattle.semantics.specs.Encoding.{var-ok, operand-ok, op-ok, edge-ok,
 use Rattle.semantics.specs.Exact.{CanOverrun, OverrunsExactly, MayBe, OperandMayBe, SomeOutside, FaultsExactly}
 use Rattle.semantics.proofs.Bools.{from-true, and-left, and-right, both-true, not-both}
 use Rattle.semantics.proofs.Integers.{leZ-refl}
-use Rattle.semantics.proofs.Spans.{Among, among-only, among-sums, among-differences}
+use Rattle.semantics.proofs.SpanNumbers.{Among, among-only, among-sums, among-differences}
 use Rattle.semantics.proofs.Covering.{blocked-fault, fault-to}
 use Rattle.semantics.proofs.ConstantValues.{ranged-set, ranged-as-set, in-range-of, assign-faults, computed-faults}
 use Rattle.semantics.proofs.ConstantsSound.{along}

@@ -6,7 +6,7 @@ use Rattle.semantics.specs.Chart.{Rel, within}
 use Rattle.semantics.specs.Constants.{satisfying}
 use Rattle.semantics.specs.Encoding.{word-at, variable-count}
 use Rattle.semantics.proofs.Bools.{to-true, left-true, right-true}
-use Rattle.semantics.proofs.Spans.{Among, satisfying-ends}
+use Rattle.semantics.proofs.SpanNumbers.{Among, satisfying-ends}
 use Rattle.words.proofs.Words.{between-fits, sum-fits, diff-fits}
 use Rattle.state.specs.Rows.{head-size}
 use Rattle.transfer.specs.Transfer.{Narrow, initial-words, initial-row}
@@ -23,7 +23,7 @@ satisfying-fits g z r n t = let e = satisfying-ends g z r t in (fits (satisfying
     fits x h = between-fits x (n .0) (n .1) (to-true (leZ (r .low) x) (h .0)) (to-true (leZ x (r .high)) (h .1))
 
 -- a number as the machine reads it in 64 bits, and what is made of two words
-abbrev read : ℤ → ℤ
+abbrev pub read : ℤ → ℤ
 read z = toZ w64 (ofZ w64 z)
 
 module _ {a b : ℤ} (fa : SFits w32 a) (fb : SFits w32 b) where

@@ -109,9 +109,9 @@ compute-at s c i e =
 unfoldable pub input-at : List ℤ → ℕ → List ℤ → Step (List ℤ)
 input-at c i e = to (with-value e (target-at c i) (word-join (word-at c (i + first-value-place)) (word-at c (i + second-value-place))))
 
--- ---- `if`: the relation of a code
+-- ---- `if`
 
--- the relation of code n; past the last it is the last
+-- the relation of code n; of any other code it is `ge`
 abbrev pub rel-by : ℕ → Rel
 rel-by n = pick (eqb n eq-code) eq (pick (eqb n ne-code) ne (pick (eqb n lt-code) lt (pick (eqb n le-code) le (pick (eqb n gt-code) gt ge))))
 

@@ -176,7 +176,7 @@ fn input(chart: &[i32], edge: EdgeRow, row: &mut [i32]) -> Move
 
 // ---- `if`
 
-// The relation of a code (docs/memory.md).
+// The relation of a code (docs/memory.md); of any other code it is `ge`.
 fn relation(n: usize) -> Relation
     ensures { λ r. ⌜ the-relation r ≡ rel-by n ⌝ }
 {
@@ -190,6 +190,7 @@ fn relation(n: usize) -> Relation
     }
 }
 
+// Whether the relation holds.
 fn holds(rel: Relation, a: i32, b: i32) -> bool
     ensures { λ r. ⌜ r ≡ holds (the-relation rel) a b ⌝ }
 {
@@ -203,7 +204,7 @@ fn holds(rel: Relation, a: i32, b: i32) -> bool
     }
 }
 
-// The relation with its sides changed over.
+// The relation from the other side.
 fn turned(rel: Relation) -> Relation
     ensures { λ r. ⌜ the-relation r ≡ turned (the-relation rel) ⌝ }
 {
@@ -217,7 +218,7 @@ fn turned(rel: Relation) -> Relation
     }
 }
 
-// The numbers of the range from z on.
+// The numbers of the range from z on; here and below low is above high where there are none.
 fn at_least(z: i64, range: Span) -> Span
     ensures { λ r. ⌜ r ≡ at-least z range ⌝ }
 {
@@ -243,7 +244,7 @@ fn at_most(z: i64, range: Span) -> Span
     range
 }
 
-// From the first number of the range that is not z to the last.
+// From the first to the last number of the range other than z.
 fn other_than(z: i64, range: Span) -> Span
     requires { ⌜ SFits w32 z ⌝ }
     ensures { λ r. ⌜ r ≡ other-than z range ⌝ }
@@ -257,7 +258,7 @@ fn other_than(z: i64, range: Span) -> Span
     range
 }
 
-// From the first number of the range that stands in the relation to z to the last; low is above high where there is none.
+// From the first to the last number of the range that stands in the relation to z; with `ne`, z itself may lie between them.
 fn satisfying(rel: Relation, z: i64, range: Span) -> Span
     requires { ⌜ SFits w32 z ⌝ }
     ensures { λ r. ⌜ r ≡ satisfying (the-relation rel) z range ⌝ }
@@ -273,7 +274,7 @@ fn satisfying(rel: Relation, z: i64, range: Span) -> Span
 }
 
 // Variable k, at top, stands in the relation to x, which is known (request 2.6): no successor where no number of its range
-// does; known where one does.
+// does; known where a single one does, else top as it is.
 fn refine(chart: &[i32], rel: Relation, k: usize, x: i32, row: &mut [i32]) -> Move
     requires { ⌜ k < index-limit ⌝ }
     ensures { λ r. ⌜ step-of r (now (row .exit)) ≡ refine-by (now (chart .entry)) (the-relation rel) k x (now (row .entry)) ⌝ }
@@ -289,7 +290,8 @@ fn refine(chart: &[i32], rel: Relation, k: usize, x: i32, row: &mut [i32]) -> Mo
     Move::Successor
 }
 
-// The relation between the target and an operand: a test where both are known, or what it says of the one at top.
+// The relation between the target and an operand: a test where both are known, what it says of the one at top, or nothing
+// where neither is known.
 fn assume(chart: &[i32], rel: Relation, edge: EdgeRow, row: &mut [i32]) -> Move
     requires { ⌜ edge .at < index-limit ⌝ }
     ensures { λ r. ⌜ step-of r (now (row .exit)) ≡ assume-at (now (chart .entry)) (the-relation rel) (edge .at) (now (row .entry)) ⌝ }
