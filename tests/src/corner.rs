@@ -2,7 +2,7 @@
 
 use std::collections::BTreeSet;
 
-use crate::chart::{Chart, Operand, Operation, Relation, Variable};
+use crate::chart::{Chart, Operand, Operation, Relation, Variable, NUMBERS};
 use crate::domain::{self, value_of, Value, TOP};
 
 #[derive(Clone, Copy, Debug, PartialEq, Eq, PartialOrd, Ord)]
@@ -32,6 +32,8 @@ pub enum Corner {
     /// A comparison of a known value with an unspecific variable that has no successor, or one that is
     /// left in the table; `low` and `high` are where the value lies beside the variable's range.
     Comparison { relation: Relation, known: KnownSide, rest: Rest, low: End, high: End },
+    /// Such a comparison where value and range end at the lowest of all numbers, or at the highest.
+    ComparisonAtLimit { relation: Relation, known: KnownSide, is_lowest: bool },
     /// A comparison of two unspecific variables, or of one with itself.
     NoneKnown { relation: Relation, is_itself: bool },
 }
@@ -147,6 +149,11 @@ pub fn note_comparison(
         Some(_) if low == high => Rest::OnlyValue,
         Some(_) => Rest::OneOfSeveral,
     };
+    for (limit, end, is_lowest) in [(NUMBERS.start(), low, true), (NUMBERS.end(), high, false)] {
+        if [value, end] == [*limit; 2] {
+            corners.insert(Corner::ComparisonAtLimit { relation, known, is_lowest });
+        }
+    }
     let (low, high) = (End::beyond_bound_by(low - value), End::beyond_bound_by(value - high));
     corners.insert(Corner::Comparison { relation, known, rest, low, high });
 }

@@ -95,7 +95,9 @@ pub fn corner_labels_of(analysis: &Analysis) -> BTreeSet<String> {
             Corner::Comparison { relation, known, rest, low, high } => {
                 labels.extend(comparison_labels(relation, known, rest, low, high));
             }
-            Corner::OneValue { .. } | Corner::NoneKnown { .. } => {
+            Corner::OneValue { .. }
+            | Corner::NoneKnown { .. }
+            | Corner::ComparisonAtLimit { .. } => {
                 labels.extend([format!("{corner:?}")]);
             }
             _ => labels.extend([format!("{corner:?} {order}")]),
@@ -203,6 +205,10 @@ pub fn corner_labels() -> Vec<String> {
             labels.push(format!("{:?}", Corner::NoneKnown { relation, is_itself }));
         }
         for known in [KnownSide::Left, KnownSide::Right, KnownSide::Number] {
+            for is_lowest in [true, false] {
+                let corner = Corner::ComparisonAtLimit { relation, known, is_lowest };
+                labels.push(format!("{corner:?}"));
+            }
             let comparison = comparison_label(relation, known);
             labels.push(format!("{comparison}, within"));
             for end in [End::OneInside, End::AtBound, End::OnePast, End::FarPast] {

@@ -115,12 +115,12 @@ input-at c i e = to (with-value e (target-at c i) (word-join (word-at c (i + fir
 abbrev pub rel-by : ℕ → Rel
 rel-by n = pick (eqb n eq-code) eq (pick (eqb n ne-code) ne (pick (eqb n lt-code) lt (pick (eqb n le-code) le (pick (eqb n gt-code) gt ge))))
 
--- variable k, at top, stands in the relation to x, which is known: "count the values of its declared range that satisfy it:
--- none gives no successor, one becomes known, more leave it unspecific"
+-- variable k, at top, stands in the relation to x, which is known. 2.6: "count the values of its declared range that satisfy
+-- it: none gives no successor, one becomes known, more leave it unspecific"
 unfoldable pub refine-by : List ℤ → Rel → ℕ → ℤ → List ℤ → Step (List ℤ)
 refine-by c r k x e = let s = satisfying r x (range-at c k) in pick (leZ (s .low) (s .high)) (to (with-value e k (word-join (s .low) (s .high)))) blocked
 
--- its sides are x, variable k, and y, variable j where it is at top
+-- an `if` whose sides are x, which is variable k, and y, which is variable j where it is at top
 unfoldable pub tested-by : List ℤ → Rel → ℕ → ℕ → ℤ → ℤ → List ℤ → Step (List ℤ)
 tested-by c r k j x y e =
     pick (eqZ x top-word && eqZ y top-word) (to e) (pick (eqZ x top-word) (refine-by c r k y e) (pick (eqZ y top-word) (refine-by c (turned r) j x e) (pick (holds r x y) (to e) blocked)))

@@ -199,7 +199,7 @@ fn beside(random: &mut Random, variables: &[Variable], computation: Operation) -
 pub fn gates(random: &mut Random) -> Chart {
     let (lowest, highest) = (*NUMBERS.start(), *NUMBERS.end());
     let reach = random.pick(&[0, 0, 0, 1, 1, 2, 3, 4]);
-    let low = random.pick(&[lowest, highest - reach, -reach, -1, 0, 1, 2]);
+    let low = random.pick(&[lowest, lowest, highest - reach, highest - reach, -reach, -1, 0, 1, 2]);
     let unspecific = Variable { name: name(random, 0), low, high: low + reach, init: None };
     let known = |random: &mut Random, index: usize| {
         let value = operations::threshold(random, &unspecific);
