@@ -11,7 +11,7 @@ use Rattle.semantics.proofs.Bools.{and-left, and-right, and-regroup, both-true}
 use Rattle.semantics.proofs.MemoryInForm.{word-back}
 use Rattle.semantics.proofs.Integers.{eqZ-sym}
 use Rattle.words.proofs.Words.{eqZ-self}
-use Rattle.chart.specs.Encoded.{name-word, location-fine, operand-fine, ranged, two-fine, one-fine, input-fine, operands-fine, operation-fine, edge-fine, at-most}
+use Rattle.chart.specs.Encoded.{name-word, location-fine, operand-fine, ranged, two-fine, one-fine, input-fine, operands-fine, operation-fine, edge-fine, is-at-most}
 use Rattle.chart.proofs.Rows.{iff, interchange}
 
 -- a word is the number that it says where it is not below 0
@@ -176,7 +176,7 @@ module _ (vars : List Var) (vw : List ℤ) (in-words : (k : ℕ) (z : ℤ) → k
 
     abbrev Judged : ℤ → ℤ → ℤ → Type 0
     Judged f g o = begins-with (op-words (op (natAbs o))) (o ∷ t ∷ a ∷ x ∷ b ∷ y ∷ ws) && op-ok vars (op (natAbs o))
-        ≡ at-most ge-code o && operation-fine vw (length vars) (f ∷ g ∷ o ∷ t ∷ a ∷ x ∷ b ∷ y ∷ ws)
+        ≡ is-at-most ge-code o && operation-fine vw (length vars) (f ∷ g ∷ o ∷ t ∷ a ∷ x ∷ b ∷ y ∷ ws)
 
     -- by the code: `skip`, `set`, `add`, `sub`, `in`, and the six of `if`
     operation-row : (f g o : ℤ) → Judged f g o
@@ -206,4 +206,4 @@ module _ (c : Chart) (vw : List ℤ) (in-words : (k : ℕ) (z : ℤ) → k < len
       rw (said f, said g)
       (shuffle-edge (nonNeg f) (nonNeg g) (begins-with (op-words q) w) (ltb (natAbs f) l) (ltb (natAbs g) l) (op-ok (c .vars) q)
       ∙ ap (λ (u : Bool). (below l f && below l g) && u) (operation-row (c .vars) vw in-words t a x b y ws f g o)
-      ∙ and-regroup (below l f && below l g) (at-most ge-code o) (operation-fine vw (length (c .vars)) (f ∷ g ∷ w)))
+      ∙ and-regroup (below l f && below l g) (is-at-most ge-code o) (operation-fine vw (length (c .vars)) (f ∷ g ∷ w)))

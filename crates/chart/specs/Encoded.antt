@@ -21,8 +21,8 @@ rows k n ws = several (λ r. r) k n ws
 -- ---- one word
 
 -- a number from 0 to n
-abbrev pub at-most : ℕ → ℤ → Bool
-at-most n z = nonNeg z && leb (natAbs z) n
+abbrev pub is-at-most : ℕ → ℤ → Bool
+is-at-most n z = nonNeg z && leb (natAbs z) n
 
 -- a word that is a byte of a name
 unfoldable pub name-word : ℤ → Bool
@@ -34,7 +34,7 @@ name-word z =
 -- no more variables, locations and edges than a chart may have, and a location at least
 unfoldable pub counts-fine : List ℤ → Bool
 counts-fine ws =
-    at-most most-variables (word-at ws variables-place) && at-most most-locations (word-at ws locations-place) && leb 1 (location-count ws) && at-most most-edges (word-at ws edges-place)
+    is-at-most most-variables (word-at ws variables-place) && is-at-most most-locations (word-at ws locations-place) && leb 1 (location-count ws) && is-at-most most-edges (word-at ws edges-place)
 
 -- where the locations' words begin
 abbrev pub locations-at : List ℤ → ℕ
@@ -91,7 +91,7 @@ operation-fine vars v ws =
 -- one edge; v variables, l locations
 unfoldable pub edge-fine : List ℤ → ℕ → ℕ → List ℤ → Bool
 edge-fine vars v l ws =
-    below l (word-at ws from-place) && below l (word-at ws to-place) && at-most ge-code (word-at ws operation-place) && operation-fine vars v ws
+    below l (word-at ws from-place) && below l (word-at ws to-place) && is-at-most ge-code (word-at ws operation-place) && operation-fine vars v ws
 
 -- ---- all rows
 

@@ -22,7 +22,7 @@ ghost use Rattle.semantics.specs.Layout.{counts-size, variable-size, name-size,
 ghost use Rattle.semantics.specs.Encoding.{word-at, count, val, kind-word, rel-code, tag, operand-word, var-words, loc-words, op-words, edge-words, init-ok, var-in, var-ok, loc-in, several, distinct-names, decode, well-formed, variable-count, location-count, edge-count};
 ghost use Rattle.semantics.specs.Operations.{the-operand, the-relation, the-operation};
 ghost use Rattle.semantics.specs.Listing.{loc-text};
-ghost use Rattle.chart.specs.Encoded.{rows, at-most, name-word, counts-fine, locations-at, edges-at, location-fine, operand-fine, ranged, two-fine, one-fine, input-fine, operands-fine, operation-fine, edge-fine, rows-fine, byte-of};
+ghost use Rattle.chart.specs.Encoded.{rows, is-at-most, name-word, counts-fine, locations-at, edges-at, location-fine, operand-fine, ranged, two-fine, one-fine, input-fine, operands-fine, operation-fine, edge-fine, rows-fine, byte-of};
 ghost use Rattle.chart.specs.Rows.{stored, rows-size, the-variable, the-location, the-edge, sum-code, split-words};
 
 // ---- the layout, under the names of semantics/specs/Layout
@@ -119,7 +119,7 @@ pub const VARIABLE_TAG: i32 = 1;
 
 // A number from 0 up to n.
 fn is_at_most(n: usize, w: i32) -> bool
-    ensures { λ r. ⌜ r ≡ at-most n w ⌝ }
+    ensures { λ r. ⌜ r ≡ is-at-most n w ⌝ }
 {
     (0 <= w) & (words::magnitude(w) <= n)
 }

@@ -22,25 +22,25 @@ satisfying-fits g z r n t = let e = satisfying-ends g z r t in (fits (satisfying
     fits : (x : ℤ) → Among r x → SFits w32 x
     fits x h = between-fits x (n .0) (n .1) (to-true (leZ (r .low) x) (h .0)) (to-true (leZ x (r .high)) (h .1))
 
--- a number as the machine reads it in 64 bits, and what is made of two words
-abbrev pub read : ℤ → ℤ
-read z = toZ w64 (ofZ w64 z)
+-- a number as an i64 holds it, and what is made of two words
+abbrev pub as-i64 : ℤ → ℤ
+as-i64 z = toZ w64 (ofZ w64 z)
 
 module _ {a b : ℤ} (fa : SFits w32 a) (fb : SFits w32 b) where
-  as-read : (read a ≡ a) × (read b ≡ b)
-  as-read = (toZ-ofZ w64 a (sfits-widen tt fa), toZ-ofZ w64 b (sfits-widen tt fb))
+  unchanged : (as-i64 a ≡ a) × (as-i64 b ≡ b)
+  unchanged = (toZ-ofZ w64 a (sfits-widen tt fa), toZ-ofZ w64 b (sfits-widen tt fb))
 
-  pub sum : SFits w64 (read a +ℤ read b)
-  sum = rw (as-read .0, as-read .1) (sum-fits fa fb)
+  pub sum : SFits w64 (as-i64 a +ℤ as-i64 b)
+  sum = rw (unchanged .0, unchanged .1) (sum-fits fa fb)
 
-  pub sum-is : read (read a +ℤ read b) ≡ a +ℤ b
-  sum-is = toZ-ofZ w64 _ sum ∙ λ i. as-read .0 i +ℤ as-read .1 i
+  pub sum-is : as-i64 (as-i64 a +ℤ as-i64 b) ≡ a +ℤ b
+  sum-is = toZ-ofZ w64 _ sum ∙ λ i. unchanged .0 i +ℤ unchanged .1 i
 
-  pub difference : SFits w64 (read a -ℤ read b)
-  difference = rw (as-read .0, as-read .1) (diff-fits fa fb)
+  pub difference : SFits w64 (as-i64 a -ℤ as-i64 b)
+  difference = rw (unchanged .0, unchanged .1) (diff-fits fa fb)
 
-  pub difference-is : read (read a -ℤ read b) ≡ a -ℤ b
-  difference-is = toZ-ofZ w64 _ difference ∙ λ i. as-read .0 i -ℤ as-read .1 i
+  pub difference-is : as-i64 (as-i64 a -ℤ as-i64 b) ≡ a -ℤ b
+  difference-is = toZ-ofZ w64 _ difference ∙ λ i. unchanged .0 i -ℤ unchanged .1 i
 
 pub initial-start : (c out : List ℤ) (n : ℕ) → 0 < length out → n ≡ variable-count c → initial-row c ≡ take head-size (set out 0 (pos 0)) ++ initial-words c (variable-at 0 + init-place) (n + 1 - 1)
 unfolding initial-row

@@ -1,11 +1,11 @@
 -- `transfer::at_least` meets its contract. Assumes nothing.
 use Rattle.semantics.proofs.Prelude.{_≡_, sym, _∙_, sfits-of, ltZ, w64, toZ-ofZ}
-use Rattle.transfer.proofs.TransferTests.{read}
+use Rattle.transfer.proofs.TransferTests.{as-i64}
 use Rattle.transfer.proofs.at_least.Statement.{statement}
 use Rattle.transfer.proofs.at_least.Tie as tie
 
 -- the test, of the numbers and of their bits
-test-is : (c : tie.After-struct-told) → let a = c .before .before .args in ltZ (a .range .low) (a .z) ≡ ltZ (read (a .range .low)) (read (a .z))
+test-is : (c : tie.After-struct-told) → let a = c .before .before .args in ltZ (a .range .low) (a .z) ≡ ltZ (as-i64 (a .range .low)) (as-i64 (a .z))
 test-is c =
     let s = c .before .before in
     let low = toZ-ofZ w64 (s .args .range .low) (sfits-of (c .struct-told .given .0 .1)) in

@@ -1,11 +1,11 @@
 -- `transfer::at_most` meets its contract. Assumes nothing.
 use Rattle.semantics.proofs.Prelude.{_≡_, sym, _∙_, sfits-of, ltZ, w64, toZ-ofZ}
-use Rattle.transfer.proofs.TransferTests.{read}
+use Rattle.transfer.proofs.TransferTests.{as-i64}
 use Rattle.transfer.proofs.at_most.Statement.{statement}
 use Rattle.transfer.proofs.at_most.Tie as tie
 
 -- the test, of the numbers and of their bits
-test-is : (c : tie.After-struct-told) → let a = c .before .before .args in ltZ (a .z) (a .range .high) ≡ ltZ (read (a .z)) (read (a .range .high))
+test-is : (c : tie.After-struct-told) → let a = c .before .before .args in ltZ (a .z) (a .range .high) ≡ ltZ (as-i64 (a .z)) (as-i64 (a .range .high))
 test-is c =
     let s = c .before .before in
     let z = toZ-ofZ w64 (s .args .z) (s .fits .z) in

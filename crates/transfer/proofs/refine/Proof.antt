@@ -9,12 +9,12 @@ use Rattle.semantics.specs.Constants.{satisfying}
 use Rattle.words.proofs.Words.{wide-told, told}
 use Rattle.state.specs.Rows.{with-value, word-join}
 use Rattle.transfer.specs.Transfer.{Narrow, range-at, refine-by}
-use Rattle.transfer.proofs.TransferTests.{satisfying-fits, read}
+use Rattle.transfer.proofs.TransferTests.{satisfying-fits, as-i64}
 use Rattle.transfer.proofs.refine.Statement.{statement}
 use Rattle.transfer.proofs.refine.Tie as tie
 
 -- x as it is made wider
-known : (c : tie.After-wide) → read (c .wide .result) ≡ c .before .args .x
+known : (c : tie.After-wide) → as-i64 (c .wide .result) ≡ c .before .args .x
 known c = wide-told (sfits-of {z = c .wide .result} (c .wide .ok)) (c .before .fits .x) (c .wide .ensures)
 
 satisfying-requires : tie.Need-satisfying-requires
@@ -34,13 +34,13 @@ module _ (c : tie.After-struct-told) where
   left-is : left ≡ satisfying (the-relation (start .args .rel)) (start .args .x) (range-at (start .args .chart .now) (start .args .k))
   left-is = m .satisfying .ensures ∙ λ i. satisfying (the-relation (start .args .rel)) (known (m .before .before) i) (m .before .range-of .ensures .0 i)
 
-  low-read : read (left .low) ≡ left .low
+  low-read : as-i64 (left .low) ≡ left .low
   low-read = toZ-ofZ w64 (left .low) (sfits-of (c .struct-told .given .0 .1))
 
-  high-read : read (left .high) ≡ left .high
+  high-read : as-i64 (left .high) ≡ left .high
   high-read = toZ-ofZ w64 (left .high) (sfits-of (c .struct-told .given .1 .0 .1))
 
-  test-is : ltZ (left .high) (left .low) ≡ ltZ (read (left .high)) (read (left .low))
+  test-is : ltZ (left .high) (left .low) ≡ ltZ (as-i64 (left .high)) (as-i64 (left .low))
   test-is = λ i. ltZ (sym high-read i) (sym low-read i)
 
   narrow : T (leZ (left .low) (left .high)) → Narrow left
@@ -54,9 +54,9 @@ returns c =
 
 -- an end that the test has read, cast
 abbrev Cast : ℤ → Type 0
-Cast z = SFits w32 (read z) × (toZ w32 (ofZ w32 (read z)) ≡ z)
+Cast z = SFits w32 (as-i64 z) × (toZ w32 (ofZ w32 (as-i64 z)) ≡ z)
 
-cast : {z : ℤ} → read z ≡ z → SFits w32 z → Cast z
+cast : {z : ℤ} → as-i64 z ≡ z → SFits w32 z → Cast z
 cast {z} e f = (rw e f, ap (λ (y : ℤ). toZ w32 (ofZ w32 y)) e ∙ toZ-ofZ w32 z f)
 
 -- there are numbers

@@ -2,7 +2,7 @@
 use Rattle.semantics.proofs.Prelude.{_≡_, ap, _∙_, needs, ℤ, pos, _+ℤ_, _-ℤ_, w64, toZ-ofZ, sfits-lit}
 use Rattle.semantics.specs.declared.Span.{Span}
 use Rattle.semantics.specs.Constants.{at-least, at-most, other-than}
-use Rattle.transfer.proofs.TransferTests.{read, sum, sum-is, difference, difference-is}
+use Rattle.transfer.proofs.TransferTests.{as-i64, sum, sum-is, difference, difference-is}
 use Rattle.transfer.proofs.satisfying.Statement.{statement}
 use Rattle.transfer.proofs.satisfying.Tie as tie
 
@@ -11,13 +11,13 @@ module _ (s : tie.Start) (f : ℤ → Span → Span) where
   abbrev of : ℤ → Span
   of z = f z (s .args .range)
 
-  itself : of (read (s .args .z)) ≡ of (s .args .z)
+  itself : of (as-i64 (s .args .z)) ≡ of (s .args .z)
   itself = ap of (toZ-ofZ w64 (s .args .z) (s .fits .z))
 
-  one-less : of (read (read (s .args .z) -ℤ pos 1)) ≡ of (s .args .z -ℤ pos 1)
+  one-less : of (as-i64 (as-i64 (s .args .z) -ℤ pos 1)) ≡ of (s .args .z -ℤ pos 1)
   one-less = ap of (difference-is {b = pos 1} (s .pre) (sfits-lit tt))
 
-  one-more : of (read (read (s .args .z) +ℤ pos 1)) ≡ of (s .args .z +ℤ pos 1)
+  one-more : of (as-i64 (as-i64 (s .args .z) +ℤ pos 1)) ≡ of (s .args .z +ℤ pos 1)
   one-more = ap of (sum-is {b = pos 1} (s .pre) (sfits-lit tt))
 
 sub-at-most : tie.Need-sub-at-most
