@@ -61,11 +61,6 @@ module _ (y : Layout) (last : ℕ) (a : Analysis) (t l : List ℤ) (h : Resumabl
 -- ---- the run
 
 module _ (D : Domain (List ℤ) ℕ) (gs : List ℕ) where
-  pub run-closed : (n : ℕ) (x : Exploration (List ℤ)) → has-verdict (x .verdict) ≡ true → run D gs n x ≡ x
-  unfolding run
-  run-closed zero x h = refl
-  run-closed (suc n) x h = rw h (run-closed n x h)
-
   pub run-open : (n m : ℕ) (x : Exploration (List ℤ)) → has-verdict (x .verdict) ≡ false → n ≡ suc m → run D gs n x ≡ run D gs m (iteration D gs x)
   unfolding run
   run-open n m x h e = rw (e, h)

@@ -1,5 +1,5 @@
 -- Record and words in form are exactly those of the exploration that they say, also as the semantics' own
--- exploration: what `run_core` and `start_core` leave is what document 01's run and start put there. Assumes nothing.
+-- exploration: what `run_core` leaves, after `start_core` too, is what document 01's run and 2.9's beginning put there. Assumes nothing.
 use Rattle.semantics.proofs.Prelude.{_≡_, refl, sym, ap, subst, _∙_, List, [], _∷_, _++_, map, ℕ, zero, suc, _+_, _-_, _*_, _≤_, min, suc-mul, add-comm, arith, T, ℤ, pos, length, take, drop, replicate, take-append-drop, length-map, take-add, length-take-le}
 use Rattle.semantics.specs.Layout.{most-iterations}
 use Rattle.semantics.specs.declared.Analysis.{Analysis}
@@ -10,7 +10,7 @@ use Rattle.semantics.specs.Constants.{AbstractState, constants, initial}
 use Rattle.semantics.specs.Algorithm.{Exploration, run, start}
 use Rattle.semantics.specs.Encoding.{decode, well-formed, padded}
 use Rattle.semantics.specs.Memory.{Memory, width, row, table-of, waitlist-of, analysis-of, load, analysis-ok}
-use Rattle.semantics.specs.Outcomes.{started, resumed, put-in}
+use Rattle.semantics.specs.Outcomes.{started, resumed, begun, put-in}
 use Rattle.semantics.proofs.Encoded.{well-formed-split}
 use Rattle.semantics.proofs.SettingsKept.{run-kept}
 use Rattle.semantics.proofs.Simulate.{AllPairs, ExplorationR, run-R, start-R, same-length}
@@ -97,7 +97,7 @@ module _ (c : Chart) (y : Layout) (o : LayoutOf c y) (last : ℕ) (a : Analysis)
             };
           }
 
--- ---- what `run_core` and `start_core` leave
+-- ---- what `run_core` leaves
 
 module _ (ws : List ℤ) (ok : T (well-formed ws)) (y : Layout) (o : LayoutOf (decode ws) y) (last : ℕ) (r : Analysis) (t l : List ℤ) where
   abbrev c : Chart
@@ -108,12 +108,6 @@ module _ (ws : List ℤ) (ok : T (well-formed ws)) (y : Layout) (o : LayoutOf (d
   run-stores x v s gs z n h =
       stores c y o last r t l (run (domain-of ws) gs n x) (run (constants c) (numbered c) n v) h
       (run-R (domain-of ws) (constants c) (Says c) (SameEdge c) (agree ws ok) gs (numbered c) z n x v s)
-
-  pub start-stores : (z : Settings) (capacity : ℕ) → Loaded y last r t l (start (domain-of ws) z capacity (initial-row ws))
-      → Stores c r t l (start (constants c) z capacity (initial c))
-  start-stores z capacity h =
-      stores c y o last r t l (start (domain-of ws) z capacity (initial-row ws)) (start (constants c) z capacity (initial c)) h
-      (start-R (domain-of ws) (constants c) (Says c) (SameEdge c) (agree ws ok) z capacity (initial-row ws) (initial c) (initial-says ws ok))
 
 -- ---- the lent memory at exit: the capacity's words and the record, and the words past them as they were
 
@@ -144,11 +138,17 @@ module _ (ws : List ℤ) (ok : T (well-formed ws)) (y : Layout) (o : LayoutOf (d
       put-is c y o m r t l (resumed c (pos budget) v) (run-stores ws ok y o (length (c .edges)) r t l x v (entry-says c y o m lt ll form) (edges-from 0 (length (c .edges))) z n h)
       (m .analysis .capacity) (run-kept (constants c) (numbered c) n v .capacity)
 
-  -- a start, from the row of the initial state
-  pub start-at-exit : (z : Settings) (capacity last : ℕ) → Loaded y last r t l (start (domain-of ws) z capacity (initial-row ws))
-      → put-in (decode ws) (started (decode ws) z (pos capacity)) m
+  -- a start, from the row of the initial state, and the run after it with a budget
+  pub begin-at-exit : (z : Settings) (capacity budget : ℕ)
+      → Loaded y (length (decode ws .edges)) r t l (run (domain-of ws) (edges-from 0 (length (decode ws .edges))) (min budget most-iterations) (start (domain-of ws) z capacity (initial-row ws)))
+      → put-in (decode ws) (begun (decode ws) z (pos capacity) (pos budget)) m
       ≡ record { table = t ++ drop (capacity * y .stride) (m .table); waitlist = l ++ drop capacity (m .waitlist); analysis = r }
   unfolding start
-  start-at-exit z capacity last h =
+  begin-at-exit z capacity budget h =
       let c = decode ws in
-      put-is c y o m r t l (started c z (pos capacity)) (start-stores ws ok y o last r t l z capacity h) capacity refl
+      let v = started c z (pos capacity) in
+      let n = min budget most-iterations in
+      let same = start-R (domain-of ws) (constants c) (Says c) (SameEdge c) (agree ws ok) z capacity (initial-row ws) (initial c) (initial-says ws ok) in
+      put-is c y o m r t l (begun c z (pos capacity) (pos budget))
+      (run-stores ws ok y o (length (c .edges)) r t l (start (domain-of ws) z capacity (initial-row ws)) v same (edges-from 0 (length (c .edges))) (edges-say c (well-formed-split ws ok .1)) n h)
+      capacity (run-kept (constants c) (numbered c) n v .capacity)

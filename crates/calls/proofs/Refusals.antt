@@ -5,27 +5,29 @@ use Rattle.semantics.specs.declared.Settings.{Settings}
 use Rattle.semantics.specs.Algorithm.{allowed}
 use Rattle.semantics.specs.Encoding.{decode, well-formed}
 use Rattle.semantics.specs.Memory.{Memory, width, capacity-ok}
-use Rattle.semantics.specs.Outcomes.{Outcome, refusal, refused-by, settled, budget-ok, size-of, form-of, start-cases, run-cases}
+use Rattle.semantics.specs.Outcomes.{Outcome, refusal, refused-by, settled, budget-ok, size-of, form-of, begin-cases, run-cases}
 use Rattle.semantics.proofs.FirstCase.{none-met, enough, refused-stays, goes}
 use Rattle.checks.specs.Form.{InForm}
 use Rattle.checks.proofs.FormTests.{in-form}
 use Rattle.calls.specs.declared.Called.{Called}
 use Rattle.calls.specs.Calls.{Answers, Ends-called}
 
-pub record StartPasses (ws : List ℤ) (z : Settings) (r : ℤ) (t l : ℕ) : Type 0 where
+pub record BeginPasses (ws : List ℤ) (z : Settings) (r a : ℤ) (t l : ℕ) : Type 0 where
   pub capacity : T (capacity-ok r)
   pub settings : T (allowed (z .merge) (z .stop))
+  pub budget : T (budget-ok a)
   pub chart : T (well-formed ws)
   pub room : (natAbs r * width (decode ws) ≤ t) × (natAbs r ≤ l)
 
-pub start-passes : (ws : List ℤ) (z : Settings) (r : ℤ) (t l : ℕ) → refusal (start-cases z r (size-of ws (natAbs r) t l)) ≡ 0 → StartPasses ws z r t l
-start-passes ws z r t l e =
-    let p = none-met (start-cases z r (size-of ws (natAbs r) t l)) tt e in
+pub begin-passes : (ws : List ℤ) (z : Settings) (r a : ℤ) (t l : ℕ) → refusal (begin-cases z r a (size-of ws (natAbs r) t l)) ≡ 0 → BeginPasses ws z r a t l
+begin-passes ws z r a t l e =
+    let p = none-met (begin-cases z r a (size-of ws (natAbs r) t l)) tt e in
     record {
       capacity = passed (capacity-ok r) (p .0);
       settings = passed (allowed (z .merge) (z .stop)) (p .1 .0);
-      chart = passed (well-formed ws) (p .1 .1 .0);
-      room = enough (decode ws) (natAbs r) t l (p .1 .1 .1 .0);
+      budget = passed (budget-ok a) (p .1 .1 .0);
+      chart = passed (well-formed ws) (p .1 .1 .1 .0);
+      room = enough (decode ws) (natAbs r) t l (p .1 .1 .1 .1 .0);
     }
 
 pub run-passes : (ws : List ℤ) (b : ℤ) (m : Memory) → refusal (run-cases b (form-of ws m) (m .analysis .verdict) (m .analysis .iterations)) ≡ 0 → T (budget-ok b) × InForm ws m

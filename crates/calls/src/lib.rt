@@ -1,24 +1,24 @@
-// The public calls start and run. Each judges all it is given in document 01's order; a refused call writes nothing.
+// The public calls begin and run. Each judges all it is given in document 01's order; a refused call writes nothing.
 use semantics::Analysis;
 use semantics::Answer;
 use semantics::Settings;
 use state::Layout;
 ghost use mathlib.Core.Path.{_≡_};
-ghost use Prim.Native.Nat.{ℕ, _*_, _≤_};
+ghost use Prim.Native.Nat.{ℕ, _*_, _≤_, _<_, min};
 ghost use lib.Dec.{T};
 ghost use lib.IntN.{pos, natAbs};
 ghost use lib.ListN.{length};
-ghost use Rattle.semantics.specs.Layout.{most-slots};
+ghost use Rattle.semantics.specs.Layout.{most-slots, most-iterations, index-limit};
 ghost use Rattle.semantics.specs.declared.Analysis.{Analysis};
-ghost use Rattle.semantics.specs.Algorithm.{start, allowed};
+ghost use Rattle.semantics.specs.Algorithm.{start, run, allowed};
 ghost use Rattle.semantics.specs.Encoding.{decode, well-formed};
 ghost use Rattle.semantics.specs.Memory.{width, load};
 ghost use Rattle.state.specs.Rows.{width-of, most-width};
 ghost use Rattle.checks.specs.Form.{lent, InForm};
 ghost use Rattle.analysis.specs.Loaded.{domain-of, Loaded};
-ghost use Rattle.transfer.specs.Transfer.{initial-row};
+ghost use Rattle.transfer.specs.Transfer.{initial-row, edge-at, edges-from};
 ghost use Rattle.calls.specs.Calls.{Answers, Begins, Ends, Ends-called};
-ghost use Rattle.semantics.specs.Outcomes.{fine, refused-by, refusal, size-of, form-of, put-in, started, resumed, start-cases, start-outcome, run-cases, run-outcome};
+ghost use Rattle.semantics.specs.Outcomes.{fine, refused-by, refusal, size-of, form-of, put-in, begun, resumed, begin-cases, begin-outcome, run-cases, run-outcome};
 
 // What a call answers, and the record as it leaves it.
 pub struct Called {
@@ -46,23 +46,20 @@ fn go_through(a: Analysis) -> Called
     }
 }
 
-// 11, 12, 20, 14: the first that refuses a start, or 0.
-fn start_refusal(
+// 11, 12, 13, 20, 14: the first that refuses a beginning, or 0.
+fn begin_refusal(
     chart: &[i32],
     settings: Settings,
     capacity: i32,
+    budget: i32,
     table_length: usize,
     list_length: usize,
 ) -> u32
-    ensures { λ r. ⌜ r ≡ refusal (start-cases settings capacity (size-of (now (chart .entry)) (natAbs capacity) «table_length» «list_length»)) ⌝ }
+    ensures { λ r. ⌜ r ≡ refusal (begin-cases settings capacity budget (size-of (now (chart .entry)) (natAbs capacity) «table_length» «list_length»)) ⌝ }
 {
-    if !checks::capacity_ok(capacity) {
-        return 11;
-    }
-    let merge = settings.merge;
-    let stop = settings.stop;
-    if !checks::is_allowed(merge, stop) {
-        return 12;
+    let earlier = checks::asked_refusal(settings, capacity, budget);
+    if earlier != 0 {
+        return earlier;
     }
     checks::size_refusal(chart, capacity as u32, table_length, list_length)
 }
@@ -89,7 +86,7 @@ fn run_refusal(chart: &[i32], budget: i32, a: Analysis, table: &[i32], list: &[i
 }
 
 // The initial state's row is made in the row lent, and put into slot 0.
-fn begin_with(
+fn start_with(
     chart: &[i32],
     layout: Layout,
     settings: Settings,
@@ -105,8 +102,8 @@ fn begin_with(
     analysis::start_core(chart, layout, settings, capacity, table, list, row)
 }
 
-// An analysis in the words of its capacity.
-fn begin(
+// An analysis at its start, in the words of its capacity.
+fn start(
     chart: &[i32],
     layout: Layout,
     settings: Settings,
@@ -119,7 +116,7 @@ fn begin(
 {
     let width = layout.width();
     let mut row = [0i32; state::MOST_WIDTH];
-    begin_with(
+    start_with(
         chart,
         layout,
         settings,
@@ -130,25 +127,47 @@ fn begin(
     )
 }
 
-// A start that no refusal stopped.
-fn start_through(
+// The start, and the run after it, in the words of the capacity. After a bad start the run plays nothing.
+fn begin_core(
+    chart: &[i32],
+    edges: usize,
+    layout: Layout,
+    settings: Settings,
+    capacity: u32,
+    budget: u32,
+    table: &mut [i32],
+    list: &mut [i32],
+) -> Analysis
+    requires { ⌜ Begins (now chart) layout settings capacity (now table) (now list) × (width-of layout ≤ most-width) × (edge-at (now chart) edges < index-limit) ⌝ }
+    ensures { λ r. ⌜ Loaded layout edges r (now (table .exit)) (now (list .exit)) (run (domain-of (now (chart .entry))) (edges-from 0 edges) (min budget most-iterations) (start (domain-of (now (chart .entry))) settings capacity (initial-row (now (chart .entry))))) ⌝ }
+{
+    let a = start(chart, layout, settings, capacity, table, list);
+    analysis::run_core(chart, edges, layout, a, budget, table, list)
+}
+
+// A beginning that no refusal stopped.
+fn begin_through(
     chart: &[i32],
     settings: Settings,
     capacity: u32,
+    budget: u32,
     table: &mut [i32],
     list: &mut [i32],
 ) -> Analysis
     requires { ⌜ T (well-formed (now chart)) × T (allowed (settings .merge) (settings .stop)) × (1 ≤ capacity) × (capacity ≤ most-slots) × (capacity * width (decode (now chart)) ≤ length (now table)) × (capacity ≤ length (now list)) ⌝ }
-    ensures { λ r. ⌜ ((a : Analysis) → put-in (decode (now (chart .entry))) (started (decode (now (chart .entry))) settings (pos capacity)) (lent (now (table .entry)) (now (list .entry)) a) ≡ lent (now (table .exit)) (now (list .exit)) r) ⌝ }
+    ensures { λ r. ⌜ ((a : Analysis) → put-in (decode (now (chart .entry))) (begun (decode (now (chart .entry))) settings (pos capacity) (pos budget)) (lent (now (table .entry)) (now (list .entry)) a) ≡ lent (now (table .exit)) (now (list .exit)) r) ⌝ }
 {
     let layout = state::layout_of(chart);
+    let edges = chart::edge_count(chart);
     let slots = capacity as usize;
     let size = slots * layout.stride;
-    begin(
+    begin_core(
         chart,
+        edges,
         layout,
         settings,
         capacity,
+        budget,
         &mut table[..size],
         &mut list[..slots],
     )
@@ -180,22 +199,24 @@ fn run_through(
     )
 }
 
-// Begins an analysis: the initial state in slot 0, waiting. `a` is the record before, which a refused start leaves.
-pub fn start(
+// Begins an analysis, the initial state in slot 0, waiting, and plays iterations until a verdict or until the budget is
+// spent. `a` is the record before, which a refused call leaves and no other looks at.
+pub fn begin(
     chart: &[i32],
     settings: Settings,
     capacity: i32,
+    budget: i32,
     a: Analysis,
     table: &mut [i32],
     list: &mut [i32],
 ) -> Called
-    ensures { λ r. ⌜ Ends-called (start-outcome (now (chart .entry)) settings capacity (lent (now (table .entry)) (now (list .entry)) a)) r (now (table .exit)) (now (list .exit)) ⌝ }
+    ensures { λ r. ⌜ Ends-called (begin-outcome (now (chart .entry)) settings capacity budget (lent (now (table .entry)) (now (list .entry)) a)) r (now (table .exit)) (now (list .exit)) ⌝ }
 {
-    let number = start_refusal(chart, settings, capacity, table.len(), list.len());
+    let number = begin_refusal(chart, settings, capacity, budget, table.len(), list.len());
     if number != 0 {
         return refuse(number, a);
     }
-    let begun = start_through(chart, settings, capacity as u32, table, list);
+    let begun = begin_through(chart, settings, capacity as u32, budget as u32, table, list);
     go_through(begun)
 }
 

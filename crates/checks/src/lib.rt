@@ -1,10 +1,11 @@
 // The tests of 11 to 14, form rule 21: whether lent words and a record are an analysis of a chart, and the refusals that
-// calls share: 20, 14 and 21. Leaves look at one row or one part of the words; the counts are tested first, since they
+// calls share: 11, 12 and 13; 20, 14 and 21. Leaves look at one row or one part of the words; the counts are tested first, since they
 // bound what is read after. What looks at a row or a table asks that it has enough words, since 14 is judged before 21;
 // all else is total.
 use semantics::Analysis;
 use semantics::EdgeId;
 use semantics::Mode;
+use semantics::Settings;
 use semantics::SlotId;
 use semantics::Verdict;
 use state::Layout;
@@ -19,7 +20,7 @@ ghost use Rattle.semantics.specs.Layout.{top-word, counts-size, variable-size, 
 ghost use Rattle.semantics.specs.Algorithm.{allowed};
 ghost use Rattle.semantics.specs.Encoding.{several, var-in, decode};
 ghost use Rattle.semantics.specs.Memory.{width, capacity-ok, value-ok, below, row-ok, rows-ok, each-once, is-alarm, empty-if-safe, lent-tests, record-tests, analysis-ok};
-ghost use Rattle.semantics.specs.Outcomes.{refusal, budget-ok, size-of, form-of};
+ghost use Rattle.semantics.specs.Outcomes.{refusal, budget-ok, asked-cases, size-of, form-of};
 ghost use Rattle.checks.specs.Form.{lent, ChartLayout, Enough};
 
 // ---- the reached table
@@ -214,6 +215,27 @@ fn analysis_ok(chart: &[i32], layout: Layout, table: &[i32], list: &[i32], a: An
 }
 
 // ---- the refusals that calls share
+
+// 11, 12, 13: the first that refuses what a go line or a beginning asks, or 0.
+pub fn asked_refusal(settings: Settings, capacity: i32, budget: i32) -> u32
+    ensures { λ r. ⌜ r ≡ refusal (asked-cases settings capacity budget) ⌝ }
+{
+    let merge = settings.merge;
+    let stop = settings.stop;
+    let capacity_fits = capacity_ok(capacity);
+    let allowed = is_allowed(merge, stop);
+    let budget_fits = budget_ok(budget);
+    if !capacity_fits {
+        return 11;
+    }
+    if !allowed {
+        return 12;
+    }
+    if !budget_fits {
+        return 13;
+    }
+    0
+}
 
 // 20, 14: the first that refuses a call with a capacity and so many table and list words, or 0.
 pub fn size_refusal(chart: &[i32], capacity: u32, table_length: usize, list_length: usize) -> u32

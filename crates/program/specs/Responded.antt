@@ -20,7 +20,7 @@ use Rattle.semantics.specs.declared.Verdict.the-variants.{Open}
 use Rattle.program.specs.declared.go_line.Go.{Go}
 use Rattle.program.specs.Asked.{asking}
 
--- the record before the first start, which a start that goes through does not look at
+-- the record before the first call, which a beginning that goes through does not look at
 abbrev pub no-analysis : Settings → Analysis
 no-analysis z = record { settings = z; capacity = 0; iterations = 0; used = 0; waiting = 0; verdict = Open; edge = record { 0 = 0 } }
 
@@ -38,8 +38,6 @@ pub record Lends (ws t l : List ℤ) : Type 0 where
 -- the memory is the exploration, put into words lent
 pub record PutIn (c : Chart) (w : Exploration AbstractState) (m : Memory) : Type 0 where
   pub over : Memory
-  pub table : length (over .table) ≡ table-words
-  pub list : length (over .waitlist) ≡ most-slots
   pub same : m ≡ put-in c w over
 
 -- the text stands at the front of the bytes lent, and r is its length; "bytes past a listing's end, are untouched"

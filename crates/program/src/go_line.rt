@@ -87,25 +87,14 @@ fn settings_fields(line: &[u8]) -> SettingsRead
     SettingsRead::Is(Settings { merge, stop, order })
 }
 
-// 11, 12, 13, once every field is well formed. All three are asked before the first refuses, so that their order stands in
-// the tests below alone.
+// 11, 12, 13, once every field is well formed.
 fn sized(go: Go) -> Asked
     ensures { λ r. ⌜ asked-res r ≡ sized (go .settings) (go .capacity) (go .budget) ⌝ }
 {
     let settings = go.settings;
-    let merge = settings.merge;
-    let stop = settings.stop;
-    let capacity_fits = checks::capacity_ok(go.capacity);
-    let allowed = checks::is_allowed(merge, stop);
-    let budget_fits = checks::budget_ok(go.budget);
-    if !capacity_fits {
-        return Asked::Refused(11);
-    }
-    if !allowed {
-        return Asked::Refused(12);
-    }
-    if !budget_fits {
-        return Asked::Refused(13);
+    let number = checks::asked_refusal(settings, go.capacity, go.budget);
+    if number != 0 {
+        return Asked::Refused(number);
     }
     Asked::Is(go)
 }

@@ -14,7 +14,6 @@ ghost use Rattle.semantics.specs.Layout.{listing-bytes};
 ghost use Rattle.semantics.specs.Encoding.{decode, well-formed};
 ghost use Rattle.semantics.specs.Listing.{listing-text, refused-text};
 ghost use Rattle.semantics.specs.Reading.{read};
-ghost use Rattle.semantics.specs.Outcomes.{started};
 ghost use Rattle.semantics.specs.Program.{explored, print-read, output};
 ghost use Rattle.checks.specs.Form.{lent};
 ghost use Rattle.writer.specs.Writing.{Put};
@@ -45,7 +44,7 @@ fn put_refusal(out: &mut [u8], number: u32, line: usize) -> usize
     writer::put_byte(out, end, semantics::LF)
 }
 
-// The record before the first start, which a start that goes through does not look at.
+// The record before the first call, which a beginning that goes through does not look at.
 fn no_analysis(settings: Settings) -> Analysis
     ensures { λ r. ⌜ r ≡ no-analysis settings ⌝ }
 {
@@ -60,29 +59,15 @@ fn no_analysis(settings: Settings) -> Analysis
     }
 }
 
-// The start. It goes through, and so do the run and the listing: the go line was accepted, and the words lent are
-// enough. So no answer of theirs is looked at but the listing's length.
-fn begin(chart: &[i32], go: Go, table: &mut [i32], list: &mut [i32]) -> Analysis
-    requires { ⌜ Lends (now chart) (now table) (now list) × Accepted go ⌝ }
-    ensures { λ r. ⌜ PutIn (decode (now (chart .entry))) (started (decode (now (chart .entry))) (go .settings) (go .capacity)) (lent (now (table .exit)) (now (list .exit)) r) ⌝ }
-{
-    let settings = go.settings;
-    let a = no_analysis(settings);
-    let called = calls::start(chart, settings, go.capacity, a, table, list);
-    called.analysis
-}
-
-// The start, and the run unless the start gave a verdict.
+// The analysis. It goes through, and so does the listing: the go line was accepted, and the words lent are enough. So
+// no answer of theirs is looked at but the listing's length.
 fn explore(chart: &[i32], go: Go, table: &mut [i32], list: &mut [i32]) -> Analysis
     requires { ⌜ Lends (now chart) (now table) (now list) × Accepted go ⌝ }
     ensures { λ r. ⌜ PutIn (decode (now (chart .entry))) (explored (decode (now (chart .entry))) (asking go)) (lent (now (table .exit)) (now (list .exit)) r) ⌝ }
 {
-    let a = begin(chart, go, table, list);
-    let verdict = a.verdict;
-    if semantics::has_verdict(verdict) {
-        return a;
-    }
-    let called = calls::run_by_value(chart, go.budget, a, table, list);
+    let settings = go.settings;
+    let a = no_analysis(settings);
+    let called = calls::begin(chart, settings, go.capacity, go.budget, a, table, list);
     called.analysis
 }
 

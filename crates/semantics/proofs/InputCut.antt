@@ -1,10 +1,14 @@
 -- The program's input: what an accepted go line says, and how much of the input matters. Assumes nothing.
-use Rattle.semantics.proofs.Prelude.{_≡_, refl, sym, ap, _∙_, subst, Bool, true, false, _||_, List, [], _∷_, _++_, ℕ, zero, suc, _+_, _≤_, _<_, arith, T, eqb, length, take, drop, take-append-drop, length-append, take-all, take-append-le, length-take-le, lt-ltb, decLe}
+use Rattle.semantics.proofs.Prelude.{_≡_, refl, sym, ap, _∙_, subst, Bool, true, false, _||_, List, [], _∷_, _++_, ℕ, zero, suc, _+_, _≤_, _<_, arith, T, eqb, length, take, drop, take-append-drop, length-append, take-all, take-append-le, length-take-le, lt-ltb, decLe, ℤ}
 use Rattle.semantics.specs.Lists.{pick}
 use Rattle.semantics.specs.Layout.{most-bytes, go-line-bytes, input-bytes}
 use Rattle.semantics.specs.Reading.{Res, fail, ok, check, refused, read}
-use Rattle.semantics.specs.Program.{has-lf, first-line, past-line, Go, go-line, print-read, print-go, output}
-use Rattle.semantics.proofs.Bools.{from-true, to-true}
+use Rattle.semantics.specs.Program.{has-lf, first-line, past-line, Go, sized, go-line, print-read, print-go, output}
+use Rattle.semantics.specs.Algorithm.{Settings, allowed}
+use Rattle.semantics.specs.Memory.{capacity-ok}
+use Rattle.semantics.specs.Outcomes.{budget-ok, asked-cases}
+use Rattle.semantics.proofs.Bools.{passed, from-true, to-true}
+use Rattle.semantics.proofs.FirstCase.{unless-ok}
 use Rattle.semantics.proofs.ReadInBounds.{check-ok, ok-parts}
 use Rattle.semantics.proofs.Program.{GoOk}
 
@@ -12,6 +16,14 @@ use Rattle.semantics.proofs.Program.{GoOk}
 
 ok-same : {A : Type 0} {a b : A} → ok a ≡ ok b → a ≡ b
 ok-same e = cc
+
+sized-fine : (s : Settings) (r a : ℤ) (g : Go) → sized s r a ≡ ok g → GoOk g
+sized-fine s r a g e =
+    let asked : Go = record { settings = s; capacity = r; budget = a } in
+    let fine = unless-ok (ok asked) (asked-cases s r a) e in
+    let none = fine .0 in
+    subst (λ (x : Go). GoOk x) (ok-same (fine .1))
+    (record { capacity = passed (capacity-ok r) (none .0); modes = passed (allowed (s .merge) (s .stop)) (none .1 .0); budget = passed (budget-ok a) (none .1 .1 .0) })
 
 -- an accepted go line is one that 11, 12 and 13 let pass
 pub go-fine : (input : List ℕ) (g : Go) → go-line input ≡ ok g → GoOk g
@@ -25,11 +37,7 @@ go-fine input g e =
     let settings = ok-parts _ _ go in
     let capacity = ok-parts _ _ (settings .2) in
     let budget = ok-parts _ _ (capacity .2) in
-    let eleven = check-ok _ _ _ (budget .2) in
-    let twelve = check-ok _ _ _ (eleven .1) in
-    let thirteen = check-ok _ _ _ (twelve .1) in
-    let p : _≡_ {A = Go} (record { settings = settings .0; capacity = capacity .0; budget = budget .0 }) g = ok-same (thirteen .1) in
-    subst (λ (x : Go). GoOk x) p (record { capacity = eleven .0; modes = twelve .0; budget = thirteen .0 })
+    sized-fine (settings .0) (capacity .0) (budget .0) g (budget .2)
 
 -- ---- the bytes after an LF: only what stands past the first line knows them
 

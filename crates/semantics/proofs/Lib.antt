@@ -1,6 +1,7 @@
 -- Names and laws of the logic (Prelude, Bools, Integers). Then what holds of the definitions: over any domain (to Simulate), of the constants (to Executions), of words (MemoryOf,
--- MemoryInForm), of a chart's text and its words (to Exactness), of the calls (to Realisable), of the program (to
--- ProgramSafe). The claims are in Verdicts, Overruns, Comparisons, Executions, Exactness, WholeWalks, ProgramSafe and MarkedCases.
+-- MemoryInForm), of a chart's text and its words (to Exactness), of the calls (to PutIn), of the program (to
+-- ProgramSafe). The claims are in Verdicts, Overruns, Comparisons, Executions, Exactness, WholeWalks, ProgramSafe,
+-- StartThenRun and MarkedCases.
 pub mod Prelude
 pub mod Bools
 pub mod Integers
@@ -32,10 +33,12 @@ pub mod FirstCase
 pub mod Refusals
 pub mod WholeWalks
 pub mod Realisable
+pub mod PutIn
 pub mod ListingShort
 pub mod Program
 pub mod InputCut
 pub mod ProgramCalls
 pub mod OutputShort
 pub mod ProgramSafe
+pub mod StartThenRun
 pub mod MarkedCases

@@ -1,7 +1,8 @@
--- To be believed, in this order, each close to document 01 and, of document 02, to 2.1 and 2.6: lists, the numbers under their names, text, the chart file, the algorithm and its domain
+-- To be believed, in this order, each close to document 01 and, of document 02, to 2.1, 2.6 and 2.9: lists, the numbers under their names, text, the chart file, the algorithm and its domain
 -- of constants, runs and what covers them, the encoded chart, memory, listing, calls, whole walks, the program. Then
--- claims of these definitions that the others do not rest on: ProgramSafe, Exact, Verdicts, Runs, MarkedCases. Last what
--- only proofs use, and contracts of inner functions: Laws, Tidy, Rendering, Operations. Nothing in these four has to be believed.
+-- claims of these definitions that the others do not rest on: ProgramSafe, StartThenRun, Exact, Verdicts, Runs,
+-- MarkedCases. Last what only proofs use, and contracts of inner functions: Laws, Tidy, Rendering, Operations. Nothing in
+-- these four has to be believed.
 pub mod Lists
 pub mod Layout
 pub mod Text
@@ -17,6 +18,7 @@ pub mod Outcomes
 pub mod WholeWalks
 pub mod Program
 pub mod ProgramSafe
+pub mod StartThenRun
 pub mod Exact
 pub mod Verdicts
 pub mod Runs

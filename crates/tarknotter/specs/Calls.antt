@@ -1,4 +1,4 @@
--- What start and run owe at the boundary: the reply, the record and every lent word at exit are those of the outcome.
+-- What begin and run owe at the boundary: the reply, the record and every lent word at exit are those of the outcome.
 -- Assumes nothing.
 use mathlib.Core.Path.{_≡_}
 use mathlib.Core.Bool.{not}
@@ -10,16 +10,16 @@ use Rattle.semantics.specs.Lists.{pick}
 use Rattle.semantics.specs.Memory.{Memory}
 use Rattle.semantics.specs.declared.Analysis.{Analysis}
 use Rattle.semantics.specs.declared.Answer.{Answer}
-use Rattle.semantics.specs.Outcomes.{Outcome, case, refusal, settled, start-outcome}
+use Rattle.semantics.specs.Outcomes.{Outcome, case, refusal, settled, begin-outcome}
 use Rattle.tarknotter.specs.declared.Record.{Record}
 use Rattle.tarknotter.specs.declared.Called.{Called}
 use Rattle.tarknotter.specs.Replies.{as-reply}
 use Rattle.tarknotter.specs.Records.{record-of, settings-in, settings-named}
 
 -- a code that names no setting is 6, "word malformed", as in a go line, before all else
-abbrev pub start-by-codes : List ℤ → ℕ → ℕ → ℕ → ℤ → Memory → Outcome
-start-by-codes words merge stop order r m =
-    settled (refusal (case 6 (not (settings-named merge stop order)) ∷ [])) m [] (start-outcome words (settings-in merge stop order) r m)
+abbrev pub begin-by-codes : List ℤ → ℕ → ℕ → ℕ → ℤ → ℤ → Memory → Outcome
+begin-by-codes words merge stop order r a m =
+    settled (refusal (case 6 (not (settings-named merge stop order)) ∷ [])) m [] (begin-outcome words (settings-in merge stop order) r a m)
 
 -- "no lent word, byte or field of the record changes" where a call is refused, also where the record's codes name
 -- nothing

@@ -12,7 +12,7 @@ ghost use Rattle.semantics.specs.Outcomes.{read-outcome, run-outcome, listing-o
 ghost use Rattle.checks.specs.Form.{lent};
 ghost use Rattle.tarknotter.specs.Replies.{as-reply};
 ghost use Rattle.tarknotter.specs.Records.{mode-code, order-code, verdict-code, record-of, mode-in, order-in, verdict-in, settings-in, settings-named, codes-named, analysis-in};
-ghost use Rattle.tarknotter.specs.Calls.{start-by-codes, record-after, Ends-by-codes};
+ghost use Rattle.tarknotter.specs.Calls.{begin-by-codes, record-after, Ends-by-codes};
 
 // `semantics::Answer` with the layout of C: 0 and line 0 with a listing's length, or the refusal's number and line.
 #[repr(C)]
@@ -225,19 +225,21 @@ pub extern "C" fn tarknotter_well_formed(words: &[i32]) -> bool
     chart::well_formed(words)
 }
 
-// Begins an analysis. The record is the one before, which a refused start leaves.
+// Begins an analysis and plays iterations, as many as the budget allows. The record is the one before, which a refused
+// call leaves.
 #[no_mangle]
-pub extern "C" fn tarknotter_start(
+pub extern "C" fn tarknotter_begin(
     chart: &[i32],
     merge: u32,
     stop: u32,
     order: u32,
     capacity: i32,
+    budget: i32,
     record: Record,
     table: &mut [i32],
     list: &mut [i32],
 ) -> Called
-    ensures { λ r. ⌜ Ends-by-codes (start-by-codes (now (chart .entry)) merge stop order capacity (lent (now (table .entry)) (now (list .entry)) (analysis-in «record»))) «record» r (now (table .exit)) (now (list .exit)) ⌝ }
+    ensures { λ r. ⌜ Ends-by-codes (begin-by-codes (now (chart .entry)) merge stop order capacity budget (lent (now (table .entry)) (now (list .entry)) (analysis-in «record»))) «record» r (now (table .exit)) (now (list .exit)) ⌝ }
 {
     if !settings_named(merge, stop, order) {
         return Called {
@@ -248,7 +250,15 @@ pub extern "C" fn tarknotter_start(
     let settings = settings_in(merge, stop, order);
     answered(
         record,
-        calls::start(chart, settings, capacity, analysis_in(record), table, list),
+        calls::begin(
+            chart,
+            settings,
+            capacity,
+            budget,
+            analysis_in(record),
+            table,
+            list,
+        ),
     )
 }
 

@@ -1,57 +1,32 @@
--- `program::go_line::sized` meets its contract: each test that passed leaves the next. Assumes nothing.
-use Rattle.semantics.proofs.Prelude.{needs, sfits-of, _≡_, sym, ap, _∙_, not-true, not-false, w32, toZ-ofZ}
-use Rattle.semantics.specs.Reading.{check}
-use Rattle.semantics.specs.Algorithm.{allowed}
-use Rattle.semantics.specs.Memory.{capacity-ok}
-use Rattle.semantics.specs.Outcomes.{budget-ok}
+-- `program::go_line::sized` meets its contract: refused by the number found, or by none. Assumes nothing.
+use Rattle.semantics.proofs.Prelude.{needs, sfits-of, _≡_, sym, _∙_, w32, toZ-ofZ}
+use Rattle.semantics.specs.Reading.{ok}
+use Rattle.semantics.specs.Outcomes.{refusal, asked-cases}
+use Rattle.semantics.proofs.FirstCase.{none-met, unless-fails, unless-none}
 use Rattle.program.specs.declared.go_line.Go.{Go}
-use Rattle.program.specs.Asked.{asked-res}
+use Rattle.program.specs.Asked.{asking, asked-res}
 use Rattle.program.proofs.go_line.sized.Statement.{statement}
 use Rattle.program.proofs.go_line.sized.Tie as tie
 
--- what the tests say
-module _ (c : tie.After-budget-ok) where
-  abbrev settings-told : tie.After-is-allowed
-  settings-told = c .before .before
-
-  abbrev told : tie.After-capacity-ok
-  told = settings-told .before
-
+module _ (c : tie.After-asked-refusal) where
   abbrev go : Go
-  go = told .before .before .before .args .go
+  go = c .before .before .before .before .args .go
 
-  capacity-said : capacity-ok (go .capacity) ≡ told .capacity-ok .result
-  capacity-said = sym (told .capacity-ok .ensures ∙ ap capacity-ok (toZ-ofZ w32 (go .capacity) (sfits-of (told .before .struct-told .given .1 .0 .1))))
-
-  settings-said : allowed (go .settings .merge) (go .settings .stop) ≡ settings-told .is-allowed .result
-  settings-said = sym (settings-told .is-allowed .ensures)
-
-  budget-said : budget-ok (go .budget) ≡ c .budget-ok .result
-  budget-said = sym (c .budget-ok .ensures ∙ ap budget-ok (toZ-ofZ w32 (go .budget) (sfits-of (c .before .struct-told2 .given .1 .1 .0 .1))))
+  said : c .asked-refusal .result ≡ refusal (asked-cases (go .settings) (go .capacity) (go .budget))
+  said = rw (toZ-ofZ w32 (go .capacity) (sfits-of (c .before .before .struct-told .given .1 .0 .1)), toZ-ofZ w32 (go .budget) (sfits-of (c .before .struct-told2 .given .1 .1 .0 .1))) at (c .asked-refusal .ensures)
 
 returns : tie.Need-returns
-unfolding asked-res check
-returns c = rw (capacity-said (c .before) ∙ not-true _ (c .if1 .taken))
+unfolding asked-res
+returns c = let k = c .before in unless-fails (ok (asking (go k))) (asked-cases (go k .settings) (go k .capacity) (go k .budget)) (k .asked-refusal .result) (said k) (c .if1 .taken)
 
 returns-2 : tie.Need-returns-2
-unfolding asked-res check
+unfolding asked-res
 returns-2 c =
-    let t = c .before .before in
-    rw (capacity-said t ∙ not-false _ (c .before .if1 .left), settings-said t ∙ not-true _ (c .if2 .taken))
-
-returns-3 : tie.Need-returns-3
-unfolding asked-res check
-returns-3 c =
-    let t = c .before .before .before in
-    rw (capacity-said t ∙ not-false _ (c .before .before .if1 .left), settings-said t ∙ not-false _ (c .before .if2 .left), budget-said t ∙ not-true _ (c .if3 .taken))
-
-returns-4 : tie.Need-returns-4
-unfolding asked-res check
-returns-4 c =
-    let t = c .before .before .before in
-    rw (capacity-said t ∙ not-false _ (c .before .before .if1 .left), settings-said t ∙ not-false _ (c .before .if2 .left), budget-said t ∙ not-false _ (c .if3 .left))
+    let k = c .before in
+    let cases = asked-cases (go k .settings) (go k .capacity) (go k .budget) in
+    unless-none (ok (asking (go k))) cases (none-met cases tt (sym (said k) ∙ c .if1 .left))
 
 pub sized-spec : {M : Type 1} → statement M
 sized-spec =
     tie.close
-    (tie.spec (λ c κs. search needs) (λ c κs. search needs) (λ c κs. search needs) returns returns-2 returns-3 returns-4)
+    (tie.spec (λ c κs. search needs) returns returns-2)

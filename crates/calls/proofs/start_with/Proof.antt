@@ -1,9 +1,9 @@
--- `calls::begin_with` meets its contract: the row lent is the initial state's, of the same length. Assumes nothing.
+-- `calls::start_with` meets its contract: the row lent is the initial state's, of the same length. Assumes nothing.
 use Rattle.semantics.proofs.Prelude.{_≡_, sym, ap, _∙_, arith, needs, now, length}
 use Rattle.state.specs.Rows.{width-of}
 use Rattle.state.proofs.Layouts.{is-layout}
-use Rattle.calls.proofs.begin_with.Statement.{statement}
-use Rattle.calls.proofs.begin_with.Tie as tie
+use Rattle.calls.proofs.start_with.Statement.{statement}
+use Rattle.calls.proofs.start_with.Tie as tie
 
 start-core-requires : tie.Need-start-core-requires
 start-core-requires c κs =
@@ -19,8 +19,8 @@ returns c =
     let i = c .before .before .before .before .before .before .before .initial in
     λ last. rw (sym (i .ensures)) (c .before .before .start-core .ensures last)
 
-pub begin-with-spec : {M : Type 1} → statement M
-begin-with-spec =
+pub start-with-spec : {M : Type 1} → statement M
+start-with-spec =
     tie.close
     (tie.spec
     (λ c κs. let s = c .before in s .pre .1 ∙ ap width-of (s .pre .0 .layout))
