@@ -71,11 +71,14 @@ struct tarknotter_reply tarknotter_read(const uint8_t *text, size_t text_length,
 /* Whether the words begin with the encoding of a chart that reading can produce. */
 bool tarknotter_well_formed(const int32_t *words, size_t words_length);
 
-/* Begins an analysis: the initial state in slot 0, waiting. The record may be any, all 0 before the first start. A
-   capacity of r takes r * (variables + 1) table words and r list words. A merge, stop or order other than those
-   above is refused with 6, before all else; then 11, 12, 20, 14. */
-struct tarknotter_called tarknotter_start(const int32_t *chart, size_t chart_length,
-                                          uint32_t merge, uint32_t stop, uint32_t order, int32_t capacity,
+/* Begins an analysis anew, the initial state in slot 0, waiting, and plays iterations until a verdict or until the
+   budget is spent; a budget of 0 is the plain start, which plays none. An initial state at an error location is an alarm
+   at once, with 0 iterations and edge 0, whatever the budget. What table, list and record hold is not looked at: the
+   record may be any, all 0 before the first call. A capacity of r takes r * (variables + 1) table words and r list words.
+   A merge, stop or order other than those above is refused with 6, before all else; then 11, 12, 13, 20, 14, in this
+   order. */
+struct tarknotter_called tarknotter_begin(const int32_t *chart, size_t chart_length,
+                                          uint32_t merge, uint32_t stop, uint32_t order, int32_t capacity, int32_t budget,
                                           struct tarknotter_record record,
                                           int32_t *table, size_t table_length,
                                           int32_t *list, size_t list_length);
