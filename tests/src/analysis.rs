@@ -57,7 +57,7 @@ pub struct Analysis {
     pub edge: Option<EdgeId>,
     pub reached: Reached,
     pub waitlist: Waitlist,
-    /// Met since it was started or taken from lent words; for tests alone.
+    /// Met since it was begun or taken from lent words; for tests alone.
     pub corners: BTreeSet<Corner>,
 }
 
@@ -127,6 +127,13 @@ impl Analysis {
             waitlist,
             corners: BTreeSet::new(),
         }
+    }
+
+    /// Started and run as one; an alarm at once stands, whatever the budget.
+    pub fn begin(chart: &Chart, settings: Settings, capacity: usize, budget: u32) -> Self {
+        let mut analysis = Analysis::start(chart, settings, capacity);
+        analysis.run(chart, budget);
+        analysis
     }
 
     /// Iterates until a verdict, the end of the budget or the limit of all iterations.

@@ -45,22 +45,36 @@ pub fn read(file: &[u8], words: &mut [i32]) -> Answer {
     }))
 }
 
-/// Begins an analysis anew, whatever the lent words and the record hold.
-pub fn start(
+/// Begins an analysis anew, whatever the lent words and the record hold, and iterates until a verdict
+/// or the end of the budget; with a budget of 0 it is only started.
+pub fn begin(
     chart: &[i32],
     settings: Settings,
     capacity: i32,
+    budget: i32,
     table: &mut [i32],
     waitlist: &mut [i32],
     record: &mut Record,
 ) -> Answer {
-    let begun = (|| {
-        check_settings(settings, i64::from(capacity))?;
-        let chart = held_chart(chart)?;
-        check_words(&chart, capacity as u32, table, waitlist)?;
-        Ok(Analysis::start(&chart, settings, capacity as usize))
-    })();
+    let begun = begun(chart, settings, capacity, budget, table, waitlist);
     Answer::from(begun.map(|analysis| store(&analysis, table, waitlist, record)))
+}
+
+/// The analysis that a begin leaves, which tells also what it has met. It has no use for the record,
+/// and of the words only their number counts.
+pub fn begun(
+    chart: &[i32],
+    settings: Settings,
+    capacity: i32,
+    budget: i32,
+    table: &[i32],
+    waitlist: &[i32],
+) -> Result<Analysis, Refusal> {
+    check_settings(settings, i64::from(capacity))?;
+    check_budget(i64::from(budget))?;
+    let chart = held_chart(chart)?;
+    check_words(&chart, capacity as u32, table, waitlist)?;
+    Ok(Analysis::begin(&chart, settings, capacity as usize, budget as u32))
 }
 
 /// Iterates until a verdict or the end of the budget.
@@ -116,7 +130,7 @@ pub fn listing(
 
 /// The chart whose encoding begins `words`: 20 unless some file reads to it. Words that no chart
 /// takes up are seen by encoding it again.
-fn held_chart(words: &[i32]) -> Result<Chart, Reason> {
+pub fn held_chart(words: &[i32]) -> Result<Chart, Reason> {
     decode(words)
         .filter(|chart| is_readable(chart) && words.starts_with(&encode(chart)))
         .ok_or(Reason::ChartForm)

@@ -27,7 +27,9 @@ impl<L: Ord + Debug> Met<L> {
 
     /// Fails unless each label of `wanted` is met so often, and no other at all.
     pub fn assert_exactly(&self, wanted: &[L], fewest: usize) {
-        println!("{:#?}", self.0);
+        for (label, times) in &self.0 {
+            println!("{label:?}: {times}");
+        }
         for label in wanted {
             let times = self.0.get(label).copied().unwrap_or(0);
             assert!(times >= fewest, "{label:?} is met {times} times only");

@@ -1,6 +1,6 @@
 //! The reference walker: a reachability analyser for flow charts, written a
-//! second time from documents 01 and 02 (requests 2.1 and 2.6) alone, so that the
-//! verified program can be compared with it.
+//! second time from documents 01 and 02 (requests 2.1, 2.6 and 2.9) alone, so that
+//! the verified program can be compared with it.
 //!
 //! `program::respond` is the whole walk program, `calls` has the calls on lent
 //! words, `random` makes charts, inputs and calls to compare on, and `explorer`
@@ -9,6 +9,7 @@
 //! has met everything.
 
 pub mod analysis;
+pub mod begins;
 pub mod calls;
 pub mod chart;
 pub mod corner;

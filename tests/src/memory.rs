@@ -5,8 +5,18 @@ use crate::calls::{self, Answer, Record};
 use crate::chart::Chart;
 use crate::encoding::encode;
 
-/// What no call may rely on, nor write past the capacity: words before the first start.
+/// What no call may rely on, nor write past the capacity: words before the first begin.
 pub const JUNK: i32 = -77;
+
+const JUNK_RECORD: Record = Record {
+    settings: Settings { merge: Merge::Sep, stop: Stop::Join, order: Order::New },
+    capacity: 999,
+    iterations: 99_999,
+    used: 9_999,
+    waiting: 99_999,
+    verdict: Verdict::Full,
+    edge: 999,
+};
 
 #[derive(Clone, Debug, PartialEq, Eq)]
 pub struct Memory {
@@ -23,22 +33,29 @@ impl Memory {
             chart: encode(chart),
             table: vec![JUNK; table],
             waitlist: vec![JUNK; waitlist],
-            record: Record {
-                settings: Settings { merge: Merge::Sep, stop: Stop::Join, order: Order::New },
-                capacity: 999,
-                iterations: 99_999,
-                used: 9_999,
-                waiting: 99_999,
-                verdict: Verdict::Full,
-                edge: 999,
-            },
+            record: JUNK_RECORD,
         }
     }
 
-    pub fn start(&mut self, settings: Settings, capacity: i32) -> Answer {
-        self.call(|chart, table, waitlist, record| {
-            calls::start(chart, settings, capacity, table, waitlist, record)
-        })
+    /// Checks also that a begin looks at nothing held but the chart: over junk it comes to the same.
+    pub fn begin(&mut self, settings: Settings, capacity: i32, budget: i32) -> Answer {
+        let begin =
+            |chart: &[i32], table: &mut [i32], waitlist: &mut [i32], record: &mut Record| {
+                calls::begin(chart, settings, capacity, budget, table, waitlist, record)
+            };
+        let mut junk = self.clone();
+        junk.table.fill(JUNK);
+        junk.waitlist.fill(JUNK);
+        junk.record = JUNK_RECORD;
+        let answer = self.call(begin);
+        assert_eq!(junk.call(begin), answer);
+        if answer == Answer::DONE {
+            let (words, slots) = (capacity as usize * self.width(), capacity as usize);
+            assert_eq!(self.record, junk.record);
+            assert_eq!(self.table[..words], junk.table[..words]);
+            assert_eq!(self.waitlist[..slots], junk.waitlist[..slots]);
+        }
+        answer
     }
 
     pub fn run(&mut self, budget: i32) -> Answer {
@@ -74,13 +91,17 @@ impl Memory {
             assert!(*self == before, "a call that answers {answer:?} changes nothing");
             return answer;
         }
-        let width = self.chart[0] as usize + 1;
-        let capacity = self.record.capacity as usize;
+        let (width, capacity) = (self.width(), self.record.capacity as usize);
         assert_eq!(self.table[capacity * width..], before.table[capacity * width..]);
         assert_eq!(self.waitlist[capacity..], before.waitlist[capacity..]);
         let unused_rows = &self.table[self.record.used as usize * width..capacity * width];
         let unused_slots = &self.waitlist[self.record.waiting as usize..capacity];
         assert!(unused_rows.iter().chain(unused_slots).all(|&word| word == 0));
         answer
+    }
+
+    /// The words of a slot, once a call has gone through.
+    fn width(&self) -> usize {
+        self.chart[0] as usize + 1
     }
 }

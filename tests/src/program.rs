@@ -1,8 +1,6 @@
 //! The walk program: one go line and one chart in, one listing or refusal out.
 
-use crate::analysis::{
-    check_budget, check_settings, Analysis, Merge, Order, Settings, Stop, Verdict,
-};
+use crate::analysis::{check_budget, check_settings, Analysis, Merge, Order, Settings, Stop};
 use crate::chart::Chart;
 use crate::listing::{listing, refusal_line};
 use crate::reader;
@@ -42,10 +40,7 @@ pub fn chart_part(input: &[u8]) -> &[u8] {
 pub fn walk(input: &[u8]) -> Walked {
     let (go, file) = read_go_line(input)?;
     let chart = reader::read(file)?;
-    let mut analysis = Analysis::start(&chart, go.settings, go.capacity);
-    if analysis.verdict != Verdict::Alarm {
-        analysis.run(&chart, go.budget);
-    }
+    let analysis = Analysis::begin(&chart, go.settings, go.capacity, go.budget);
     Ok((chart, analysis))
 }
 

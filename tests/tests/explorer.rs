@@ -13,8 +13,7 @@ fn explorer(chart: &Chart) -> Explorer<'_> {
 
 /// As an analysis would be that had followed every slot and met no overrun.
 fn followed(chart: &Chart, verdict: Verdict) -> Analysis {
-    let mut analysis = Analysis::start(chart, settings("sep sep old"), 16);
-    analysis.run(chart, 100);
+    let mut analysis = Analysis::begin(chart, settings("sep sep old"), 16, 100);
     analysis.verdict = verdict;
     analysis.waitlist = Waitlist::new(16);
     analysis
@@ -34,8 +33,7 @@ fn a_move_that_overruns_has_no_state_after_it() {
     let open = followed(&chart, Verdict::Open);
     assert_eq!(explorer.check(&open), Err(Violation::OverrunNotAwaited(overrun.0, overrun.1)));
     // The slot from which it overruns waits, and all before it are covered.
-    let mut alarm = Analysis::start(&chart, settings("sep sep old"), 16);
-    alarm.run(&chart, 100);
+    let alarm = Analysis::begin(&chart, settings("sep sep old"), 16, 100);
     assert_eq!((alarm.verdict, explorer.check(&alarm)), (Verdict::Alarm, Ok(())));
 }
 
@@ -78,8 +76,7 @@ fn an_overrun_of_no_run() {
     let chart = chart("V x 0 3 *\nL a o\nL b o\nE 0 1 if $0 lt 3\nE 1 0 add $0 $0 1");
     let explorer = explorer(&chart);
     assert!(!explorer.overruns());
-    let mut analysis = Analysis::start(&chart, settings("sep sep old"), 16);
-    analysis.run(&chart, 100);
+    let analysis = Analysis::begin(&chart, settings("sep sep old"), 16, 100);
     assert_eq!((analysis.verdict, analysis.edge), (Verdict::Alarm, Some(EdgeId(2))));
     assert_eq!(explorer.check(&analysis), Ok(()));
 }

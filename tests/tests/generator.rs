@@ -1,34 +1,55 @@
 //! The generators reach everything there is to compare: every operation and
-//! relation, every refusal number, every verdict and every corner of an analysis;
-//! and neither overruns nor safe charts are rare.
+//! relation, every refusal number, every verdict and every corner of an analysis
+//! and of a begin; and neither overruns nor safe charts are rare.
 
 use std::ops::RangeInclusive;
 
 use reference::analysis::{Analysis, Merge, Verdict};
+use reference::begins::{begin_corners, begin_corners_of, spent_corner_of, spent_corners};
 use reference::chart::{Chart, Operand, Operation};
 use reference::coverage::{corner_labels, corner_labels_of, program_label, program_labels, Met};
 use reference::explorer::Explorer;
-use reference::program::{printed, walk};
+use reference::program::{printed, read_go_line, walk};
 use reference::random::charts::small;
-use reference::random::{count_at_least, inputs, permitted_settings, seed, Random};
+use reference::random::{calls, count_at_least, inputs, permitted_settings, seed, Random};
 
 const INPUTS: usize = 14_000;
+const BEGINS: usize = 8_000;
 /// Of each, so that another seed finds it too.
 const FEWEST: usize = 20;
+/// Of what becomes of a budget.
+const FEWEST_BUDGETS: usize = 5;
 
 #[test]
 fn inputs_meet_every_refusal_verdict_and_corner() {
     let mut random = Random::new(seed());
-    let (mut met, mut corners) = (Met::new(), Met::new());
+    let (mut met, mut corners, mut budgets) = (Met::new(), Met::new(), Met::new());
     for _ in 0..count_at_least(INPUTS) {
-        let walked = walk(&inputs::program_input(&mut random));
+        let input = inputs::program_input(&mut random);
+        let walked = walk(&input);
         met.add(program_label(&printed(&walked)));
         if let Ok((_, analysis)) = walked {
             corners.add_all(corner_labels_of(&analysis));
+            let (go, _) = read_go_line(&input).expect("it is accepted");
+            budgets.add(spent_corner_of(go.budget, &analysis));
         }
     }
     met.assert_exactly(&program_labels(), FEWEST);
     corners.assert_exactly(&corner_labels(), FEWEST);
+    budgets.assert_exactly(&spent_corners(), FEWEST_BUDGETS);
+}
+
+#[test]
+fn begins_meet_every_corner() {
+    let mut random = Random::new(seed() ^ 4);
+    let mut corners = Met::new();
+    for _ in 0..count_at_least(BEGINS) {
+        let chart = inputs::chart(&mut random);
+        let begin = calls::begin(&mut random, &chart);
+        let lent = calls::lent_to_begin(&mut random, &chart, begin.capacity);
+        corners.add_all(begin_corners_of(begin, &lent));
+    }
+    corners.assert_exactly(&begin_corners(), FEWEST);
 }
 
 fn assert_share(what: &str, part: usize, whole: usize, percent: RangeInclusive<usize>) {
@@ -70,8 +91,7 @@ fn overruns_are_neither_rare_nor_the_rule() {
         overrunning += usize::from(explorer.overruns());
         erring += usize::from(explorer.reaches_error());
         for (settings, safe, alarms, overruns) in &mut by_settings {
-            let mut analysis = Analysis::start(&chart, *settings, 256);
-            analysis.run(&chart, 60_000);
+            let analysis = Analysis::begin(&chart, *settings, 256, 60_000);
             *safe += usize::from(analysis.verdict == Verdict::Safe);
             *alarms += usize::from(analysis.verdict == Verdict::Alarm);
             // An alarm along an edge to an ordinary location.

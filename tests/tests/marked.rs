@@ -1,5 +1,5 @@
-//! Document 01's marked and worked cases, and what requests 2.1 and 2.6 make of them, on the modules
-//! and the calls themselves.
+//! Document 01's marked and worked cases, and what requests 2.1, 2.6 and 2.9 make of them, on the
+//! modules and the calls themselves.
 
 mod common;
 
@@ -13,9 +13,7 @@ const MEET: i32 = 3;
 
 /// A finished analysis.
 fn walk(chart: &Chart, words: &str, capacity: usize) -> Analysis {
-    let mut analysis = Analysis::start(chart, settings(words), capacity);
-    analysis.run(chart, 100);
-    analysis
+    Analysis::begin(chart, settings(words), capacity, 100)
 }
 
 fn waiting(analysis: &Analysis) -> Vec<usize> {
@@ -88,11 +86,14 @@ fn one_location_is_safe_after_one_iteration() {
 #[test]
 fn an_error_location_at_the_start_alarms_at_once() {
     let chart = chart("L only e");
-    let analysis = Analysis::start(&chart, settings("sep sep old"), 1);
-    assert_eq!((analysis.verdict, analysis.iterations), (Verdict::Alarm, 0));
-    assert_eq!((analysis.reached.len(), analysis.edge), (1, None));
-    assert_eq!(waiting(&analysis), [0]);
-    assert_eq!(listing(&chart, &analysis), b"walk\tsep\tsep\told\talarm\t0\t1\t0\n0\tonly\tw\n");
+    for budget in [0, 1, 60_000] {
+        let analysis = Analysis::begin(&chart, settings("sep sep old"), 1, budget);
+        assert_eq!((analysis.verdict, analysis.iterations), (Verdict::Alarm, 0));
+        assert_eq!((analysis.reached.len(), analysis.edge), (1, None));
+        assert_eq!(waiting(&analysis), [0]);
+        let expected = b"walk\tsep\tsep\told\talarm\t0\t1\t0\n0\tonly\tw\n";
+        assert_eq!(listing(&chart, &analysis), expected);
+    }
 }
 
 #[test]

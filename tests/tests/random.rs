@@ -50,8 +50,7 @@ fn runs_are_covered_and_safe_is_safe() {
                     random.between(0, 12) as u32,
                 ),
             ] {
-                let mut analysis = Analysis::start(&chart, settings, capacity);
-                analysis.run(&chart, budget);
+                let analysis = Analysis::begin(&chart, settings, capacity, budget);
                 check(&explorer, &chart, &analysis);
                 let verdict = analysis_label(settings, analysis.verdict);
                 met.add(run_label(&verdict, explorer.reaches_error(), explorer.overruns()));
@@ -103,8 +102,7 @@ fn runs_are_covered_at_every_iteration() {
             assert_eq!(analysis.iterations, before + 1);
             check(&explorer, &chart, &analysis);
         }
-        let mut at_once = Analysis::start(&chart, settings, capacity);
-        at_once.run(&chart, ENOUGH);
+        let at_once = Analysis::begin(&chart, settings, capacity, ENOUGH);
         assert_eq!(analysis, at_once);
     }
 }

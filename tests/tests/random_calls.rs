@@ -2,12 +2,13 @@
 //! calls on disturbed words, of which every refusal is met.
 
 use reference::analysis::{Analysis, Verdict};
+use reference::begins::{begin_corners, begin_corners_of, refusals, Begin};
 use reference::calls::{Answer, Record};
 use reference::chart::Chart;
 use reference::coverage::{corner_labels, corner_labels_of, Met};
 use reference::listing::listing;
 use reference::memory::Memory;
-use reference::random::calls::{call, disturb, relend, start, Call};
+use reference::random::calls::{begin, call, disturb, relend, Call};
 use reference::random::{count_at_least, inputs, seed, Random};
 
 const CALLS_PER_CHART: usize = 12;
@@ -28,15 +29,20 @@ fn expected(
     };
     let mut text = Vec::new();
     let number = match (call, analysis.as_mut()) {
-        (Call::Start { capacity, .. }, _) if !(1..=256).contains(&capacity) => 11,
-        (Call::Start { settings, .. }, _) if !settings.is_sound() => 12,
-        (Call::Start { capacity, .. }, _) if is_short(capacity as usize) => 14,
-        (Call::Start { settings, capacity }, _) => {
-            *analysis = Some(Analysis::start(chart, settings, capacity as usize));
+        (Call::Begin(Begin { capacity, .. }), _) if !(1..=256).contains(&capacity) => 11,
+        (Call::Begin(Begin { settings, .. }), _) if !settings.is_sound() => 12,
+        (Call::Begin(Begin { budget, .. }), _) if !(0..=60_000).contains(&budget) => 13,
+        (Call::Begin(Begin { capacity, .. }), _) if is_short(capacity as usize) => 14,
+        (Call::Begin(Begin { settings, capacity, budget }), _) => {
+            let mut begun = Analysis::start(chart, settings, capacity as usize);
+            if begun.verdict == Verdict::Open {
+                begun.run(chart, budget as u32);
+            }
+            *analysis = Some(begun);
             0
         }
         (Call::Run { budget }, _) if !(0..=60_000).contains(&budget) => 13,
-        (_, None) => unreachable!("the first start has gone through"),
+        (_, None) => unreachable!("the first begin has gone through"),
         (_, Some(analysis)) if is_short(analysis.capacity) => 14,
         (Call::Run { .. }, Some(analysis)) if analysis.verdict != Verdict::Open => 22,
         (Call::Run { budget }, Some(analysis)) => {
@@ -58,10 +64,21 @@ fn expected(
 
 fn make(memory: &mut Memory, call: Call) -> (Answer, Vec<u8>) {
     match call {
-        Call::Start { settings, capacity } => (memory.start(settings, capacity), Vec::new()),
+        Call::Begin(Begin { settings, capacity, budget }) => {
+            (memory.begin(settings, capacity, budget), Vec::new())
+        }
         Call::Run { budget } => (memory.run(budget), Vec::new()),
         Call::Listing { space } => memory.listing(space),
     }
+}
+
+/// Buffers of other sizes, about what the call takes.
+fn lend(random: &mut Random, memory: &Memory, call: Call) -> Memory {
+    let capacity = match call {
+        Call::Begin(begin) => begin.capacity.unsigned_abs(),
+        _ => memory.record.capacity,
+    };
+    relend(random, memory, capacity)
 }
 
 fn assert_holds(memory: &Memory, analysis: &Analysis) {
@@ -90,14 +107,10 @@ fn whole_walks() {
         let mut analysis = None;
         for _ in 0..CALLS_PER_CHART {
             let call = match analysis {
-                None => start(&mut random, &chart),
+                None => Call::Begin(begin(&mut random, &chart)),
                 Some(_) => call(&mut random, &chart),
             };
-            let capacity = match call {
-                Call::Start { capacity, .. } => capacity.unsigned_abs(),
-                _ => memory.record.capacity,
-            };
-            let mut lent = relend(&mut random, &memory, capacity);
+            let mut lent = lend(&mut random, &memory, call);
             let expected = expected(&chart, &mut analysis, call, &lent);
             let (answer, text) = make(&mut lent, call);
             assert_eq!((answer.number, answer.line, text), (expected.0, 0, expected.1), "{call:?}");
@@ -107,7 +120,7 @@ fn whole_walks() {
             }
             if let Some(analysis) = &mut analysis {
                 assert_holds(&memory, analysis);
-                if matches!(call, Call::Run { .. }) && answer == Answer::DONE {
+                if answer == Answer::DONE && !matches!(call, Call::Listing { .. }) {
                     corners.add_all(corner_labels_of(analysis));
                     analysis.corners.clear();
                 }
@@ -123,25 +136,30 @@ fn whole_walks() {
 #[test]
 fn disturbed_words_meet_every_refusal() {
     let mut random = Random::new(seed() ^ 1);
-    let mut met = Met::new();
+    let (mut met, mut begins) = (Met::new(), Met::new());
     for _ in 0..count_at_least(3_000) {
         let chart = inputs::chart(&mut random);
         let mut memory = Memory::new(&chart, 256 * chart.width() + 4, 260);
         let settings = random.settings();
-        memory.start(settings, inputs::capacity(&mut random, &chart, settings));
-        if memory.record.verdict == Verdict::Open {
-            memory.run(random.between(0, 6));
-        }
+        let capacity = inputs::capacity(&mut random, &chart, settings);
+        memory.begin(settings, capacity, random.between(0, 6));
         for _ in 0..CALLS_PER_CHART {
-            let mut disturbed = memory.clone();
-            disturb(&mut random, &mut disturbed);
             let call = call(&mut random, &chart);
+            let mut disturbed = lend(&mut random, &memory, call);
+            disturb(&mut random, &mut disturbed);
+            let before = disturbed.clone();
             let (answer, _) = make(&mut disturbed, call);
             met.add(answer.number);
             if answer == Answer::DONE {
                 assert_eq!(disturbed.listing(20_000).0, Answer::DONE, "{call:?}");
             }
+            if let Call::Begin(begin) = call {
+                let expected = refusals(begin, &before).first().copied().unwrap_or(0);
+                assert_eq!((answer.number, answer.line), (expected, 0), "{call:?}");
+                begins.add_all(begin_corners_of(begin, &before));
+            }
         }
     }
     met.assert_exactly(&[0, 11, 12, 13, 14, 15, 20, 21, 22, 23], FEWEST);
+    begins.assert_exactly(&begin_corners(), FEWEST_CORNERS);
 }

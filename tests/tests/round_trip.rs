@@ -57,7 +57,7 @@ fn the_chart_held_is_judged_exactly() {
                 disturb_word(&mut random, &mut memory.chart);
             }
         }
-        let is_accepted = memory.start(random.settings(), 1).number == 0;
+        let is_accepted = memory.begin(random.settings(), 1, 0).number == 0;
         assert_eq!(is_accepted, begins_with_a_chart(&memory.chart), "{:?}", memory.chart);
         *(if is_accepted { &mut accepted } else { &mut refused }) += 1;
     }

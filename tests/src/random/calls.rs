@@ -1,25 +1,29 @@
 //! Random calls on lent words, and disturbances of what the words hold.
 
 use super::{inputs, Random};
-use crate::analysis::{Merge, Settings, Stop, Verdict};
+use crate::analysis::{Merge, Settings, Stop, Verdict, MAX_ITERATIONS};
+use crate::begins::Begin;
 use crate::chart::Chart;
 use crate::domain::TOP;
 use crate::memory::{Memory, JUNK};
 
 #[derive(Clone, Copy, Debug)]
 pub enum Call {
-    Start { settings: Settings, capacity: i32 },
+    Begin(Begin),
     Run { budget: i32 },
     Listing { space: usize },
 }
 
+const REFUSED_CAPACITIES: [i32; 5] = [0, 257, -1, i32::MIN, i32::MAX];
+const REFUSED_BUDGETS: [i32; 4] = [-1, 60_001, i32::MIN, i32::MAX];
+
 /// Any call, mostly one with settings that are not refused.
 pub fn call(random: &mut Random, chart: &Chart) -> Call {
     match random.below(10) {
-        0 | 1 => start(random, chart),
+        0 | 1 => Call::Begin(begin(random, chart)),
         2..=6 => Call::Run {
             budget: match random.below(12) {
-                0 => random.pick(&[-1, 60_001, i32::MIN, i32::MAX]),
+                0 => random.pick(&REFUSED_BUDGETS),
                 1..=5 => random.between(0, 3),
                 6 | 7 => random.between(4, 40),
                 _ => inputs::budget(random),
@@ -29,17 +33,55 @@ pub fn call(random: &mut Random, chart: &Chart) -> Call {
     }
 }
 
-pub fn start(random: &mut Random, chart: &Chart) -> Call {
+/// Mostly one that is not refused, now and then one with so much wrong that the order of refusals is seen.
+pub fn begin(random: &mut Random, chart: &Chart) -> Begin {
+    let wrong = if random.percent(12) { 50 } else { 5 };
     let mut settings = random.settings();
-    if random.percent(8) {
+    if random.percent(wrong) {
         settings.merge = Merge::Sep;
         settings.stop = Stop::Join;
     }
-    let capacity = match random.below(12) {
-        0 => random.pick(&[0, 257, -1, i32::MIN, i32::MAX]),
-        _ => inputs::capacity(random, chart, settings),
+    let capacity = match random.percent(wrong) {
+        true => random.pick(&REFUSED_CAPACITIES),
+        false => inputs::capacity(random, chart, settings),
     };
-    Call::Start { settings, capacity }
+    let budget = match random.percent(wrong) {
+        true => random.pick(&REFUSED_BUDGETS),
+        false => begin_budget(random, chart, settings, capacity),
+    };
+    Begin { settings, capacity, budget }
+}
+
+/// Often none or few, so that a run has something left to do; and just enough, or one too few or too many.
+fn begin_budget(random: &mut Random, chart: &Chart, settings: Settings, capacity: i32) -> i32 {
+    match random.below(10) {
+        0..=2 => 0,
+        3..=5 => random.between(1, 3),
+        6 | 7 if !REFUSED_CAPACITIES.contains(&capacity) => {
+            (inputs::iterations(chart, settings, capacity) + random.between(-1, 1)).max(0)
+        }
+        _ => inputs::budget(random),
+    }
+}
+
+/// What a begin with this capacity may be lent: words before the first one, or an analysis that is under
+/// way or has ended, at times disturbed or at the limit of its iterations.
+pub fn lent_to_begin(random: &mut Random, chart: &Chart, capacity: i32) -> Memory {
+    let mut memory = Memory::new(chart, 256 * chart.width(), 256);
+    if random.percent(80) {
+        let settings = random.settings();
+        let (capacity, budget) =
+            (inputs::capacity(random, chart, settings), inputs::budget(random));
+        memory.begin(settings, capacity, if random.percent(50) { budget } else { budget.min(2) });
+    }
+    let mut lent = relend(random, &memory, capacity.unsigned_abs());
+    match random.below(10) {
+        0 | 1 => lent.record.iterations = MAX_ITERATIONS,
+        2..=5 => disturb(random, &mut lent),
+        6 => disturb_word(random, &mut lent.chart),
+        _ => {}
+    }
+    lent
 }
 
 /// Buffers of other sizes with the same words as far as they go, anything
@@ -74,7 +116,10 @@ pub fn disturb(random: &mut Random, memory: &mut Memory) {
             3 => memory.record.used = near(random, record.used),
             4 => memory.record.waiting = near(random, record.waiting),
             5 => memory.record.capacity = near(random, record.capacity),
-            6 => memory.record.iterations = random.pick(&[0, 59_998, 59_999, 60_000, 60_001]),
+            6 => {
+                let iterations = [0, 59_998, 59_999, 60_000, 60_000, 60_000, 60_001];
+                memory.record.iterations = random.pick(&iterations);
+            }
             7 => memory.record.edge = near(random, record.edge),
             8 => memory.record.verdict = random.pick(&Verdict::ALL),
             9 => memory.record.settings.stop = random.pick(&Stop::ALL),

@@ -52,8 +52,16 @@ fn corner_input(random: &mut Random) -> Vec<u8> {
     [go_line_of(settings, capacity, budget), render(&chart)].concat()
 }
 
-/// A chart of any shape.
+/// A chart of any shape; some have an error location at their start, which few would have by chance.
 pub fn chart(random: &mut Random) -> Chart {
+    let mut chart = any_chart(random);
+    if random.percent(3) {
+        chart.locations[Chart::START.0].is_error = true;
+    }
+    chart
+}
+
+fn any_chart(random: &mut Random) -> Chart {
     let shape = match random.below(22) {
         0..=3 => charts::LARGE,
         4 | 5 => charts::DEEP,
@@ -69,9 +77,10 @@ pub fn chart(random: &mut Random) -> Chart {
 fn go_line(random: &mut Random, chart: &Chart) -> Vec<u8> {
     let settings = random.settings();
     let capacity = capacity(random, chart, settings);
-    let budget = match random.percent(5) {
-        true => tight_budget(random, chart, settings, capacity),
-        false => budget(random),
+    let budget = match random.below(20) {
+        0 => tight_budget(random, chart, settings, capacity),
+        1 | 2 => 0,
+        _ => budget(random),
     };
     go_line_of(settings, capacity, budget)
 }
@@ -95,16 +104,18 @@ pub fn capacity(random: &mut Random, chart: &Chart, settings: Settings) -> i32 {
 
 /// The slots that an analysis takes, or one fewer.
 fn tight_capacity(random: &mut Random, chart: &Chart, settings: Settings) -> i32 {
-    let mut analysis = Analysis::start(chart, settings, MAX_CAPACITY);
-    analysis.run(chart, MAX_ITERATIONS);
+    let analysis = Analysis::begin(chart, settings, MAX_CAPACITY, MAX_ITERATIONS);
     (analysis.reached.len() as i32 - random.between(0, 1)).max(1)
 }
 
 /// One to three iterations fewer than an analysis takes, as far as there are so many.
 fn tight_budget(random: &mut Random, chart: &Chart, settings: Settings, capacity: i32) -> i32 {
-    let mut analysis = Analysis::start(chart, settings, capacity as usize);
-    analysis.run(chart, MAX_ITERATIONS);
-    (analysis.iterations as i32 - random.between(1, 3)).max(0)
+    (iterations(chart, settings, capacity) - random.between(1, 3)).max(0)
+}
+
+/// The iterations that an analysis takes.
+pub fn iterations(chart: &Chart, settings: Settings, capacity: i32) -> i32 {
+    Analysis::begin(chart, settings, capacity as usize, MAX_ITERATIONS).iterations as i32
 }
 
 pub fn budget(random: &mut Random) -> i32 {

@@ -77,6 +77,15 @@ fn form_21() {
         assert_eq!(memory.run(1), refused(21), "{clause}");
         assert_eq!(memory.run(0), refused(21), "{clause}");
         assert_eq!(listing_answer(&memory), refused(21), "{clause}");
+        assert_begins_anew(&memory, clause);
+    }
+}
+
+/// Whatever is held, a begin goes through; `Memory` checks that it comes to the same as over junk.
+fn assert_begins_anew(memory: &Memory, case: &str) {
+    for budget in [0, 2, 60_000] {
+        let answer = memory.clone().begin(settings("join sep new"), 8, budget);
+        assert_eq!(answer, DONE, "{case}, budget {budget}");
     }
 }
 
@@ -122,6 +131,7 @@ fn form_21_leaves_unusual_walks_alone() {
         let mut memory = case_a_underway();
         disturb(&mut memory);
         assert_eq!(listing_answer(&memory), DONE, "{case}");
+        assert_begins_anew(&memory, case);
         assert_eq!(memory.run(100), refused(number), "{case}");
         assert_eq!(listing_answer(&memory), DONE, "{case}, after its run");
     }
@@ -154,7 +164,7 @@ fn the_chart_held() {
     for (place, word) in out_of_form {
         let mut memory = underway.clone();
         memory.chart[place] = word;
-        assert_eq!(memory.start(settings, 8), refused(20), "word {place} = {word}");
+        assert_eq!(memory.begin(settings, 8, 0), refused(20), "word {place} = {word}");
         assert_eq!(listing_answer(&memory), refused(20), "word {place} = {word}");
     }
 }

@@ -5,7 +5,7 @@ use reference::calls::Record;
 use reference::domain::TOP;
 
 use crate::common::chart;
-use crate::support::{started, DONE};
+use crate::support::{begun, DONE};
 
 /// No successor, and nothing else to follow.
 const BLOCKED: Result<[i32; 2], Verdict> = Err(Verdict::Safe);
@@ -14,7 +14,7 @@ const OVERRUN: Result<[i32; 2], Verdict> = Err(Verdict::Alarm);
 /// The values behind the one edge of a chart, from the given values at its start; or the verdict
 /// without a successor.
 fn step(lines: &str, values: [i32; 2]) -> Result<[i32; 2], Verdict> {
-    let mut memory = started(&chart(lines), "sep sep old", 2);
+    let mut memory = begun(&chart(lines), "sep sep old", 2);
     memory.table[1..3].copy_from_slice(&values);
     assert_eq!(memory.run(1), DONE);
     assert_eq!(memory.table[..3], [0, values[0], values[1]], "the slot taken stays as it is");
@@ -42,7 +42,7 @@ fn initial_entries() {
          E 0 1 in $3 5 5
          E 0 1 in $1 0 9",
     );
-    let mut memory = started(&chart, "sep sep old", 4);
+    let mut memory = begun(&chart, "sep sep old", 4);
     assert_eq!(memory.table[..5], [0, TOP, TOP, -3, 5]);
     assert_eq!(memory.run(9), DONE);
     #[rustfmt::skip]

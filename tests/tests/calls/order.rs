@@ -1,12 +1,10 @@
 //! The order in which each call judges its refusals, and the bounds it judges by.
 
 use reference::analysis::Verdict;
-use reference::calls::Record;
-use reference::domain::TOP;
 use reference::memory::{Memory, JUNK};
 
 use crate::common::{chart, settings, CASE_A};
-use crate::support::{case_a_underway, listing_answer, refused, started, DONE, SPACE};
+use crate::support::{begun, case_a_underway, listing_answer, refused, DONE, SPACE};
 
 #[test]
 fn run_order() {
@@ -74,39 +72,49 @@ fn too_few_words_by_the_capacity_as_it_stands() {
     assert_eq!(memory.run(1), refused(21), "0 is never too few");
 }
 
+/// Every set of refusals that can apply at once, over an analysis under way, which must stay as it is.
 #[test]
-fn start_order() {
-    let chart = chart(CASE_A);
-    let unsound = settings("sep join old");
-    let sound = settings("sep sep old");
-    let mut memory = Memory::new(&chart, 31, 8);
-    memory.chart[3] = 2;
-    for capacity in [0, 257, -1, i32::MIN, i32::MAX] {
-        assert_eq!(memory.start(unsound, capacity), refused(11));
+fn begin_order() {
+    const ORDER: [u32; 5] = [11, 12, 13, 20, 14];
+    for set in 0..1 << ORDER.len() {
+        let all = || ORDER.into_iter().enumerate().filter(|(place, _)| set >> place & 1 == 1);
+        let applies = |number: u32| all().any(|(_, each)| each == number);
+        let mut memory = case_a_underway();
+        if applies(20) {
+            memory.chart[3] = 2;
+        }
+        if applies(14) {
+            memory.table.truncate(31);
+        }
+        let settings = settings(if applies(12) { "sep join old" } else { "sep sep old" });
+        let capacities = if applies(11) { &[0, 257, -1, i32::MIN, i32::MAX][..] } else { &[8] };
+        let budgets =
+            if applies(13) { &[-1, 60_001, i32::MIN, i32::MAX][..] } else { &[0, 1, 60_000] };
+        let expected = refused(all().next().map_or(0, |(_, number)| number));
+        for &capacity in capacities {
+            for &budget in budgets {
+                let answer = memory.clone().begin(settings, capacity, budget);
+                assert_eq!(answer, expected, "{settings:?}, {capacity}, {budget}, set {set:05b}");
+            }
+        }
     }
-    assert_eq!(memory.start(unsound, 8), refused(12));
-    assert_eq!(memory.start(sound, 8), refused(20));
-    memory.chart[3] = 0;
-    assert_eq!(memory.start(sound, 8), refused(14), "one table word is missing");
-    assert_eq!(memory.start(sound, 7), DONE);
-    memory.table.push(JUNK);
-    assert_eq!(memory.start(sound, 9), refused(14));
-    memory.waitlist.pop();
-    assert_eq!(memory.start(sound, 8), refused(14), "one list word is missing");
-    memory.waitlist.push(JUNK);
-    assert_eq!(memory.start(sound, 8), DONE);
-    let expected = Record {
-        settings: sound,
-        capacity: 8,
-        iterations: 0,
-        used: 1,
-        waiting: 1,
-        verdict: Verdict::Open,
-        edge: 0,
-    };
-    assert_eq!(memory.record, expected);
-    assert_eq!(memory.table[..5], [0, 0, 0, TOP, 0]);
-    assert_eq!(memory.waitlist, [0; 8]);
+}
+
+#[test]
+fn begin_takes_just_its_words() {
+    let chart = chart(CASE_A);
+    let sound = settings("sep sep old");
+    for budget in [0, 2, 60_000] {
+        let mut memory = Memory::new(&chart, 31, 8);
+        assert_eq!(memory.begin(sound, 8, budget), refused(14), "one table word is missing");
+        assert_eq!(memory.begin(sound, 7, budget), DONE);
+        memory.table.push(JUNK);
+        assert_eq!(memory.begin(sound, 9, budget), refused(14));
+        memory.waitlist.pop();
+        assert_eq!(memory.begin(sound, 8, budget), refused(14), "one list word is missing");
+        memory.waitlist.push(JUNK);
+        assert_eq!(memory.begin(sound, 8, budget), DONE);
+    }
 }
 
 #[test]
@@ -120,11 +128,22 @@ fn the_limit_of_iterations() {
     assert_eq!(memory.run(100), refused(23));
 
     // A verdict of the last iteration stands.
-    let mut memory = started(&chart("L only o"), "sep sep old", 1);
+    let mut memory = begun(&chart("L only o"), "sep sep old", 1);
     memory.record.iterations = 59_999;
     assert_eq!(memory.run(100), DONE);
     assert_eq!((memory.record.iterations, memory.record.verdict), (60_000, Verdict::Safe));
     assert_eq!(memory.run(100), refused(22));
+
+    // A begin counts its own iterations alone, whatever the record says.
+    for iterations in [59_998, 60_000, 60_001, u32::MAX] {
+        let mut memory = case_a_underway();
+        memory.record.iterations = iterations;
+        assert_eq!(memory.begin(memory.record.settings, 8, 3), DONE);
+        assert!(memory == case_a_underway(), "as after three iterations of a run");
+        memory.record.iterations = iterations;
+        assert_eq!(memory.begin(memory.record.settings, 8, 60_000), DONE);
+        assert_eq!((memory.record.iterations, memory.record.verdict), (7, Verdict::Safe));
+    }
 }
 
 #[test]

@@ -8,7 +8,7 @@ use reference::reader;
 use reference::renderer::render;
 
 use crate::common::{chart, CASE_A};
-use crate::support::{listing_answer, refused, started, DONE};
+use crate::support::{begun, listing_answer, refused, DONE};
 
 #[test]
 fn read_fills_words_or_writes_nothing() {
@@ -94,6 +94,6 @@ fn largest_accepted_file() {
         let longer = file.clone() + line;
         assert_eq!(calls::read(longer.as_bytes(), &mut words), Answer::refused(number, 329));
     }
-    let memory = started(&chart, "sep sep old", 256);
+    let memory = begun(&chart, "sep sep old", 256);
     assert_eq!(listing_answer(&memory), DONE);
 }

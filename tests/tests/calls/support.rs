@@ -16,11 +16,11 @@ pub fn refused(number: u32) -> Answer {
     Answer::refused(number, 0)
 }
 
-/// An analysis started in buffers with a few words to spare.
-pub fn started(chart: &Chart, words: &str, capacity: i32) -> Memory {
+/// An analysis begun with no budget, in buffers with a few words to spare.
+pub fn begun(chart: &Chart, words: &str, capacity: i32) -> Memory {
     let room = capacity as usize;
     let mut memory = Memory::new(chart, room * chart.width() + 5, room + 3);
-    assert_eq!(memory.start(settings(words), capacity), DONE);
+    assert_eq!(memory.begin(settings(words), capacity, 0), DONE);
     memory
 }
 
@@ -31,7 +31,7 @@ pub fn list(memory: &Memory) -> &[i32] {
 
 /// Case A after three iterations: five slots in use, of which 3 and 4 wait.
 pub fn case_a_underway() -> Memory {
-    let mut memory = started(&chart(CASE_A), "sep sep old", 8);
+    let mut memory = begun(&chart(CASE_A), "sep sep old", 8);
     assert_eq!(memory.run(3), DONE);
     #[rustfmt::skip]
     assert_eq!(

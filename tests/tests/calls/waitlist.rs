@@ -6,7 +6,7 @@ use reference::domain::TOP;
 use reference::memory::JUNK;
 
 use crate::common::{chart, settings, CASE_A};
-use crate::support::{list, refused, started, DONE};
+use crate::support::{begun, list, refused, DONE};
 
 #[test]
 fn keeps_its_place() {
@@ -20,7 +20,7 @@ fn keeps_its_place() {
          E 0 1 set $0 2",
     );
     for (order, left) in [("old", 2), ("new", 1)] {
-        let mut memory = started(&chart, &format!("join sep {order}"), 4);
+        let mut memory = begun(&chart, &format!("join sep {order}"), 4);
         memory.run(1);
         // Edge 3 widened slot 1, which was waiting before slot 2 and still is.
         assert_eq!(memory.table[..8], [0, 0, 1, TOP, 2, 1, 0, 0]);
@@ -43,7 +43,7 @@ fn a_widened_slot_waits_again_at_the_end() {
          E 2 3 skip
          E 2 1 set $0 2",
     );
-    let mut memory = started(&chart, "join join old", 4);
+    let mut memory = begun(&chart, "join join old", 4);
     memory.run(2);
     assert_eq!(list(&memory), [2, 0, 0, 0]);
     memory.run(1);
@@ -60,7 +60,7 @@ fn a_self_loop_returns_the_taken_slot_to_the_list() {
         [("set $0 1", 0, Verdict::Safe, 0), ("add $0 $0 1", 1, Verdict::Alarm, 1)]
     {
         let chart = chart(&format!("V x 0 9 0\nL only o\nE 0 0 {operation}"));
-        let mut memory = started(&chart, "join sep new", 2);
+        let mut memory = begun(&chart, "join sep new", 2);
         memory.run(1);
         assert_eq!((memory.table[..4].to_vec(), list(&memory)), (vec![0, TOP, 0, 0], &[0, 0][..]));
         assert_eq!((memory.record.waiting, memory.record.verdict), (1, Verdict::Open));
@@ -100,7 +100,7 @@ fn moved_to_the_place_taken_next() {
     ] {
         for (order, expected) in [("old", old), ("new", new)] {
             let chart = lines(&format!("{edges}{last}"));
-            let mut memory = started(&chart, &format!("{merge} sep {order}"), capacity);
+            let mut memory = begun(&chart, &format!("{merge} sep {order}"), capacity);
             assert_eq!(memory.run(9), DONE);
             assert_eq!(memory.table[..words.len()], *words);
             assert_eq!(list(&memory)[..expected.len()], *expected);
@@ -134,7 +134,7 @@ fn an_overrun_stores_and_merges_nothing() {
     {
         let table = [&[0, 0, TOP], from_b, &[2, 1, TOP]].concat();
         for order in ["old", "new"] {
-            let mut memory = started(&chart, &format!("{merge} sep {order}"), capacity);
+            let mut memory = begun(&chart, &format!("{merge} sep {order}"), capacity);
             assert_eq!(memory.run(9), DONE);
             assert_eq!(memory.table[..table.len()], table);
             let others = 1..used;
@@ -163,7 +163,7 @@ fn an_overrun_stores_and_merges_nothing() {
 fn an_overrun_comes_before_the_capacity() {
     for (value, verdict, edge) in [(3, Verdict::Full, 0), (4, Verdict::Alarm, 1)] {
         let chart = chart(&format!("V x 0 3 0\nL a o\nL b o\nE 0 1 set $0 {value}"));
-        let mut memory = started(&chart, "sep sep old", 1);
+        let mut memory = begun(&chart, "sep sep old", 1);
         assert_eq!(memory.run(9), DONE);
         assert_eq!((memory.record.verdict, memory.record.edge), (verdict, edge));
         assert_eq!((memory.record.used, memory.table[..2].to_vec()), (1, vec![0, 0]));
@@ -175,7 +175,7 @@ fn an_overrun_comes_before_the_capacity() {
 #[test]
 fn an_overrun_is_judged_by_the_copy() {
     let chart = chart("V x 0 9 5\nL a o\nL b o\nE 0 0 set $0 6\nE 0 1 sub $0 $0 1");
-    let mut memory = started(&chart, "join join old", 4);
+    let mut memory = begun(&chart, "join join old", 4);
     assert_eq!(memory.run(1), DONE);
     assert_eq!(memory.table[..4], [0, TOP, 1, 4]);
     assert_eq!((memory.record.verdict, memory.record.waiting), (Verdict::Open, 2));
@@ -186,7 +186,7 @@ fn an_overrun_is_judged_by_the_copy() {
 
 #[test]
 fn a_room_6_list() {
-    let mut memory = started(&chart(CASE_A), "sep sep old", 6);
+    let mut memory = begun(&chart(CASE_A), "sep sep old", 6);
     assert_eq!(memory.run(100), DONE);
     #[rustfmt::skip]
     assert_eq!(
@@ -219,7 +219,7 @@ fn a_room_6_list() {
 #[test]
 fn a_taken_error_location_raises_no_alarm() {
     let chart = chart("L start o\nL bad e\nL end o\nE 1 2 skip");
-    let mut memory = started(&chart, "sep sep old", 3);
+    let mut memory = begun(&chart, "sep sep old", 3);
     memory.table[0] = 1;
     assert_eq!(memory.run(5), DONE);
     assert_eq!((memory.record.verdict, memory.record.iterations), (Verdict::Safe, 2));
@@ -231,7 +231,7 @@ fn a_taken_error_location_raises_no_alarm() {
 fn merge_goes_through_all_slots_in_order() {
     let chart = chart("V x 0 9 0\nL start o\nL twin o\nE 0 1 set $0 2");
     for (words, expected) in [("join sep old", [2, 1, 3]), ("join join new", [2, 1, 3])] {
-        let mut memory = started(&chart, words, 5);
+        let mut memory = begun(&chart, words, 5);
         memory.table[..10].copy_from_slice(&[0, 0, 1, 5, 1, 6, 1, 7, 1, 2]);
         memory.waitlist[..5].copy_from_slice(match memory.record.settings.order {
             Order::Old => &[0, 2, 0, 0, 0],
