@@ -27,11 +27,11 @@ static void print_call(const char *name, struct tarknotter_reply reply) {
     printf("\n");
 }
 
-static void start(uint32_t merge, uint32_t stop, uint32_t order, size_t table_length) {
-    struct tarknotter_called called =
-        tarknotter_start(chart, TARKNOTTER_CHART_WORDS, merge, stop, order, ROOM, record, table, table_length, list, ROOM);
+static void begin(uint32_t merge, uint32_t stop, uint32_t order, int32_t budget, size_t table_length) {
+    struct tarknotter_called called = tarknotter_begin(chart, TARKNOTTER_CHART_WORDS, merge, stop, order, ROOM, budget,
+                                                       record, table, table_length, list, ROOM);
     record = called.record;
-    print_call("start", called.reply);
+    print_call("begin", called.reply);
 }
 
 static void run(int32_t budget) {
@@ -49,10 +49,10 @@ static size_t listing(size_t space_length) {
     return reply.length;
 }
 
-/* In small budgets and then to the verdict, with a refusal of each call. */
+/* In small budgets and then to the verdict, with a refusal of each call; then anew, a part and the whole at once. */
 static void walk(uint32_t merge, uint32_t stop, uint32_t order) {
-    start(merge, stop, order, TABLE - 1);
-    start(merge, stop, order, TABLE);
+    begin(merge, stop, order, 100, TABLE - 1);
+    begin(merge, stop, order, 0, TABLE);
     run(0);
     run(1);
     run(2);
@@ -60,7 +60,11 @@ static void walk(uint32_t merge, uint32_t stop, uint32_t order) {
     run(100);
     size_t length = listing(sizeof space);
     listing(length - 1);
-    start(NO_MERGE, stop, order, TABLE);
+    begin(merge, stop, order, -1, TABLE - 1);
+    begin(merge, stop, order, 3, TABLE);
+    begin(merge, stop, order, 100, TABLE);
+    listing(sizeof space);
+    begin(NO_MERGE, stop, order, -1, TABLE - 1);
 }
 
 int main(void) {

@@ -13,7 +13,7 @@ pub struct Reply {
     pub length: usize,
 }
 
-/// The codes of a start: merge and stop 0 sep, 1 join; order 0 old, 1 new. Others name nothing.
+/// The codes of a begin: merge and stop 0 sep, 1 join; order 0 old, 1 new. Others name nothing.
 #[derive(Clone, Copy, Debug, PartialEq, Eq)]
 pub struct Settings {
     pub merge: u32,
@@ -70,7 +70,7 @@ const _: () = {
 };
 
 impl Record {
-    /// All 0, for the first start.
+    /// All 0, for the first begin.
     pub const NONE: Record = Record {
         merge: 0,
         stop: 0,
@@ -85,7 +85,8 @@ impl Record {
 }
 
 pub type Read = fn(&[u8], &mut [i32]) -> Reply;
-pub type Start = fn(&[i32], Settings, i32, Record, &mut [i32], &mut [i32]) -> Called;
+/// The two numbers are the capacity and the budget.
+pub type Begin = fn(&[i32], Settings, i32, i32, Record, &mut [i32], &mut [i32]) -> Called;
 pub type Run = fn(&[i32], i32, Record, &mut [i32], &mut [i32]) -> Called;
 pub type Listing = fn(&[i32], Record, &[i32], &[i32], &mut [u8]) -> Reply;
 
@@ -93,12 +94,12 @@ pub type Listing = fn(&[i32], Record, &[i32], &[i32], &mut [u8]) -> Reply;
 #[derive(Clone, Copy)]
 pub struct Calls {
     pub read: Read,
-    pub start: Start,
+    pub begin: Begin,
     pub run: Run,
     pub listing: Listing,
 }
 
-pub const LIBRARY: Calls = Calls { read, start, run, listing };
+pub const LIBRARY: Calls = Calls { read, begin, run, listing };
 
 /// A slice passes as its pointer and its length.
 mod linked {
@@ -112,13 +113,14 @@ mod linked {
             words_length: usize,
         ) -> Reply;
         pub fn tarknotter_well_formed(words: *const i32, length: usize) -> bool;
-        pub fn tarknotter_start(
+        pub fn tarknotter_begin(
             chart: *const i32,
             chart_length: usize,
             merge: u32,
             stop: u32,
             order: u32,
             capacity: i32,
+            budget: i32,
             record: Record,
             table: *mut i32,
             table_length: usize,
@@ -161,24 +163,26 @@ pub fn well_formed(words: &[i32]) -> bool {
     unsafe { linked::tarknotter_well_formed(words.as_ptr(), words.len()) }
 }
 
-/// Begins an analysis anew.
-pub fn start(
+/// Begins an analysis anew and iterates until a verdict or the end of the budget.
+pub fn begin(
     chart: &[i32],
     settings: Settings,
     capacity: i32,
+    budget: i32,
     record: Record,
     table: &mut [i32],
     list: &mut [i32],
 ) -> Called {
     // SAFETY: each pointer and length are those of one slice, and no two slices overlap.
     unsafe {
-        linked::tarknotter_start(
+        linked::tarknotter_begin(
             chart.as_ptr(),
             chart.len(),
             settings.merge,
             settings.stop,
             settings.order,
             capacity,
+            budget,
             record,
             table.as_mut_ptr(),
             table.len(),

@@ -5,7 +5,7 @@ use reference::calls::{self, Answer};
 
 use crate::{Called, Calls, Record, Reply, Settings};
 
-pub const WALKER: Calls = Calls { read, start, run, listing };
+pub const WALKER: Calls = Calls { read, begin, run, listing };
 
 /// By their codes.
 const MERGES: [Merge; 2] = [Merge::Sep, Merge::Join];
@@ -17,10 +17,11 @@ pub fn read(text: &[u8], words: &mut [i32]) -> Reply {
     Reply::from(calls::read(text, words))
 }
 
-pub fn start(
+pub fn begin(
     chart: &[i32],
     settings: Settings,
     capacity: i32,
+    budget: i32,
     record: Record,
     table: &mut [i32],
     list: &mut [i32],
@@ -30,7 +31,8 @@ pub fn start(
         return Called { reply: Reply::from(Answer::refused(6, 0)), record };
     };
     let mut held = held(&record);
-    called(record, calls::start(chart, settings, capacity, table, list, &mut held), held)
+    let answer = calls::begin(chart, settings, capacity, budget, table, list, &mut held);
+    called(record, answer, held)
 }
 
 pub fn run(
@@ -90,7 +92,8 @@ fn code<T: PartialEq, const N: usize>(all: [T; N], one: T) -> u32 {
 }
 
 impl Settings {
-    fn named(self) -> Option<analysis::Settings> {
+    /// The walker's settings, unless a code names nothing.
+    pub fn named(self) -> Option<analysis::Settings> {
         Some(analysis::Settings {
             merge: named(MERGES, self.merge)?,
             stop: named(STOPS, self.stop)?,

@@ -34,10 +34,11 @@ fn a_c_program_walks_case_a() {
     for part in [
         include_str!("../../cases/dagger-a-room-6.out"),
         "\nwalk\tjoin\tjoin\told\talarm\t5\t5\t6\n",
-        "\nstart: 14 0 0, record",
+        "\nbegin: 13 0 0, record",
+        "\nbegin: 14 0 0, record",
         "\nrun: 22 0 0, record",
         "\nlisting: 15 0 0, record",
-        "\nstart: 6 0 0, record",
+        "\nbegin: 6 0 0, record",
     ] {
         assert!(expected.contains(part), "{part} is not in\n{expected}");
     }
@@ -78,21 +79,25 @@ impl Shown {
     }
 
     fn walk(&mut self, settings: Settings) {
-        self.start(settings, Shown::TABLE - 1);
-        self.start(settings, Shown::TABLE);
+        self.begin(settings, 100, Shown::TABLE - 1);
+        self.begin(settings, 0, Shown::TABLE);
         for budget in [0, 1, 2, 100, 100] {
             self.run(budget);
         }
         let length = self.listing(Shown::SPACE);
         self.listing(length - 1);
-        self.start(Settings { merge: Shown::NO_MERGE, ..settings }, Shown::TABLE);
+        self.begin(settings, -1, Shown::TABLE - 1);
+        self.begin(settings, 3, Shown::TABLE);
+        self.begin(settings, 100, Shown::TABLE);
+        self.listing(Shown::SPACE);
+        self.begin(Settings { merge: Shown::NO_MERGE, ..settings }, -1, Shown::TABLE - 1);
     }
 
-    fn start(&mut self, settings: Settings, lent: usize) {
-        let (chart, table) = (&self.chart, &mut self.table[..lent]);
-        let capacity = Shown::ROOM as i32;
-        let called = (WALKER.start)(chart, settings, capacity, self.record, table, &mut self.list);
-        self.take("start", called);
+    fn begin(&mut self, settings: Settings, budget: i32, lent: usize) {
+        let Shown { chart, record, table, list, .. } = self;
+        let (table, capacity) = (&mut table[..lent], Shown::ROOM as i32);
+        let called = (WALKER.begin)(chart, settings, capacity, budget, *record, table, list);
+        self.take("begin", called);
     }
 
     fn run(&mut self, budget: i32) {

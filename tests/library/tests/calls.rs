@@ -1,16 +1,18 @@
-//! The library's start, run and listing against the reference walker's: after every call the
+//! The library's begin, run and listing against the reference walker's: after every call the
 //! answer, the record, every lent word and byte, and those around them.
 
 use library::walker::{held, WALKER};
-use library::{files, Calls, Record, Reply, Settings, LIBRARY};
-use reference::calls::advanced;
+use library::{files, Called, Calls, Record, Reply, Settings, LIBRARY};
+use reference::analysis::{self, Analysis, Merge, Order, Stop};
+use reference::begins::{begin_corners, begin_corners_of, refusals, Begin, BeginCorner};
+use reference::calls::{advanced, begun};
 use reference::chart::Chart;
 use reference::coverage::{analysis_label, analysis_labels, corner_labels, corner_labels_of, Met};
 use reference::domain::TOP;
 use reference::encoding::MAX_WORDS;
 use reference::memory::Memory;
 use reference::program::{chart_part, read_go_line};
-use reference::random::calls::{call, disturb, relend, start, Call};
+use reference::random::calls::{begin, call, disturb, relend, Call};
 use reference::random::{count_at_least, inputs, permitted_settings, seed, Random};
 use reference::reader;
 use reference::worked::{cases, examples};
@@ -25,7 +27,7 @@ const FENCE: usize = 4;
 /// More than any listing takes: into as many bytes it is written without being measured.
 const SPACE: usize = 24_576;
 
-/// Before the first start.
+/// Before the first begin.
 const NO_RECORD: Record = Record {
     merge: 9,
     stop: 9,
@@ -41,7 +43,7 @@ const NO_RECORD: Record = Record {
 /// A call with its settings by their codes, which may name nothing.
 #[derive(Clone, Copy, Debug)]
 enum Made {
-    Start { settings: Settings, capacity: i32 },
+    Begin { settings: Settings, capacity: i32, budget: i32 },
     Run { budget: i32 },
     Listing,
 }
@@ -74,8 +76,8 @@ impl Lent {
         let chart = within(&self.chart);
         let (table, list) = (within_mut(&mut self.table), within_mut(&mut self.list));
         let called = match made {
-            Made::Start { settings, capacity } => {
-                (calls.start)(chart, settings, capacity, self.record, table, list)
+            Made::Begin { settings, capacity, budget } => {
+                (calls.begin)(chart, settings, capacity, budget, self.record, table, list)
             }
             Made::Run { budget } => (calls.run)(chart, budget, self.record, table, list),
             Made::Listing => {
@@ -129,7 +131,7 @@ fn compare(lent: &mut Lent, made: Made) -> Reply {
 
 fn label(made: Made, number: u32) -> String {
     let name = match made {
-        Made::Start { .. } => "start",
+        Made::Begin { .. } => "begin",
         Made::Run { .. } => "run",
         Made::Listing => "listing",
     };
@@ -139,13 +141,25 @@ fn label(made: Made, number: u32) -> String {
 /// Every answer that a call can give.
 fn labels() -> Vec<String> {
     [
-        ("start", &[0, 6, 11, 12, 14, 20][..]),
+        ("begin", &[0, 6, 11, 12, 13, 14, 20][..]),
         ("run", &[0, 13, 14, 20, 21, 22, 23]),
         ("listing", &[0, 14, 15, 20, 21]),
     ]
     .iter()
     .flat_map(|(name, numbers)| numbers.iter().map(move |number| format!("{name} {number}")))
     .collect()
+}
+
+/// The analysis that a call leaves in what it is lent, where it goes through and is no listing.
+fn left(made: Made, lent: &Memory) -> Option<Analysis> {
+    let Memory { chart, table, waitlist, record } = lent;
+    match made {
+        Made::Begin { settings, capacity, budget } => {
+            begun(chart, settings.named()?, capacity, budget, table, waitlist).ok()
+        }
+        Made::Run { budget } => advanced(chart, budget, table, waitlist, record).ok(),
+        Made::Listing => None,
+    }
 }
 
 /// A code that mostly names nothing.
@@ -171,10 +185,10 @@ fn make_odd(random: &mut Random, record: &mut Record) {
 fn random_call(random: &mut Random, chart: &Chart, is_begun: bool) -> (Made, usize) {
     let call = match is_begun || random.percent(20) {
         true => call(random, chart),
-        false => start(random, chart),
+        false => Call::Begin(begin(random, chart)),
     };
     match call {
-        Call::Start { settings, capacity } => {
+        Call::Begin(Begin { settings, capacity, budget }) => {
             let mut settings = Settings::from(settings);
             if random.percent(6) {
                 let code = odd_code(random);
@@ -184,7 +198,7 @@ fn random_call(random: &mut Random, chart: &Chart, is_begun: bool) -> (Made, usi
                     _ => settings.order = code,
                 }
             }
-            (Made::Start { settings, capacity }, random.below(4))
+            (Made::Begin { settings, capacity, budget }, random.below(4))
         }
         Call::Run { budget } => (Made::Run { budget }, random.below(4)),
         Call::Listing { space } => (Made::Listing, space),
@@ -194,7 +208,7 @@ fn random_call(random: &mut Random, chart: &Chart, is_begun: bool) -> (Made, usi
 /// Buffers of other sizes, with anything after what the analysis takes of them.
 fn lend(random: &mut Random, memory: &Memory, made: Made) -> Memory {
     let capacity = match made {
-        Made::Start { capacity, .. } => capacity.unsigned_abs(),
+        Made::Begin { capacity, .. } => capacity.unsigned_abs(),
         _ => memory.record.capacity,
     };
     let mut lent = relend(random, memory, capacity);
@@ -222,12 +236,29 @@ fn listing_space(random: &mut Random, memory: &Memory, space: usize) -> usize {
     (length + random.below(3)).saturating_sub(1)
 }
 
+/// What a begin meets in what it is lent; with a code that names nothing, which refusals 6 comes before.
+fn begin_met(made: Made, lent: &Memory) -> Vec<BeginCorner> {
+    let Made::Begin { settings, capacity, budget } = made else {
+        return Vec::new();
+    };
+    if let Some(settings) = settings.named() {
+        let begin = Begin { settings, capacity, budget };
+        return begin_corners_of(begin, lent).into_iter().collect();
+    }
+    // Those of the same begin with other codes, which 12 refuses where merge and stop are named so.
+    let merge = if (settings.merge, settings.stop) == (0, 1) { Merge::Sep } else { Merge::Join };
+    let settings = analysis::Settings { merge, stop: Stop::Join, order: Order::Old };
+    let others = refusals(Begin { settings, capacity, budget }, lent);
+    others.into_iter().map(|other| BeginCorner::Before(6, other)).collect()
+}
+
 /// Whatever the calls are lent: sizes of their own, rubbish past what is in use, and at times a
 /// damaged record, word or chart. A call that goes through leaves what the next is lent.
 #[test]
 fn lists_of_calls_are_answered_alike() {
     let mut random = Random::new(seed());
-    let (mut answers, mut verdicts, mut corners) = (Met::new(), Met::new(), Met::new());
+    let (mut answers, mut verdicts) = (Met::new(), Met::new());
+    let (mut corners, mut begins) = (Met::new(), Met::new());
     for _ in 0..count_at_least(4_000) {
         let chart = inputs::chart(&mut random);
         let mut memory = Memory::new(&chart, 256 * chart.width(), 256);
@@ -249,10 +280,11 @@ fn lists_of_calls_are_answered_alike() {
             let mut lent = Lent::new(&mut random, &next, record, space);
             let reply = compare(&mut lent, made);
             answers.add(label(made, reply.number));
-            if let (Made::Run { budget }, 0) = (made, reply.number) {
-                let (chart, record) = (within(&lent.chart), held(&record));
-                let advanced = advanced(chart, budget, &next.table, &next.waitlist, &record);
-                corners.add_all(corner_labels_of(&advanced.expect("it has gone through")));
+            next.record = held(&record);
+            let whole = Memory { chart: within(&lent.chart).to_vec(), ..next.clone() };
+            begins.add_all(begin_met(made, &whole));
+            if let Some(analysis) = left(made, &whole) {
+                corners.add_all(corner_labels_of(&analysis));
             }
             if reply.number == 0 {
                 next.table = within(&lent.table).to_vec();
@@ -267,6 +299,8 @@ fn lists_of_calls_are_answered_alike() {
     answers.assert_exactly(&labels(), FEWEST);
     verdicts.assert_exactly(&analysis_labels(), FEWEST);
     corners.assert_exactly(&corner_labels(), FEWEST_CORNERS);
+    let codes_first = [11, 12, 13, 20, 14].map(|number| BeginCorner::Before(6, number));
+    begins.assert_exactly(&[&begin_corners()[..], &codes_first].concat(), FEWEST_CORNERS);
 }
 
 /// Case A after three iterations, with each word and each field of the record given many values.
@@ -275,12 +309,13 @@ fn every_word_and_field_is_judged_alike() {
     let mut random = Random::new(seed() ^ 1);
     let chart = reader::read(files::case_a()).expect("case A is accepted");
     let mut memory = Memory::new(&chart, 8 * chart.width() + 2, 10);
-    memory.start(permitted_settings()[0], 8);
-    memory.run(3);
+    memory.begin(permitted_settings()[0], 8, 3);
     let underway = Lent::new(&mut random, &memory, Record::from(memory.record), SPACE);
     let mut answers = Met::new();
+    let settings = Settings::from(memory.record.settings);
+    let begin = Made::Begin { settings, capacity: 8, budget: 2 };
     let mut judge = |changed: Lent| {
-        for made in [Made::Run { budget: 0 }, Made::Run { budget: 2 }, Made::Listing] {
+        for made in [begin, Made::Run { budget: 0 }, Made::Run { budget: 2 }, Made::Listing] {
             answers.add(label(made, compare(&mut changed.clone(), made).number));
         }
     };
@@ -318,7 +353,7 @@ fn every_word_and_field_is_judged_alike() {
         }
     }
     let wanted = ["run 0", "run 14", "run 21", "run 22", "run 23", "listing 0", "listing 14"];
-    let wanted = wanted.into_iter().chain(["listing 21"]).map(String::from);
+    let wanted = wanted.into_iter().chain(["listing 21", "begin 0"]).map(String::from);
     answers.assert_exactly(&wanted.collect::<Vec<_>>(), 1);
 }
 
@@ -335,15 +370,12 @@ fn every_listing_is_the_one_expected() {
         assert_eq!((LIBRARY.read)(chart_part(&worked.input), &mut chart).number, 0);
         let (mut table, mut list) = ([0; 256 * 9], [0; 256]);
         let settings = Settings::from(go.settings);
-        let begun =
-            (LIBRARY.start)(&chart, settings, go.capacity as i32, NO_RECORD, &mut table, &mut list);
-        let mut called = begun;
-        if begun.record.verdict == 0 {
-            called = (LIBRARY.run)(&chart, go.budget as i32, begun.record, &mut table, &mut list);
-        }
-        assert_eq!((begun.reply.number, called.reply.number), (0, 0), "{}", worked.name);
+        let (capacity, budget) = (go.capacity as i32, go.budget as i32);
+        let Called { reply, record } =
+            (LIBRARY.begin)(&chart, settings, capacity, budget, NO_RECORD, &mut table, &mut list);
+        assert_eq!(reply, Reply { number: 0, line: 0, length: 0 }, "{}", worked.name);
         let mut space = [0; SPACE];
-        let reply = (LIBRARY.listing)(&chart, called.record, &table, &list, &mut space);
+        let reply = (LIBRARY.listing)(&chart, record, &table, &list, &mut space);
         assert_eq!(reply, Reply { number: 0, line: 0, length: worked.output.len() });
         assert!(space[..reply.length] == worked.output, "{}", worked.name);
         listings += 1;

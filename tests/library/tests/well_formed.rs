@@ -9,12 +9,12 @@ use reference::random::calls::disturb_word;
 use reference::random::{count_at_least, inputs, permitted_settings, seed, Random};
 use reference::reader;
 
-/// Whether the reference walker would start on these words; it refuses a chart out of form by 20.
-fn starts(words: &[i32]) -> bool {
+/// Whether the reference walker would begin on these words; it refuses a chart out of form by 20.
+fn begins(words: &[i32]) -> bool {
     let chart = reader::read(files::case_a()).expect("case A is accepted");
     let Memory { mut table, mut waitlist, mut record, .. } = Memory::new(&chart, 9, 1);
     let settings = permitted_settings()[0];
-    match calls::start(words, settings, 1, &mut table, &mut waitlist, &mut record).number {
+    match calls::begin(words, settings, 1, 0, &mut table, &mut waitlist, &mut record).number {
         0 => true,
         20 => false,
         number => panic!("{number} is answered to enough words"),
@@ -24,7 +24,7 @@ fn starts(words: &[i32]) -> bool {
 /// What both say; fails where they differ.
 fn compare(words: &[i32]) -> bool {
     let is_well_formed = well_formed(words);
-    assert_eq!(is_well_formed, starts(words), "{words:?}");
+    assert_eq!(is_well_formed, begins(words), "{words:?}");
     is_well_formed
 }
 

@@ -107,7 +107,7 @@ pub fn relend(random: &mut Random, memory: &Memory, capacity: u32) -> Memory {
 pub fn disturb(random: &mut Random, memory: &mut Memory) {
     for _ in 0..random.pick(&[1, 1, 2]) {
         let record = memory.record;
-        match random.below(14) {
+        match random.below(16) {
             0 | 1 => disturb_word(random, &mut memory.chart),
             2 => {
                 let length = random.below(memory.chart.len() + 1);
@@ -116,15 +116,16 @@ pub fn disturb(random: &mut Random, memory: &mut Memory) {
             3 => memory.record.used = near(random, record.used),
             4 => memory.record.waiting = near(random, record.waiting),
             5 => memory.record.capacity = near(random, record.capacity),
-            6 => {
+            // More often than another, since it must meet an analysis that is in form and open.
+            6..=8 => {
                 let iterations = [0, 59_998, 59_999, 60_000, 60_000, 60_000, 60_001];
                 memory.record.iterations = random.pick(&iterations);
             }
-            7 => memory.record.edge = near(random, record.edge),
-            8 => memory.record.verdict = random.pick(&Verdict::ALL),
-            9 => memory.record.settings.stop = random.pick(&Stop::ALL),
-            10 => disturb_word(random, &mut memory.waitlist),
-            11 => {
+            9 => memory.record.edge = near(random, record.edge),
+            10 => memory.record.verdict = random.pick(&Verdict::ALL),
+            11 => memory.record.settings.stop = random.pick(&Stop::ALL),
+            12 => disturb_word(random, &mut memory.waitlist),
+            13 => {
                 let waiting = (record.waiting as usize).min(memory.waitlist.len());
                 random.shuffle(&mut memory.waitlist[..waiting]);
             }

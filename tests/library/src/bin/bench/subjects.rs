@@ -24,7 +24,7 @@ const LARGEST: Ring = Ring { variables: 8, changing: 8, locations: 64, followed:
 /// as much as it can.
 const COSTLIEST: Ring = Ring { changing: 1, locations: 1, followed: 256, laps: 256, ..LARGEST };
 
-/// A call, or start and run as one.
+/// A call, whose name stands in its rows.
 #[derive(Clone, Copy)]
 pub struct Call {
     pub name: &'static str,
@@ -37,10 +37,14 @@ pub const READ: Call = Call {
         black_box((calls.read)(black_box(&lent.file), &mut lent.chart));
     },
 };
-pub const WALK_JOIN: Call =
-    Call { name: "start, run join", make: |lent, calls| lent.walk(calls, JOIN) };
-pub const WALK_SEP: Call =
-    Call { name: "start, run sep", make: |lent, calls| lent.walk(calls, SEP) };
+/// The plain start.
+pub const BEGIN_ZERO: Call =
+    Call { name: "begin, budget 0", make: |lent, calls| lent.begin(calls, SEP, 0) };
+/// Begun and run to the end of the budget.
+pub const BEGIN_JOIN: Call =
+    Call { name: "begin join", make: |lent, calls| lent.begin(calls, JOIN, lent.budget) };
+pub const BEGIN_SEP: Call =
+    Call { name: "begin sep", make: |lent, calls| lent.begin(calls, SEP, lent.budget) };
 pub const LISTING: Call = Call {
     name: "listing",
     make: |lent, calls| {
@@ -93,7 +97,7 @@ impl Subject {
             space: vec![0; 24_576],
             length: 0,
         };
-        for call in [READ, WALK_SEP, LISTING] {
+        for call in [READ, BEGIN_SEP, LISTING] {
             (call.make)(&mut lent, LIBRARY);
         }
         lent
@@ -101,18 +105,17 @@ impl Subject {
 }
 
 impl Lent {
-    fn walk(&mut self, calls: Calls, settings: Settings) {
-        let Lent { chart, capacity, budget, record, table, list, .. } = self;
-        let begun = (calls.start)(black_box(chart), settings, *capacity, *record, table, list);
-        let done = (calls.run)(black_box(chart), *budget, begun.record, table, list);
-        *record = done.record;
+    fn begin(&mut self, calls: Calls, settings: Settings, budget: i32) {
+        let Lent { chart, capacity, record, table, list, .. } = self;
+        let chart = black_box(chart);
+        *record = (calls.begin)(chart, settings, *capacity, budget, *record, table, list).record;
     }
 }
 
 /// From small to large.
 pub fn charts() -> Vec<Subject> {
-    const ALL: &[Call] = &[READ, WALK_JOIN, WALK_SEP, LISTING];
-    const WITHOUT_JOIN: &[Call] = &[READ, WALK_SEP, LISTING];
+    const ALL: &[Call] = &[READ, BEGIN_ZERO, BEGIN_JOIN, BEGIN_SEP, LISTING];
+    const WITHOUT_JOIN: &[Call] = &[READ, BEGIN_ZERO, BEGIN_SEP, LISTING];
     vec![
         Subject::new("case A", files::case_a(), 16, ALL),
         Subject::new("middle", &files::ring(MIDDLE), 64, WITHOUT_JOIN),
@@ -120,19 +123,19 @@ pub fn charts() -> Vec<Subject> {
             "middle",
             &files::ring(Ring { is_counted: false, ..MIDDLE }),
             64,
-            &[WALK_JOIN],
+            &[BEGIN_JOIN],
         ),
         Subject::new("largest", &files::ring(LARGEST), 256, WITHOUT_JOIN),
         Subject::new(
             "largest",
             &files::ring(Ring { is_counted: false, ..LARGEST }),
             256,
-            &[WALK_JOIN],
+            &[BEGIN_JOIN],
         ),
         Subject::new("fan", &files::fan(), 256, WITHOUT_JOIN),
         Subject {
             budget: 1,
-            ..Subject::new("fan, all waiting", &files::fan(), 256, &[WALK_SEP, LISTING])
+            ..Subject::new("fan, all waiting", &files::fan(), 256, &[BEGIN_SEP, LISTING])
         },
         Subject::new("longest fields", &files::largest(), 256, WITHOUT_JOIN),
         Subject::new("refused on its last line", &files::drawn_out(), 1, &[READ]),
@@ -141,7 +144,7 @@ pub fn charts() -> Vec<Subject> {
 
 /// Apart, since it takes so long.
 pub fn costliest() -> Subject {
-    Subject::new("costliest", &files::ring(COSTLIEST), 256, &[WALK_SEP])
+    Subject::new("costliest", &files::ring(COSTLIEST), 256, &[BEGIN_SEP])
 }
 
 /// One bound of a chart after the other.
@@ -152,28 +155,28 @@ pub fn growth() -> Vec<Subject> {
     };
     for laps in 1..=4 {
         let slots = laps * LARGEST.locations;
-        add(format!("slots {slots}, edges 256"), Ring { laps, ..LARGEST }, &[WALK_SEP]);
+        add(format!("slots {slots}, edges 256"), Ring { laps, ..LARGEST }, &[BEGIN_SEP]);
     }
     for edges in [64, 128, 192, 256] {
         let ring = Ring { locations: 63, followed: 1, idle: edges - 63, ..LARGEST };
-        add(format!("edges {edges}, followed 1, slots 252"), ring, &[WALK_SEP]);
+        add(format!("edges {edges}, followed 1, slots 252"), ring, &[BEGIN_SEP]);
     }
     for followed in 1..=4 {
         let edges = followed * LARGEST.locations;
         let ring = Ring { followed, ..LARGEST };
-        add(format!("edges {edges}, followed {followed}, slots 256"), ring, &[WALK_SEP]);
+        add(format!("edges {edges}, followed {followed}, slots 256"), ring, &[BEGIN_SEP]);
     }
     for variables in [1, 2, 4, 8] {
         let ring = Ring { variables, followed: 4, ..COSTLIEST };
-        add(format!("variables {variables}, slots 256, all of one location"), ring, &[WALK_SEP]);
+        add(format!("variables {variables}, slots 256, all of one location"), ring, &[BEGIN_SEP]);
     }
     for locations in [16, 32, 64] {
         let ring = Ring { locations, is_counted: false, ..LARGEST };
-        add(format!("slots {locations}, edges {}", 4 * locations), ring, &[WALK_JOIN]);
+        add(format!("slots {locations}, edges {}", 4 * locations), ring, &[BEGIN_JOIN]);
     }
     for variables in [1, 2, 4, 8] {
         let ring = Ring { variables, changing: variables, is_counted: false, ..LARGEST };
-        add(format!("variables {variables}, slots 64, edges 256"), ring, &[WALK_JOIN]);
+        add(format!("variables {variables}, slots 64, edges 256"), ring, &[BEGIN_JOIN]);
     }
     subjects
 }

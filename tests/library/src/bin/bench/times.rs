@@ -7,7 +7,7 @@ use std::time::{Duration, Instant};
 use library::walker::WALKER;
 use library::{Calls, Record, LIBRARY};
 
-use crate::subjects::{charts, costliest, growth, Call, Lent, LISTING, READ};
+use crate::subjects::{charts, costliest, growth, Call, Lent, BEGIN_ZERO, LISTING, READ};
 
 /// For one row; the fewest rounds even where that takes longer.
 const TIME: Duration = Duration::from_secs(2);
@@ -27,6 +27,7 @@ pub fn print() {
             let (does, rate) = match call.name {
                 name if name == READ.name => (format!("{} bytes", subject.file.len()), None),
                 name if name == LISTING.name => (format!("{} bytes", lent.length), None),
+                name if name == BEGIN_ZERO.name => (walked(&lent.record), None),
                 _ => (walked(&lent.record), Some(iterations(&lent) * 1e6 / library.median)),
             };
             let rate = rate.map_or("-".to_string(), |rate| format!("{rate:.0}"));
