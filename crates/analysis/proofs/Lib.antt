@@ -1,4 +1,4 @@
--- From one edge to whole calls: merge, arrival, edges passed over, iterations, the begin; then the words at exit and at
+-- From one edge to whole calls: merge, arrival, edges passed over, iterations, the start; then the words at exit and at
 -- entry, and sizes.
 pub mod Merges
 pub mod Arrival

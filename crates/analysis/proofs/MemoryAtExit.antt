@@ -1,5 +1,6 @@
 -- Record and words in form are exactly those of the exploration that they say, also as the semantics' own
--- exploration: what `run_core` leaves, after `start_core` too, is what document 01's run and 2.9's beginning put there. Assumes nothing.
+-- exploration: what `run_core` leaves, after `start_core` too, is what document 01's run and 2.9's call put there.
+-- Assumes nothing.
 use Rattle.semantics.proofs.Prelude.{_≡_, refl, sym, ap, subst, _∙_, List, [], _∷_, _++_, map, ℕ, zero, suc, _+_, _-_, _*_, _≤_, min, suc-mul, add-comm, arith, T, ℤ, pos, length, take, drop, replicate, take-append-drop, length-map, take-add, length-take-le}
 use Rattle.semantics.specs.Layout.{most-iterations}
 use Rattle.semantics.specs.declared.Analysis.{Analysis}

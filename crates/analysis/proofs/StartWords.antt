@@ -1,4 +1,4 @@
--- The beginning of an analysis. Assumes nothing.
+-- The start of an analysis. Assumes nothing.
 use Rattle.semantics.proofs.Prelude.{_≡_, sym, subst, _∙_, List, [], _∷_, ℕ, _<_, arith, ℤ, length}
 use Rattle.semantics.specs.declared.Analysis.{Analysis}
 use Rattle.semantics.specs.Algorithm.{Exploration, first-verdict, start}

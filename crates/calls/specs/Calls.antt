@@ -31,7 +31,7 @@ pub record Ends (o : Outcome) (r : Answer) (a : Analysis) (t l : List ℤ) : Typ
 abbrev pub Ends-called : Outcome → Called → List ℤ → List ℤ → Type 0
 Ends-called o r t l = Ends o (r .answer) (r .analysis) t l
 
--- ---- what the parts of a start ask
+-- ---- what the parts of a beginning ask
 
 -- the layout of the chart's tables, the words of a capacity that 11 lets pass, and settings that 12 lets pass
 pub record Begins (ws : List ℤ) (y : Layout) (z : Settings) (r : ℕ) (t l : List ℤ) : Type 0 where

@@ -1,4 +1,4 @@
-// The public calls begin and run. Each judges all it is given in document 01's order; a refused call writes nothing.
+// The public calls begin and run. Each judges all it is given in the documents' order; a refused call writes nothing.
 use semantics::Analysis;
 use semantics::Answer;
 use semantics::Settings;
@@ -103,7 +103,7 @@ fn start_with(
 }
 
 // An analysis at its start, in the words of its capacity.
-fn start(
+fn start_in(
     chart: &[i32],
     layout: Layout,
     settings: Settings,
@@ -141,7 +141,7 @@ fn begin_core(
     requires { ⌜ Begins (now chart) layout settings capacity (now table) (now list) × (width-of layout ≤ most-width) × (edge-at (now chart) edges < index-limit) ⌝ }
     ensures { λ r. ⌜ Loaded layout edges r (now (table .exit)) (now (list .exit)) (run (domain-of (now (chart .entry))) (edges-from 0 edges) (min budget most-iterations) (start (domain-of (now (chart .entry))) settings capacity (initial-row (now (chart .entry))))) ⌝ }
 {
-    let a = start(chart, layout, settings, capacity, table, list);
+    let a = start_in(chart, layout, settings, capacity, table, list);
     analysis::run_core(chart, edges, layout, a, budget, table, list)
 }
 
@@ -200,7 +200,7 @@ fn run_through(
 }
 
 // Begins an analysis, the initial state in slot 0, waiting, and plays iterations until a verdict or until the budget is
-// spent. `a` is the record before, which a refused call leaves and no other looks at.
+// spent. `a` is the record before: a refused call leaves it, one that goes through does not look at it.
 pub fn begin(
     chart: &[i32],
     settings: Settings,

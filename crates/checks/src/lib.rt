@@ -1,7 +1,7 @@
 // The tests of 11 to 14, form rule 21: whether lent words and a record are an analysis of a chart, and the refusals that
-// calls share: 11, 12 and 13; 20, 14 and 21. Leaves look at one row or one part of the words; the counts are tested first, since they
-// bound what is read after. What looks at a row or a table asks that it has enough words, since 14 is judged before 21;
-// all else is total.
+// calls share: 11, 12, 13; 20, 14, 21. Leaves look at one row or one part of the words; the counts are tested first,
+// since they bound what is read after. What looks at a row or a table asks that it has enough words, since 14 is judged
+// before 21; all else is total.
 use semantics::Analysis;
 use semantics::EdgeId;
 use semantics::Mode;
@@ -142,7 +142,7 @@ fn empty_if_safe(v: Verdict, waiting: usize) -> bool
 }
 
 // The settings that 12 lets pass.
-pub fn is_allowed(merge: Mode, stop: Mode) -> bool
+fn is_allowed(merge: Mode, stop: Mode) -> bool
     ensures { λ r. ⌜ r ≡ allowed merge stop ⌝ }
 {
     match merge {
@@ -184,7 +184,7 @@ fn record_ok(a: Analysis, edges: usize) -> bool
 // ---- the tests of 11, 13, 14 and 21
 
 // A capacity that 11 lets pass.
-pub fn capacity_ok(capacity: i32) -> bool
+fn capacity_ok(capacity: i32) -> bool
     ensures { λ r. ⌜ r ≡ capacity-ok capacity ⌝ }
 {
     (1 <= capacity) & (capacity <= semantics::MOST_SLOTS as i32)
@@ -216,7 +216,8 @@ fn analysis_ok(chart: &[i32], layout: Layout, table: &[i32], list: &[i32], a: An
 
 // ---- the refusals that calls share
 
-// 11, 12, 13: the first that refuses what a go line or a beginning asks, or 0.
+// 11, 12, 13: the first that refuses what a go line or a beginning asks, or 0. All three are asked before the first refuses,
+// so that their order stands in the tests below alone.
 pub fn asked_refusal(settings: Settings, capacity: i32, budget: i32) -> u32
     ensures { λ r. ⌜ r ≡ refusal (asked-cases settings capacity budget) ⌝ }
 {

@@ -1,25 +1,34 @@
 -- The sizes of capacity and budget are judged alike of a number and of the number cut. Assumes nothing.
-use Rattle.semantics.proofs.Prelude.{_≡_, refl, ap, _∙_, _&&_, not, [], _∷_, Option, none, some, ℕ, suc, _<_, arith, leb, ℤ, pos, negsuc, lt-leb, and-false}
+use Rattle.semantics.proofs.Prelude.{_≡_, refl, sym, _∙_, Bool, true, false, not, [], _∷_, Option, none, some, ℕ, suc, _<_, arith, leb, ℤ, pos, negsuc, lt-leb, and-false}
 use Rattle.semantics.specs.Layout.{most-slots, most-iterations}
-use Rattle.semantics.specs.Lists.{pick}
-use Rattle.semantics.specs.Chart.{within}
 use Rattle.semantics.specs.Reading.{Res, fail, ok, if-ok}
 use Rattle.semantics.specs.Algorithm.{allowed}
 use Rattle.semantics.specs.Memory.{capacity-ok}
-use Rattle.semantics.specs.Outcomes.{case, budget-ok}
+use Rattle.semantics.specs.Outcomes.{case, refusal}
 use Rattle.semantics.specs.Program.{Go, unless, sized, amounts}
 use Rattle.semantics.specs.declared.Settings.{Settings}
 use Rattle.text.specs.Fields.{number-cut, clamp, number-read, number-said}
 use Rattle.text.proofs.Digits.{by-size}
 
-range-cut : {A : Type 0} (lo hi : ℕ) → hi < number-cut → (n : ℕ) (f : ℤ → Res A) (z : ℤ) → pick (not (within (pos lo) (pos hi) (clamp z))) (fail n) (f (clamp z)) ≡ pick (not (within (pos lo) (pos hi) z)) (fail n) (f z)
-range-cut lo hi h n f (negsuc k) = refl
-range-cut lo hi h n f (pos k) = by-size number-cut (suc hi) (omega arith) (λ m. pick (not (leb lo m && leb m hi)) (fail n) (f (pos m))) (fail n) (λ m p. simp (lt-leb m hi (omega arith), and-false)) k
+-- of numbers below 0 and beyond hi, which is below where numbers are cut, the same is said
+cut : {A : Type 0} (hi : ℕ) → hi < number-cut → (f : ℤ → A) (x : A) → ((n : ℕ) → f (negsuc n) ≡ x) → ((n : ℕ) → leb n hi ≡ false → f (pos n) ≡ x) → (z : ℤ) → f (clamp z) ≡ f z
+cut hi h f x low high (negsuc k) = low _ ∙ sym (low k)
+cut hi h f x low high (pos k) = by-size number-cut (suc hi) (omega arith) (λ m. f (pos m)) x (λ m p. high m (lt-leb m hi (omega arith))) k
+
+-- refused by 13 at the latest
+refused-by-then : {A : Type 0} (x y : Bool) (r : Res A) → let n = refusal (case 11 x ∷ case 12 y ∷ case 13 true ∷ []) in unless n r ≡ fail n
+refused-by-then true y r = refl
+refused-by-then false true r = refl
+refused-by-then false false r = refl
 
 sized-cut : (s : Settings) (r a : ℤ) → sized s (clamp r) (clamp a) ≡ sized s r a
 sized-cut s r a =
-    range-cut 1 most-slots (omega arith) 11 (λ x. unless (case 12 (not (allowed (s .merge) (s .stop))) ∷ case 13 (not (budget-ok (clamp a))) ∷ []) (ok (record { settings = s; capacity = x; budget = clamp a }))) r
-    ∙ ap (λ (x : Res Go). unless (case 11 (not (capacity-ok r)) ∷ case 12 (not (allowed (s .merge) (s .stop))) ∷ []) x) (range-cut 0 most-iterations (omega arith) 13 (λ x. ok (record { settings = s; capacity = r; budget = x })) a)
+    let x = not (capacity-ok r) in
+    let y = not (allowed (s .merge) (s .stop)) in
+    let asked : ℤ → Res Go = λ a. ok (record { settings = s; capacity = r; budget = a }) in
+    cut most-slots (omega arith) (λ r. sized s r (clamp a)) (fail 11) (λ n. refl) (λ n e. simp (e, and-false)) r
+    ∙ cut most-iterations (omega arith) (λ a. sized s r a) (fail (refusal (case 11 x ∷ case 12 y ∷ case 13 true ∷ [])))
+    (λ n. refused-by-then x y (asked (negsuc n))) (λ n e. rw (e, and-false) (refused-by-then x y (asked (pos n)))) a
 
 pub amounts-cut : (s : Settings) (p q : Option ℤ) → amounts s (number-said (number-read p)) (number-said (number-read q)) ≡ amounts s p q
 unfolding number-said number-read if-ok

@@ -1,4 +1,4 @@
-// The record of an analysis, and how it advances: where it begins, the counts between two edges of an iteration, and the
+// The record of an analysis, and how it advances: where it starts, the counts between two edges of an iteration, and the
 // end of the iteration, where a slot that is put back is all that changes in the words.
 use semantics::Analysis;
 use semantics::EdgeId;
@@ -40,7 +40,7 @@ pub struct Progress {
     pub waiting: usize,
 }
 
-// ---- the beginning
+// ---- the start
 
 // The verdict of a start: alarm where the initial state is at an error location.
 fn first_verdict(error: bool) -> Verdict
@@ -52,7 +52,7 @@ fn first_verdict(error: bool) -> Verdict
     Verdict::Open
 }
 
-// The record of an analysis that begins: slot 0 is in use, so many wait.
+// The record of an analysis that starts: slot 0 is in use, so many wait.
 pub fn first_record(settings: Settings, capacity: u32, waiting: usize, error: bool) -> Analysis
     ensures { λ r. ⌜ r ≡ first-record settings capacity waiting error ⌝ }
 {

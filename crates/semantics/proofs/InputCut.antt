@@ -6,9 +6,9 @@ use Rattle.semantics.specs.Reading.{Res, fail, ok, check, refused, read}
 use Rattle.semantics.specs.Program.{has-lf, first-line, past-line, Go, sized, go-line, print-read, print-go, output}
 use Rattle.semantics.specs.Algorithm.{Settings, allowed}
 use Rattle.semantics.specs.Memory.{capacity-ok}
-use Rattle.semantics.specs.Outcomes.{budget-ok, asked-cases}
+use Rattle.semantics.specs.Outcomes.{refusal, budget-ok, asked-cases}
 use Rattle.semantics.proofs.Bools.{passed, from-true, to-true}
-use Rattle.semantics.proofs.FirstCase.{unless-ok}
+use Rattle.semantics.proofs.FirstCase.{none-met, unless-ok}
 use Rattle.semantics.proofs.ReadInBounds.{check-ok, ok-parts}
 use Rattle.semantics.proofs.Program.{GoOk}
 
@@ -20,8 +20,8 @@ ok-same e = cc
 sized-fine : (s : Settings) (r a : ℤ) (g : Go) → sized s r a ≡ ok g → GoOk g
 sized-fine s r a g e =
     let asked : Go = record { settings = s; capacity = r; budget = a } in
-    let fine = unless-ok (ok asked) (asked-cases s r a) e in
-    let none = fine .0 in
+    let fine = unless-ok (ok asked) (refusal (asked-cases s r a)) e in
+    let none = none-met (asked-cases s r a) tt (fine .0) in
     subst (λ (x : Go). GoOk x) (ok-same (fine .1))
     (record { capacity = passed (capacity-ok r) (none .0); modes = passed (allowed (s .merge) (s .stop)) (none .1 .0); budget = passed (budget-ok a) (none .1 .1 .0) })
 

@@ -1,4 +1,4 @@
--- A listing is short: 24,576 bytes hold every listing of an analysis that was begun by a start, or that is in form.
+-- A listing is short: 24,576 bytes hold every listing of an analysis that a call has begun, or that is in form.
 -- Assumes nothing.
 use Rattle.semantics.proofs.Prelude.{_≡_, Bool, true, false, List, [], _∷_, _++_, map, ℕ, zero, suc, _+_, _*_, _≤_, arith, T, eqb, leb→le, length, length-append, pos, leZ}
 use Rattle.semantics.specs.Lists.{some-of, all}

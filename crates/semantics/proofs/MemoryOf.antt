@@ -143,7 +143,7 @@ module _ (c : Chart) where
       subst (λ (t : List ℤ). T (rows-ok c (suc (length es)) t)) (sym (append-assoc (row e) (each row es) rest))
       (first-formed (row e) (each row es ++ rest) (length es) (row-length e (h .0)) (row-formed e (h .0)) (rows-formed es rest (h .1)))
 
-  -- what every exploration keeps that was begun by a start that went through
+  -- what every exploration keeps that a beginning which went through has begun
   pub record Proper (w : Exploration AbstractState) : Type 0 where
     pub tidy : Tidy (StateOk c) (length (c .edges)) w
     pub held : Sound (system c) (constants c) (Fit c) (Covers c) (laws c) w

@@ -1,22 +1,23 @@
 -- A beginning is document 01's start and the run after it, but for a bad start. Assumes nothing.
-use Rattle.semantics.proofs.Prelude.{_≡_, refl, sym, ap, _∙_, Bool, true, false, List, [], _++_, ℕ, zero, suc, _-_, _*_, min, arith, T, ℤ, pos, natAbs, length, drop, drop-append-seam}
+use Rattle.semantics.proofs.Prelude.{_≡_, refl, sym, ap, _∙_, Bool, true, false, not, List, [], _∷_, _++_, ℕ, zero, suc, _-_, _*_, min, arith, T, ℤ, pos, natAbs, length, drop, drop-append-seam}
 use Rattle.semantics.specs.Lists.{pick}
 use Rattle.semantics.specs.Layout.{most-iterations}
 use Rattle.semantics.specs.Chart.{Chart, numbered}
+use Rattle.semantics.specs.Reading.{ok, check}
 use Rattle.semantics.specs.Algorithm.{Settings, Alarm, Exploration, run, start, first-verdict, has-verdict, allowed}
 use Rattle.semantics.specs.Constants.{AbstractState, constants}
 use Rattle.semantics.specs.Encoding.{decode, well-formed}
 use Rattle.semantics.specs.Memory.{Memory, width, table-of, waitlist-of, analysis-of, capacity-ok}
-use Rattle.semantics.specs.Outcomes.{Outcome, refusal, settled, fine, size-of, begin-cases, budget-ok, started, resumed, begun, put-in, begin-outcome, run-outcome}
-use Rattle.semantics.specs.Program.{Go, explored}
+use Rattle.semantics.specs.Outcomes.{Outcome, case, refusal, refused-by, settled, fine, size-of, begin-cases, budget-ok, started, resumed, begun, put-in, begin-outcome, run-outcome}
+use Rattle.semantics.specs.Program.{Go, unless, sized, explored}
 use Rattle.semantics.specs.StartThenRun.{start-cases, start-outcome, pair-outcome, bad-start, BadStart, StartThenRun}
-use Rattle.semantics.proofs.Bools.{passed, to-true}
+use Rattle.semantics.proofs.Bools.{passed}
 use Rattle.semantics.proofs.FirstCase.{NoneMet, none-met}
 use Rattle.semantics.proofs.SettingsKept.{run-kept, run-closed}
 use Rattle.semantics.proofs.StatesOk.{Bounds}
 use Rattle.semantics.proofs.MemoryOf.{Proper, table-length, list-length}
 use Rattle.semantics.proofs.Encoded.{well-formed-split, formed-bounds}
-use Rattle.semantics.proofs.WholeWalks.{started-good}
+use Rattle.semantics.proofs.WholeWalks.{started-iterations, started-good}
 use Rattle.semantics.proofs.PutIn.{enough-held, load-held, held-ok}
 
 -- a call that answers 0 was refused by nothing
@@ -36,10 +37,6 @@ resumed-closed c a w v = run-closed (constants c) (numbered c) (min (natAbs a) (
 started-verdict : (c : Chart) (z : Settings) (r : ℤ) → started c z r .verdict ≡ first-verdict (bad-start c)
 unfolding start
 started-verdict c z r = refl
-
-started-iterations : (c : Chart) (z : Settings) (r : ℤ) → started c z r .iterations ≡ 0
-unfolding start
-started-iterations c z r = refl
 
 started-edge : (c : Chart) (z : Settings) (r : ℤ) → started c z r .edge ≡ 0
 unfolding start
@@ -108,9 +105,9 @@ module _ (words : List ℤ) (z : Settings) (r a : ℤ) (m : Memory) (none : None
       let v : has-verdict (w .verdict) ≡ true = ap has-verdict alarm in
       let o = begin-is ∙ ap (λ (x : Exploration AbstractState). record { answer = fine 0; memory = put-in c x m; space = [] }) (resumed-closed c a w v) in
       record {
-        run-met = ap (λ (o : Outcome). run-outcome words a (o .memory) .answer) start-is ∙ ap (λ (o : Outcome). o .answer) (run-is true v);
-        answers = ap (λ (o : Outcome). o .answer) begin-is;
-        leaves = ap (λ (o : Outcome). o .memory) (o ∙ sym start-is);
+        run-met = ap (λ (o : Outcome). run-outcome words a (o .memory)) start-is ∙ run-is true v ∙ ap (λ (o : Outcome). record { answer = refused-by 22 0; memory = o .memory; space = [] }) (sym start-is);
+        started = ap (λ (o : Outcome). o .answer) start-is;
+        same = o ∙ sym start-is;
         alarm = ap (λ (o : Outcome). o .memory .analysis .verdict) o ∙ alarm;
         iterations = ap (λ (o : Outcome). o .memory .analysis .iterations) o ∙ started-iterations c z r;
         edge = ap (λ (o : Outcome). o .memory .analysis .edge .0) o ∙ started-edge c z r;
@@ -138,10 +135,25 @@ listed-before c g = go (has-verdict (w .verdict)) refl
     go true e = resumed-closed c (g .budget) w e
     go false e = refl
 
+judged-before : (z : Settings) (r a : ℤ)
+    → sized z r a ≡ check (capacity-ok r) 11 (check (allowed (z .merge) (z .stop)) 12 (check (budget-ok a) 13 (ok (record { settings = z; capacity = r; budget = a }))))
+unfolding check
+judged-before z r a = go (capacity-ok r) (allowed (z .merge) (z .stop)) (budget-ok a)
+  where
+    asked : Go
+    asked = record { settings = z; capacity = r; budget = a }
+
+    go : (x y v : Bool) → unless (refusal (case 11 (not x) ∷ case 12 (not y) ∷ case 13 (not v) ∷ [])) (ok asked) ≡ check x 11 (check y 12 (check v 13 (ok asked)))
+    go false y v = refl
+    go true false v = refl
+    go true true false = refl
+    go true true true = refl
+
 pub start-then-run : StartThenRun
 start-then-run = record {
   pair = λ words z r a m e. as-pair words z r a m (none-of words z r a m e);
   bad = λ words z r a m e. as-bad words z r a m (none-of words z r a m e);
   plain = plain-start;
   listed = listed-before;
+  judged = judged-before;
 }

@@ -3,17 +3,17 @@
 use mathlib.Core.Path.{_≡_}
 use mathlib.Core.Bool.{Bool, true, false, not}
 use mathlib.Core.List.{List, [], _∷_}
-use Prim.Native.Nat.{ℕ}
 use lib.ListN.{length}
 use lib.IntN.{ℤ, pos, natAbs}
 use Rattle.semantics.specs.Lists.{pick}
 use Rattle.semantics.specs.Chart.{Chart}
-use Rattle.semantics.specs.Constants.{AbstractState, constants, initial}
-use Rattle.semantics.specs.Algorithm.{Settings, Alarm, Exploration, allowed, has-verdict}
+use Rattle.semantics.specs.Reading.{ok, check}
+use Rattle.semantics.specs.Constants.{constants, initial}
+use Rattle.semantics.specs.Algorithm.{Settings, Alarm, allowed, has-verdict}
 use Rattle.semantics.specs.Encoding.{decode}
 use Rattle.semantics.specs.Memory.{Memory, capacity-ok}
-use Rattle.semantics.specs.Outcomes.{Outcome, Case, case, refusal, fine, refused-by, settled, size-of, started, resumed, put-in, begin-outcome, run-outcome}
-use Rattle.semantics.specs.Program.{Go, explored}
+use Rattle.semantics.specs.Outcomes.{Outcome, Case, case, refusal, fine, refused-by, settled, budget-ok, size-of, started, resumed, put-in, begin-outcome, run-outcome}
+use Rattle.semantics.specs.Program.{Go, sized, explored}
 
 -- ---- the start as it was
 
@@ -38,11 +38,12 @@ pair-outcome words z r a m = run-outcome words a (start-outcome words z r m .mem
 abbrev pub bad-start : Chart → Bool
 bad-start c = constants c .error (initial c)
 
--- "a bad start answers 0 with its alarm where the run met 22": what the start left, 0 rounds and edge 0
+-- "a bad start answers 0 with its alarm where the run met 22", which changed nothing: what the start did, at 0 rounds and
+-- edge 0
 pub record BadStart (words : List ℤ) (z : Settings) (r a : ℤ) (m : Memory) : Type 0 where
-  pub run-met : pair-outcome words z r a m .answer ≡ refused-by 22 0
-  pub answers : begin-outcome words z r a m .answer ≡ fine 0
-  pub leaves : begin-outcome words z r a m .memory ≡ start-outcome words z r m .memory
+  pub run-met : pair-outcome words z r a m ≡ record { answer = refused-by 22 0; memory = start-outcome words z r m .memory; space = [] }
+  pub started : start-outcome words z r m .answer ≡ fine 0
+  pub same : begin-outcome words z r a m ≡ start-outcome words z r m
   pub alarm : begin-outcome words z r a m .memory .analysis .verdict ≡ Alarm
   pub iterations : begin-outcome words z r a m .memory .analysis .iterations ≡ 0
   pub edge : begin-outcome words z r a m .memory .analysis .edge .0 ≡ 0
@@ -55,5 +56,8 @@ pub record StartThenRun : Type 0 where
       → BadStart words z r a m
   -- "0 giving the plain start", refused or not
   pub plain : (words : List ℤ) (z : Settings) (r : ℤ) (m : Memory) → begin-outcome words z r (pos 0) m ≡ start-outcome words z r m
-  -- the program lists what it listed when it started, looked at the verdict and ran
+  -- the program's output does not move: it lists what it listed when it started, looked at the verdict and ran
   pub listed : (c : Chart) (g : Go) → let w = started c (g .settings) (g .capacity) in explored c g ≡ pick (has-verdict (w .verdict)) w (resumed c (g .budget) w)
+  -- and a go line is judged by 11, 12 and 13 as by the three tests in turn
+  pub judged : (z : Settings) (r a : ℤ)
+      → sized z r a ≡ check (capacity-ok r) 11 (check (allowed (z .merge) (z .stop)) 12 (check (budget-ok a) 13 (ok (record { settings = z; capacity = r; budget = a }))))

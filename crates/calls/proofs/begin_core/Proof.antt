@@ -12,7 +12,7 @@ unfolding start
 run-core-requires c κs =
     let k = c .before .before .before .before in
     let s = k .before .before .before in
-    let l = k .start .ensures (s .args .edges) in
+    let l = k .start-in .ensures (s .args .edges) in
     (l .form, omega (arith, ap (λ (x : Exploration (List ℤ)). x .iterations) (l .load)), s .pre .1, s .pre .2)
 
 returns : tie.Need-returns
@@ -24,7 +24,7 @@ returns c =
     let a = s .args in
     let last = r .run-core .last .1 .1 .1 .1 .1 in
     subst (λ (x : Exploration (List ℤ)). Loaded (a .layout) (a .edges) (r .run-core .result) (last .0) (last .1 .0) (run (domain-of (a .chart .now)) (edges-from 0 (a .edges)) (min (a .budget) (most-iterations - x .iterations)) x))
-    (k .start .ensures (a .edges) .load) (r .run-core .ensures)
+    (k .start-in .ensures (a .edges) .load) (r .run-core .ensures)
 
 pub begin-core-spec : {M : Type 1} → statement M
 begin-core-spec =

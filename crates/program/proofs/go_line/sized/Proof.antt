@@ -2,7 +2,7 @@
 use Rattle.semantics.proofs.Prelude.{needs, sfits-of, _≡_, sym, _∙_, w32, toZ-ofZ}
 use Rattle.semantics.specs.Reading.{ok}
 use Rattle.semantics.specs.Outcomes.{refusal, asked-cases}
-use Rattle.semantics.proofs.FirstCase.{none-met, unless-fails, unless-none}
+use Rattle.semantics.proofs.FirstCase.{unless-fails, unless-none}
 use Rattle.program.specs.declared.go_line.Go.{Go}
 use Rattle.program.specs.Asked.{asking, asked-res}
 use Rattle.program.proofs.go_line.sized.Statement.{statement}
@@ -17,14 +17,11 @@ module _ (c : tie.After-asked-refusal) where
 
 returns : tie.Need-returns
 unfolding asked-res
-returns c = let k = c .before in unless-fails (ok (asking (go k))) (asked-cases (go k .settings) (go k .capacity) (go k .budget)) (k .asked-refusal .result) (said k) (c .if1 .taken)
+returns c = let k = c .before in unless-fails (ok (asking (go k))) (k .asked-refusal .result) (said k) (c .if1 .taken)
 
 returns-2 : tie.Need-returns-2
 unfolding asked-res
-returns-2 c =
-    let k = c .before in
-    let cases = asked-cases (go k .settings) (go k .capacity) (go k .budget) in
-    unless-none (ok (asking (go k))) cases (none-met cases tt (sym (said k) ∙ c .if1 .left))
+returns-2 c = let k = c .before in unless-none (ok (asking (go k))) (sym (c .if1 .left) ∙ said k)
 
 pub sized-spec : {M : Type 1} → statement M
 sized-spec =

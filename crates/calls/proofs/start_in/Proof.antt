@@ -1,8 +1,8 @@
--- `calls::start` meets its contract: a part of a local row is lent. Assumes nothing.
+-- `calls::start_in` meets its contract: a part of a local row is lent. Assumes nothing.
 use Rattle.semantics.proofs.Prelude.{_≡_, sym, _∙_, _≤_, arith, needs, pos, length, take, replicate, length-take-le}
 use Rattle.state.specs.Rows.{most-width}
-use Rattle.calls.proofs.start.Statement.{statement}
-use Rattle.calls.proofs.start.Tie as tie
+use Rattle.calls.proofs.start_in.Statement.{statement}
+use Rattle.calls.proofs.start_in.Tie as tie
 
 -- the words of the row
 module _ (c : tie.After-width) where
@@ -12,8 +12,8 @@ module _ (c : tie.After-width) where
   row-length : length (take (c .width .result) (replicate most-width (pos 0))) ≡ c .width .result
   row-length = length-take-le (c .width .result) (replicate most-width (pos 0)) narrow
 
-pub start-spec : {M : Type 1} → statement M
-start-spec =
+pub start-in-spec : {M : Type 1} → statement M
+start-in-spec =
     tie.close
     (tie.spec
     (λ c κs. omega (arith, c .pre .1))
