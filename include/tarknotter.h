@@ -1,7 +1,9 @@
 /* The calls of target/staticlib/libtarknotter.a, which `rt staticlib tarknotter` writes, for x86-64 Linux, from C11 or C++11 on.
    A buffer is lent by a pointer and a length that counts its elements: words for int32_t, bytes for uint8_t. The
    pointer is aligned for its elements, words to 4 bytes, and never NULL, even with length 0. What a call is lent must
-   not overlap. Calls keep nothing. */
+   not overlap. A buffer, but for a file's text, may be longer than needed: what stands past that is neither looked at nor
+   written. Calls keep nothing. Capacity, budget and iterations are the room, allowance and rounds of `walk` (README.md,
+   which has the numbers of refusals too). */
 #ifndef TARKNOTTER_H
 #define TARKNOTTER_H
 
@@ -36,7 +38,8 @@ extern "C" {
 #define TARKNOTTER_FULL 3
 
 /* 0 and line 0 from a call that goes through, with the length in bytes of a listing; else the
-   refusal's number and line. A refused call has written nothing. */
+   refusal's number and line, which is 0 unless it is a line of a file. The length is 0 where there is no listing. A
+   refused call has written nothing. */
 struct tarknotter_reply {
     uint32_t number;
     size_t line;
@@ -74,9 +77,10 @@ bool tarknotter_well_formed(const int32_t *words, size_t words_length);
 /* Begins an analysis anew, the initial state in slot 0, waiting, and plays iterations until a verdict or until the
    budget is spent; a budget of 0 is the plain start, which plays none. An initial state at an error location is an alarm
    at once, with 0 iterations and edge 0, whatever the budget. What table, list and record hold is not looked at: the
-   record may be any, all 0 before the first call. A capacity of r takes r * (variables + 1) table words and r list words.
-   A merge, stop or order other than those above is refused with 6, before all else; then 11, 12, 13, 20, 14, in this
-   order. */
+   record may be any, all 0 before the first call. A capacity of r takes r * (variables + 1) table words and r list words,
+   and all of them are written, those not in use with 0. A merge, stop or order other than those above is refused with 6,
+   before all else; then 11 (capacity not 1 to 256), 12 (sep with stop join), 13 (budget not 0 to 60,000), 20, 14, in
+   this order. */
 struct tarknotter_called tarknotter_begin(const int32_t *chart, size_t chart_length,
                                           uint32_t merge, uint32_t stop, uint32_t order, int32_t capacity, int32_t budget,
                                           struct tarknotter_record record,
