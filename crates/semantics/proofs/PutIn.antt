@@ -11,7 +11,7 @@ use Rattle.semantics.proofs.StatesOk.{Bounds}
 use Rattle.semantics.proofs.MemoryOf.{Proper, table-length, list-length, load-back, formed-back}
 
 module _ (c : Chart) (b : Bounds c) (w : Exploration AbstractState) (good : Proper c w) (m : Memory) where
-  abbrev pub held : Memory
+  abbrev held : Memory
   held = put-in c w m
 
   pub enough-held : too-few c (w .capacity) (length (held .table)) (length (held .waitlist)) ≡ false

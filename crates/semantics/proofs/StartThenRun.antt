@@ -11,7 +11,7 @@ use Rattle.semantics.specs.Memory.{Memory, width, table-of, waitlist-of,
 use Rattle.semantics.specs.Outcomes.{Outcome, case, refusal, refused-by, settled, fine, size-of, begin-cases, budget-ok, started, resumed, begun, put-in, begin-outcome, run-outcome}
 use Rattle.semantics.specs.Program.{Go, unless, sized, explored}
 use Rattle.semantics.specs.StartThenRun.{start-cases, start-outcome, pair-outcome, bad-start, BadStart, StartThenRun}
-use Rattle.semantics.proofs.Bools.{passed}
+use Rattle.semantics.proofs.Bools.{passed, to-true}
 use Rattle.semantics.proofs.FirstCase.{NoneMet, none-met}
 use Rattle.semantics.proofs.SettingsKept.{run-kept, run-closed}
 use Rattle.semantics.proofs.StatesOk.{Bounds}
@@ -106,7 +106,7 @@ module _ (words : List ℤ) (z : Settings) (r a : ℤ) (m : Memory) (none : None
       let o = begin-is ∙ ap (λ (x : Exploration AbstractState). record { answer = fine 0; memory = put-in c x m; space = [] }) (resumed-closed c a w v) in
       record {
         run-met = ap (λ (o : Outcome). run-outcome words a (o .memory)) start-is ∙ run-is true v ∙ ap (λ (o : Outcome). record { answer = refused-by 22 0; memory = o .memory; space = [] }) (sym start-is);
-        started = ap (λ (o : Outcome). o .answer) start-is;
+        start-answers = ap (λ (o : Outcome). o .answer) start-is;
         same = o ∙ sym start-is;
         alarm = ap (λ (o : Outcome). o .memory .analysis .verdict) o ∙ alarm;
         iterations = ap (λ (o : Outcome). o .memory .analysis .iterations) o ∙ started-iterations c z r;
@@ -118,9 +118,18 @@ none-of : (words : List ℤ) (z : Settings) (r a : ℤ) (m : Memory) → begin-o
 unfolding begin-outcome
 none-of words z r a m e = none-met (begin-cases z r a (size-of words (natAbs r) (length (m .table)) (length (m .waitlist)))) tt (through _ m [] _ e)
 
-plain-start : (words : List ℤ) (z : Settings) (r : ℤ) (m : Memory) → begin-outcome words z r (pos 0) m ≡ start-outcome words z r m
+settled-answer : (n : ℕ) (m : Memory) (sp : List ℕ) (o p : Outcome) → o .answer ≡ p .answer → settled n m sp o .answer ≡ settled n m sp p .answer
+settled-answer zero m sp o p e = e
+settled-answer (suc n) m sp o p e = refl
+
+answers-alike : (words : List ℤ) (z : Settings) (r a : ℤ) (m : Memory) → T (budget-ok a) → begin-outcome words z r a m .answer ≡ start-outcome words z r m .answer
 unfolding begin-outcome start-outcome
-plain-start words z r m =
+answers-alike words z r a m t =
+    rw (to-true (budget-ok a) t) (settled-answer (refusal (start-cases z r (size-of words (natAbs r) (length (m .table)) (length (m .waitlist))))) m [] _ _ refl)
+
+begun-with-0 : (words : List ℤ) (z : Settings) (r : ℤ) (m : Memory) → begin-outcome words z r (pos 0) m ≡ start-outcome words z r m
+unfolding begin-outcome start-outcome
+begun-with-0 words z r m =
     let c = decode words in
     ap (λ (w : Exploration AbstractState). settled (refusal (start-cases z r (size-of words (natAbs r) (length (m .table)) (length (m .waitlist))))) m [] (record { answer = fine 0; memory = put-in c w m; space = [] }))
     (resumed-none c (started c z r))
@@ -153,7 +162,8 @@ pub start-then-run : StartThenRun
 start-then-run = record {
   pair = λ words z r a m e. as-pair words z r a m (none-of words z r a m e);
   bad = λ words z r a m e. as-bad words z r a m (none-of words z r a m e);
-  plain = plain-start;
-  listed = listed-before;
-  judged = judged-before;
+  same-answer = answers-alike;
+  plain-start = begun-with-0;
+  program-lists = listed-before;
+  go-line-judged = judged-before;
 }

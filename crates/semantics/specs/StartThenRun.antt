@@ -3,6 +3,7 @@
 use mathlib.Core.Path.{_≡_}
 use mathlib.Core.Bool.{Bool, true, false, not}
 use mathlib.Core.List.{List, [], _∷_}
+use lib.Dec.{T}
 use lib.ListN.{length}
 use lib.IntN.{ℤ, pos, natAbs}
 use Rattle.semantics.specs.Lists.{pick}
@@ -42,7 +43,7 @@ bad-start c = constants c .error (initial c)
 -- edge 0
 pub record BadStart (words : List ℤ) (z : Settings) (r a : ℤ) (m : Memory) : Type 0 where
   pub run-met : pair-outcome words z r a m ≡ record { answer = refused-by 22 0; memory = start-outcome words z r m .memory; space = [] }
-  pub started : start-outcome words z r m .answer ≡ fine 0
+  pub start-answers : start-outcome words z r m .answer ≡ fine 0
   pub same : begin-outcome words z r a m ≡ start-outcome words z r m
   pub alarm : begin-outcome words z r a m .memory .analysis .verdict ≡ Alarm
   pub iterations : begin-outcome words z r a m .memory .analysis .iterations ≡ 0
@@ -54,10 +55,12 @@ pub record StartThenRun : Type 0 where
       → (start-outcome words z r m .answer ≡ fine 0) × (begin-outcome words z r a m ≡ pair-outcome words z r a m)
   pub bad : (words : List ℤ) (z : Settings) (r a : ℤ) (m : Memory) → begin-outcome words z r a m .answer .number ≡ 0 → bad-start (decode words) ≡ true
       → BadStart words z r a m
+  -- an allowance that 13 lets pass moves no answer: the start's refusals are all that are left
+  pub same-answer : (words : List ℤ) (z : Settings) (r a : ℤ) (m : Memory) → T (budget-ok a) → begin-outcome words z r a m .answer ≡ start-outcome words z r m .answer
   -- "0 giving the plain start", refused or not
-  pub plain : (words : List ℤ) (z : Settings) (r : ℤ) (m : Memory) → begin-outcome words z r (pos 0) m ≡ start-outcome words z r m
+  pub plain-start : (words : List ℤ) (z : Settings) (r : ℤ) (m : Memory) → begin-outcome words z r (pos 0) m ≡ start-outcome words z r m
   -- the program's output does not move: it lists what it listed when it started, looked at the verdict and ran
-  pub listed : (c : Chart) (g : Go) → let w = started c (g .settings) (g .capacity) in explored c g ≡ pick (has-verdict (w .verdict)) w (resumed c (g .budget) w)
+  pub program-lists : (c : Chart) (g : Go) → let w = started c (g .settings) (g .capacity) in explored c g ≡ pick (has-verdict (w .verdict)) w (resumed c (g .budget) w)
   -- and a go line is judged by 11, 12 and 13 as by the three tests in turn
-  pub judged : (z : Settings) (r a : ℤ)
+  pub go-line-judged : (z : Settings) (r a : ℤ)
       → sized z r a ≡ check (capacity-ok r) 11 (check (allowed (z .merge) (z .stop)) 12 (check (budget-ok a) 13 (ok (record { settings = z; capacity = r; budget = a }))))
