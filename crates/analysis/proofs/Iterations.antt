@@ -1,9 +1,9 @@
--- Laws of an iteration and of a run, over what record and words say. Assumes nothing.
-use Rattle.semantics.proofs.Prelude.{_≡_, refl, sym, ap, subst, _∙_, true, false, List, [], _∷_, Option, ℕ, zero, suc, _+_, _-_, _≤_, _<_, arith, T, ℤ, length}
+-- Laws of an iteration, over what record and words say. Assumes nothing.
+use Rattle.semantics.proofs.Prelude.{_≡_, refl, sym, ap, subst, _∙_, false, List, [], _∷_, Option, ℕ, zero, suc, _+_, _-_, _≤_, _<_, arith, T, ℤ, length}
 use Rattle.semantics.specs.declared.Verdict.{Verdict}
 use Rattle.semantics.specs.declared.Verdict.the-variants.{Open, Safe, Alarm, Full}
 use Rattle.semantics.specs.declared.Analysis.{Analysis}
-use Rattle.semantics.specs.Algorithm.{Domain, Out, Exploration, Taken, visit-all, finish, iteration, run, has-verdict}
+use Rattle.semantics.specs.Algorithm.{Out, Exploration, Taken, visit-all, finish, iteration, has-verdict}
 use Rattle.semantics.specs.Tidy.{Every, Queue, Tidy}
 use Rattle.semantics.proofs.Tidy.{Left, take-left, Keeps, iteration-tidy}
 use Rattle.state.specs.declared.Layout.{Layout}
@@ -57,17 +57,6 @@ module _ (y : Layout) (last : ℕ) (a : Analysis) (t l : List ℤ) (h : Resumabl
 
       kept : Kept y t₂ l₃ (r .used) (r .waiting)
       kept = rw (f .used) (kept-after (g .kept) t₂ refl refl (f .stored) ll queue)
-
--- ---- the run
-
-module _ (D : Domain (List ℤ) ℕ) (gs : List ℕ) where
-  pub run-open : (n m : ℕ) (x : Exploration (List ℤ)) → has-verdict (x .verdict) ≡ false → n ≡ suc m → run D gs n x ≡ run D gs m (iteration D gs x)
-  unfolding run
-  run-open n m x h e = rw (e, h)
-
-  pub run-none : (n : ℕ) (x : Exploration (List ℤ)) → n ≡ 0 → run D gs n x ≡ x
-  unfolding run
-  run-none n x e = ap (λ (q : ℕ). run D gs q x) e
 
 -- an open analysis has a slot waiting
 pub open-waits : (y : Layout) (last : ℕ) (a : Analysis) (t l : List ℤ) → Resumable y last a t l → has-verdict (a .verdict) ≡ false → 0 < a .waiting

@@ -1,5 +1,5 @@
 -- Names and laws of the logic (Prelude, Bools, Integers). Then what holds of the definitions: over any domain (to Simulate), of the constants (to Executions), of words (MemoryOf,
--- MemoryInForm), of a chart's text and its words (to Exactness), of the calls (to PutIn), of the program (to
+-- MemoryInForm), of a chart's text and its words (to Exactness), of the calls (to MemoryPut), of the program (to
 -- ProgramSafe). The claims are in Verdicts, Overruns, Comparisons, Executions, Exactness, WholeWalks, ProgramSafe,
 -- StartThenRun and MarkedCases.
 pub mod Prelude
@@ -33,7 +33,7 @@ pub mod FirstCase
 pub mod Refusals
 pub mod WholeWalks
 pub mod Realisable
-pub mod PutIn
+pub mod MemoryPut
 pub mod ListingShort
 pub mod Program
 pub mod InputCut

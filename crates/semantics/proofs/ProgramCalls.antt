@@ -13,7 +13,7 @@ use Rattle.semantics.specs.Outcomes.{fine, budget-ok, put-in, read-outco
 use Rattle.semantics.specs.Program.{Go, explored}
 use Rattle.semantics.proofs.StatesOk.{Bounds}
 use Rattle.semantics.proofs.MemoryOf.{counted, Proper}
-use Rattle.semantics.proofs.PutIn.{enough-held, load-held, held-ok}
+use Rattle.semantics.proofs.MemoryPut.{enough-held, load-held, held-ok}
 use Rattle.semantics.proofs.Encoded.{encode-short, formed-bounds}
 use Rattle.semantics.proofs.ReadInBounds.{in-bounds}
 use Rattle.semantics.proofs.ListingShort.{listing-short}

@@ -4,7 +4,7 @@ use Rattle.semantics.specs.Lists.{pick}
 use Rattle.semantics.specs.Layout.{most-iterations}
 use Rattle.semantics.specs.Chart.{Chart, numbered}
 use Rattle.semantics.specs.Reading.{ok, check}
-use Rattle.semantics.specs.Algorithm.{Settings, Alarm, Exploration, run, start, first-verdict, has-verdict, allowed}
+use Rattle.semantics.specs.Algorithm.{Settings, Alarm, Exploration, start, first-verdict, has-verdict, allowed}
 use Rattle.semantics.specs.Constants.{AbstractState, constants}
 use Rattle.semantics.specs.Encoding.{decode, well-formed}
 use Rattle.semantics.specs.Memory.{Memory, width, table-of, waitlist-of, analysis-of, capacity-ok}
@@ -13,12 +13,12 @@ use Rattle.semantics.specs.Program.{Go, unless, sized, explored}
 use Rattle.semantics.specs.StartThenRun.{start-cases, start-outcome, pair-outcome, bad-start, BadStart, StartThenRun}
 use Rattle.semantics.proofs.Bools.{passed, to-true}
 use Rattle.semantics.proofs.FirstCase.{NoneMet, none-met}
-use Rattle.semantics.proofs.SettingsKept.{run-kept, run-closed}
+use Rattle.semantics.proofs.SettingsKept.{run-kept, run-closed, run-none}
 use Rattle.semantics.proofs.StatesOk.{Bounds}
 use Rattle.semantics.proofs.MemoryOf.{Proper, table-length, list-length}
 use Rattle.semantics.proofs.Encoded.{well-formed-split, formed-bounds}
-use Rattle.semantics.proofs.WholeWalks.{started-iterations, started-good}
-use Rattle.semantics.proofs.PutIn.{enough-held, load-held, held-ok}
+use Rattle.semantics.proofs.WholeWalks.{started-iterations, started-verdict, started-edge, started-good}
+use Rattle.semantics.proofs.MemoryPut.{enough-held, load-held, held-ok}
 
 -- a call that answers 0 was refused by nothing
 through : (n : ℕ) (m : Memory) (sp : List ℕ) (o : Outcome) → settled n m sp o .answer .number ≡ 0 → n ≡ 0
@@ -27,20 +27,10 @@ through (suc n) m sp o e = absurd (omega arith)
 
 -- a run that may play nothing, or that has a verdict
 resumed-none : (c : Chart) (w : Exploration AbstractState) → resumed c (pos 0) w ≡ w
-unfolding run
-resumed-none c w = let z : min 0 (most-iterations - w .iterations) ≡ 0 = omega arith in rw z
+resumed-none c w = run-none (constants c) (numbered c) (min 0 (most-iterations - w .iterations)) w (omega arith)
 
 resumed-closed : (c : Chart) (a : ℤ) (w : Exploration AbstractState) → has-verdict (w .verdict) ≡ true → resumed c a w ≡ w
 resumed-closed c a w v = run-closed (constants c) (numbered c) (min (natAbs a) (most-iterations - w .iterations)) w v
-
--- the record of a start
-started-verdict : (c : Chart) (z : Settings) (r : ℤ) → started c z r .verdict ≡ first-verdict (bad-start c)
-unfolding start
-started-verdict c z r = refl
-
-started-edge : (c : Chart) (z : Settings) (r : ℤ) → started c z r .edge ≡ 0
-unfolding start
-started-edge c z r = refl
 
 -- one exploration put over another of its capacity
 put-twice : (c : Chart) → Bounds c → (w v : Exploration AbstractState) → Proper c w → v .capacity ≡ w .capacity → (m : Memory) → put-in c v (put-in c w m) ≡ put-in c v m

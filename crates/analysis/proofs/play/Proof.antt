@@ -2,11 +2,11 @@
 use Rattle.semantics.proofs.Prelude.{_≡_, refl, sym, _∙_, List, ℕ, suc, _+_, _-_, _≤_, arith, needs, ℤ, length}
 use Rattle.semantics.specs.Layout.{most-iterations}
 use Rattle.semantics.specs.Algorithm.{Domain, Exploration, run}
-use Rattle.semantics.proofs.SettingsKept.{run-closed}
+use Rattle.semantics.proofs.SettingsKept.{run-closed, run-open, run-none}
 use Rattle.transfer.specs.Transfer.{edges-from}
 use Rattle.progress.specs.Progress.{load-of}
 use Rattle.analysis.specs.Loaded.{domain-of, Resumable}
-use Rattle.analysis.proofs.Iterations.{run-open, run-none, open-waits}
+use Rattle.analysis.proofs.Iterations.{open-waits}
 use Rattle.analysis.proofs.play.Statement.{statement}
 use Rattle.analysis.proofs.play.Tie as tie
 
