@@ -18,11 +18,12 @@ extern "C" {
 /* The words that the largest chart takes. */
 #define TARKNOTTER_CHART_WORDS 3163
 
-/* The words that the largest capacity takes: 256 slots of 9 words, and 256 waiting slots. */
-#define TARKNOTTER_TABLE_WORDS 2304
+/* The words that the largest capacity takes: 256 slots of 11 words, and 256 waiting slots. A slot's words are its
+   location, a value for each variable, and at the end the slot and the edge that first brought it, 65,535 and 0 in slot 0. */
+#define TARKNOTTER_TABLE_WORDS 2816
 #define TARKNOTTER_LIST_WORDS 256
 
-/* Bytes that hold the listing of every analysis in form. */
+/* Bytes that hold the listing of every analysis in form, and the path of every alarm. */
 #define TARKNOTTER_LISTING_BYTES 24576
 
 /* Ways to merge and to stop, and the order in which waiting slots are taken. */
@@ -37,8 +38,8 @@ extern "C" {
 #define TARKNOTTER_ALARM 2
 #define TARKNOTTER_FULL 3
 
-/* 0 and line 0 from a call that goes through, with the length in bytes of a listing; else the
-   refusal's number and line, which is 0 unless it is a line of a file. The length is 0 where there is no listing. A
+/* 0 and line 0 from a call that goes through, with the length in bytes of a listing or path; else the
+   refusal's number and line, which is 0 unless it is a line of a file. The length is 0 where there is neither. A
    refused call has written nothing. */
 struct tarknotter_reply {
     uint32_t number;
@@ -77,7 +78,7 @@ bool tarknotter_well_formed(const int32_t *words, size_t words_length);
 /* Begins an analysis anew, the initial state in slot 0, waiting, and plays iterations until a verdict or until the
    budget is spent; a budget of 0 is the plain start, which plays none. An initial state at an error location is an alarm
    at once, with 0 iterations and edge 0, whatever the budget. What table, list and record hold is not looked at: the
-   record may be any, all 0 before the first call. A capacity of r takes r * (variables + 1) table words and r list words,
+   record may be any, all 0 before the first call. A capacity of r takes r * (variables + 3) table words and r list words,
    and all of them are written, those not in use with 0. A merge, stop or order other than those above is refused with 6,
    before all else; then 11 (capacity not 1 to 256), 12 (sep with stop join), 13 (budget not 0 to 60,000), 20, 14, in
    this order. */
@@ -101,6 +102,16 @@ struct tarknotter_reply tarknotter_listing(const int32_t *chart, size_t chart_le
                                            const int32_t *table, size_t table_length,
                                            const int32_t *list, size_t list_length,
                                            uint8_t *space, size_t space_length);
+
+/* The path to an alarm into the bytes lent, and its length: a line with the merge and the alarm edge, then from slot 0 to
+   the slot that the alarm was raised from a line each, the edge that first brought it and its line of the listing.
+   Refused with 20, 14, 21, 24 (the verdict is not alarm), 15, in this order; a code in the record other than those above
+   is 21. */
+struct tarknotter_reply tarknotter_path(const int32_t *chart, size_t chart_length,
+                                        struct tarknotter_record record,
+                                        const int32_t *table, size_t table_length,
+                                        const int32_t *list, size_t list_length,
+                                        uint8_t *space, size_t space_length);
 
 #ifdef __cplusplus
 }

@@ -59,13 +59,24 @@ pub struct Analysis {
     pub waitlist: Waitlist,
     /// Met since it was begun or taken from lent words; for tests alone.
     pub corners: BTreeSet<Corner>,
+    /// Slots widened since then by another slot or edge than their origin; for tests alone.
+    pub joined_into: BTreeSet<SlotId>,
 }
 
-/// The abstract states in order of arrival, one row after the other.
+/// The abstract states in order of arrival, one row after the other, and beside them where each came from.
 #[derive(Clone, Debug, PartialEq, Eq)]
 pub struct Reached {
     width: usize,
     words: Vec<i32>,
+    /// By slot number; no part of a state, so that nothing is compared or joined by it.
+    origins: Vec<Option<Origin>>,
+}
+
+/// What first brought a slot: another slot, followed along an edge. The initial state has none.
+#[derive(Clone, Copy, Debug, PartialEq, Eq)]
+pub struct Origin {
+    pub parent: SlotId,
+    pub edge: EdgeId,
 }
 
 /// Slots in the order in which they joined, each at most once.
@@ -115,7 +126,7 @@ impl Analysis {
     pub fn start(chart: &Chart, settings: Settings, capacity: usize) -> Self {
         let mut reached = Reached::new(chart.width());
         let mut waitlist = Waitlist::new(capacity);
-        waitlist.add(reached.push(&domain::initial(chart)));
+        waitlist.add(reached.push(&domain::initial(chart), None));
         let is_error = chart.location(Chart::START).is_error;
         Analysis {
             settings,
@@ -126,6 +137,7 @@ impl Analysis {
             reached,
             waitlist,
             corners: BTreeSet::new(),
+            joined_into: BTreeSet::new(),
         }
     }
 
@@ -144,6 +156,16 @@ impl Analysis {
             self.iterate(chart, &outgoing);
             left -= 1;
         }
+    }
+
+    /// Back along the origins from the slot to be taken, which after an alarm is the one that raised it;
+    /// slot 0 comes first.
+    pub fn path(&self) -> Vec<SlotId> {
+        let parent = |&slot: &SlotId| self.reached.origin(slot).map(|origin| origin.parent);
+        let next = self.waitlist.next(self.settings.order);
+        let mut path: Vec<SlotId> = std::iter::successors(next, parent).collect();
+        path.reverse();
+        path
     }
 
     fn iterate(&mut self, chart: &Chart, outgoing: &Outgoing) {
@@ -180,7 +202,8 @@ impl Analysis {
                 self.edge = Some(id);
                 return self.break_off(taken, Verdict::Alarm);
             }
-            let is_widening = self.merge(successor);
+            let origin = Origin { parent: taken, edge: id };
+            let is_widening = self.merge(successor, origin);
             is_any_widened |= is_widening;
             if self.reached.row(taken) != source {
                 is_taken_widened = true;
@@ -191,7 +214,7 @@ impl Analysis {
                 if self.reached.len() == self.capacity {
                     return self.break_off(taken, Verdict::Full);
                 }
-                let slot = self.reached.push(successor);
+                let slot = self.reached.push(successor, Some(origin));
                 self.waitlist.add(slot);
             }
             // Only of a successor that is left in the table: others come by far too often.
@@ -241,11 +264,11 @@ impl Analysis {
 
     /// Tells whether a slot was widened. Made one with the iteration, it takes more instructions for each slot.
     #[inline(never)]
-    fn merge(&mut self, successor: &[i32]) -> bool {
-        let mut is_widened = false;
+    fn merge(&mut self, successor: &[i32], origin: Origin) -> bool {
         if self.settings.merge == Merge::Sep {
-            return is_widened;
+            return false;
         }
+        let mut widened = Vec::new();
         for (slot, row) in self.reached.rows_mut().enumerate() {
             if row[0] == successor[0] && domain::join_into(row, successor) {
                 let slot = SlotId(slot);
@@ -253,10 +276,12 @@ impl Analysis {
                     self.corners.insert(Corner::KeepsPlace);
                 }
                 self.waitlist.add(slot);
-                is_widened = true;
+                widened.push(slot);
             }
         }
-        is_widened
+        let is_other = |slot: &&SlotId| self.reached.origin(**slot) != Some(origin);
+        self.joined_into.extend(widened.iter().filter(is_other));
+        !widened.is_empty()
     }
 
     fn stops(&self, successor: &[i32]) -> bool {
@@ -281,7 +306,7 @@ impl Analysis {
 
 impl Reached {
     pub fn new(width: usize) -> Self {
-        Reached { width, words: Vec::new() }
+        Reached { width, words: Vec::new(), origins: Vec::new() }
     }
 
     pub fn width(&self) -> usize {
@@ -290,11 +315,11 @@ impl Reached {
 
     /// The number of slots in use.
     pub fn len(&self) -> usize {
-        self.words.len() / self.width
+        self.origins.len()
     }
 
     pub fn is_empty(&self) -> bool {
-        self.words.is_empty()
+        self.origins.is_empty()
     }
 
     pub fn row(&self, slot: SlotId) -> &[i32] {
@@ -305,13 +330,19 @@ impl Reached {
         self.words.chunks_exact(self.width)
     }
 
-    pub fn words(&self) -> &[i32] {
-        &self.words
+    pub fn origin(&self, slot: SlotId) -> Option<Origin> {
+        self.origins[slot.0]
     }
 
-    pub fn push(&mut self, row: &[i32]) -> SlotId {
+    /// Each state with its origin, by slot number.
+    pub fn slots(&self) -> impl Iterator<Item = (&[i32], Option<Origin>)> {
+        self.rows().zip(self.origins.iter().copied())
+    }
+
+    pub fn push(&mut self, row: &[i32], origin: Option<Origin>) -> SlotId {
         let slot = SlotId(self.len());
         self.words.extend_from_slice(row);
+        self.origins.push(origin);
         slot
     }
 
@@ -351,7 +382,7 @@ impl Waitlist {
     }
 
     /// The slot to be taken.
-    fn next(&self, order: Order) -> Option<SlotId> {
+    pub fn next(&self, order: Order) -> Option<SlotId> {
         match order {
             Order::Old => self.slots.front().copied(),
             Order::New => self.slots.back().copied(),

@@ -4,7 +4,6 @@ use std::collections::BTreeSet;
 
 use crate::analysis::{Analysis, Settings, Verdict};
 use crate::calls::{advanced, begun, held_chart};
-use crate::chart::MAX_VARIABLES;
 use crate::memory::Memory;
 
 /// What a begin call asks for.
@@ -68,14 +67,12 @@ pub fn refusals(begin: Begin, lent: &Memory) -> Vec<u32> {
     REFUSALS.into_iter().filter(|&number| applies(number)).collect()
 }
 
-/// How many words each buffer lacks, below 0 where some are left. A chart out of form has as many
-/// variables as its first word says, as far as there can be so many.
+/// How many words each buffer lacks, below 0 where some are left.
 fn missing(begin: Begin, lent: &Memory) -> [(Buffer, i64); 2] {
-    let variables = lent.chart.first().map_or(0, |&count| count.clamp(0, MAX_VARIABLES as i32));
     let missing =
-        |words: &[i32], each: i32| i64::from(begin.capacity) * i64::from(each) - words.len() as i64;
+        |words: &[i32], each: usize| i64::from(begin.capacity) * each as i64 - words.len() as i64;
     [
-        (Buffer::Table, missing(&lent.table, variables + 1)),
+        (Buffer::Table, missing(&lent.table, lent.slot_width())),
         (Buffer::Waitlist, missing(&lent.waitlist, 1)),
     ]
 }

@@ -4,13 +4,14 @@
 use std::collections::BTreeSet;
 
 use crate::analysis::{
-    check_budget, check_settings, Analysis, Reached, Settings, Verdict, Waitlist, MAX_ITERATIONS,
+    check_budget, check_settings, location_of, Analysis, Origin, Reached, Settings, Verdict,
+    Waitlist, MAX_ITERATIONS,
 };
-use crate::chart::{Chart, EdgeId, SlotId};
+use crate::chart::{Chart, EdgeId, SlotId, ORIGIN_WORDS};
 use crate::domain::TOP;
 use crate::encoding::{decode, encode};
 use crate::form::is_readable;
-use crate::listing;
+use crate::listing::Report;
 use crate::reader;
 use crate::refusal::{Reason, Refusal};
 
@@ -35,6 +36,9 @@ pub struct Record {
     /// The edge that raised the alarm, or 0.
     pub edge: u32,
 }
+
+/// Stands in slot 0, which nothing brought, where others have their parent.
+const NO_PARENT: i32 = 65_535;
 
 /// Fills `words` with the encoding of the chart that `file` reads to.
 pub fn read(file: &[u8], words: &mut [i32]) -> Answer {
@@ -118,10 +122,32 @@ pub fn listing(
     record: &Record,
     space: &mut [u8],
 ) -> (Answer, usize) {
+    write_report(Report::Listing, chart, table, waitlist, record, space)
+}
+
+/// As `listing`, but writes the path to the alarm.
+pub fn path(
+    chart: &[i32],
+    table: &[i32],
+    waitlist: &[i32],
+    record: &Record,
+    space: &mut [u8],
+) -> (Answer, usize) {
+    write_report(Report::Path, chart, table, waitlist, record, space)
+}
+
+fn write_report(
+    report: Report,
+    chart: &[i32],
+    table: &[i32],
+    waitlist: &[i32],
+    record: &Record,
+    space: &mut [u8],
+) -> (Answer, usize) {
     let written = (|| {
         let chart = held_chart(chart)?;
         let analysis = held_analysis(&chart, table, waitlist, record)?;
-        let text = listing::listing(&chart, &analysis);
+        let text = report.text(&chart, &analysis)?;
         space.get_mut(..text.len()).ok_or(Reason::ListingSpace)?.copy_from_slice(&text);
         Ok(text.len())
     })();
@@ -137,7 +163,7 @@ pub fn held_chart(words: &[i32]) -> Result<Chart, Reason> {
 }
 
 /// The analysis in the lent words: 14, then 21.
-fn held_analysis(
+pub fn held_analysis(
     chart: &Chart,
     table: &[i32],
     waitlist: &[i32],
@@ -158,8 +184,8 @@ fn check_words(
     waitlist: &[i32],
 ) -> Result<(), Reason> {
     let capacity = u64::from(capacity);
-    if (table.len() as u64) < capacity * chart.width() as u64 || (waitlist.len() as u64) < capacity
-    {
+    let table_words = capacity * chart.slot_width() as u64;
+    if (table.len() as u64) < table_words || (waitlist.len() as u64) < capacity {
         return Err(Reason::TooFewWords);
     }
     Ok(())
@@ -167,11 +193,22 @@ fn check_words(
 
 /// Whether no clause of 21 applies, once the words lent are enough for the capacity.
 fn is_in_form(chart: &Chart, table: &[i32], waitlist: &[i32], record: &Record) -> bool {
-    let Record { settings, capacity, used, waiting, .. } = *record;
-    if check_settings(settings, i64::from(capacity)).is_err() || used > capacity || waiting > used {
+    is_in_form_but_for_origins(chart, table, waitlist, record)
+        && (0..record.used as usize).all(|slot| has_origin(chart, table, slot))
+}
+
+/// Whether no clause of document 01's 21 applies, once the words lent are enough for the capacity.
+pub fn is_in_form_but_for_origins(
+    chart: &Chart,
+    table: &[i32],
+    waitlist: &[i32],
+    record: &Record,
+) -> bool {
+    if !is_record_in_form(record) {
         return false;
     }
-    let width = chart.width();
+    let Record { capacity, used, waiting, .. } = *record;
+    let width = chart.slot_width();
     let (used, waiting, capacity) = (used as usize, waiting as usize, capacity as usize);
     let (rows, unused_rows) = table[..capacity * width].split_at(used * width);
     let (slots, unused_slots) = waitlist[..capacity].split_at(waiting);
@@ -179,10 +216,18 @@ fn is_in_form(chart: &Chart, table: &[i32], waitlist: &[i32], record: &Record) -
     rows.chunks_exact(width).all(|row| is_of_chart(chart, row))
         && are_distinct_and_used(slots, used)
         && unused_rows.iter().chain(unused_slots).all(|&word| word == 0)
-        && record.iterations <= MAX_ITERATIONS
         && record.edge as usize <= chart.edges.len()
-        && (record.edge == 0 || record.verdict == Verdict::Alarm)
-        && (record.verdict == Verdict::Safe) == (waiting == 0)
+}
+
+/// Whether no clause of 21 applies that looks at the record alone.
+pub fn is_record_in_form(record: &Record) -> bool {
+    let Record { settings, capacity, iterations, used, waiting, verdict, edge } = *record;
+    check_settings(settings, i64::from(capacity)).is_ok()
+        && used <= capacity
+        && waiting <= used
+        && iterations <= MAX_ITERATIONS
+        && (edge == 0 || verdict == Verdict::Alarm)
+        && (verdict == Verdict::Safe) == (waiting == 0)
 }
 
 fn is_of_chart(chart: &Chart, row: &[i32]) -> bool {
@@ -192,6 +237,23 @@ fn is_of_chart(chart: &Chart, row: &[i32]) -> bool {
             .iter()
             .zip(&row[1..])
             .all(|(variable, &value)| value == TOP || variable.contains(value))
+}
+
+/// Whether a slot says that nothing brought it, if it is slot 0, or else which edge did, from an earlier
+/// slot's location to its own.
+fn has_origin(chart: &Chart, table: &[i32], slot: usize) -> bool {
+    let words = |slot: usize| table[slot * chart.slot_width()..].split_at(chart.width());
+    let (state, origin) = words(slot);
+    let (parent, edge) = (origin[0], origin[1]);
+    if slot == 0 {
+        return (parent, edge) == (NO_PARENT, 0);
+    }
+    if !(0..slot as i32).contains(&parent) || !(1..=chart.edges.len() as i32).contains(&edge) {
+        return false;
+    }
+    let (parent, _) = words(parent as usize);
+    let edge = chart.edge(EdgeId(edge as usize));
+    (edge.from, edge.to) == (location_of(parent), location_of(state))
 }
 
 fn are_distinct_and_used(slots: &[i32], used: usize) -> bool {
@@ -207,8 +269,13 @@ fn are_distinct_and_used(slots: &[i32], used: usize) -> bool {
 /// The analysis that lent words in form stand for.
 fn load(chart: &Chart, table: &[i32], waitlist: &[i32], record: &Record) -> Analysis {
     let mut reached = Reached::new(chart.width());
-    for row in table.chunks_exact(chart.width()).take(record.used as usize) {
-        reached.push(row);
+    for words in table.chunks_exact(chart.slot_width()).take(record.used as usize) {
+        let (row, origin) = words.split_at(chart.width());
+        let brought = |parent: i32| Origin {
+            parent: SlotId(parent as usize),
+            edge: EdgeId(origin[1] as usize),
+        };
+        reached.push(row, Some(origin[0]).filter(|&parent| parent != NO_PARENT).map(brought));
     }
     let mut waiting = Waitlist::new(record.capacity as usize);
     for &slot in &waitlist[..record.waiting as usize] {
@@ -223,6 +290,7 @@ fn load(chart: &Chart, table: &[i32], waitlist: &[i32], record: &Record) -> Anal
         reached,
         waitlist: waiting,
         corners: BTreeSet::new(),
+        joined_into: BTreeSet::new(),
     }
 }
 
@@ -230,9 +298,14 @@ fn load(chart: &Chart, table: &[i32], waitlist: &[i32], record: &Record) -> Anal
 fn store(analysis: &Analysis, table: &mut [i32], waitlist: &mut [i32], record: &mut Record) {
     let capacity = analysis.capacity;
     let reached = &analysis.reached;
-    let (rows, unused_rows) =
-        table[..capacity * reached.width()].split_at_mut(reached.words().len());
-    rows.copy_from_slice(reached.words());
+    let width = reached.width() + ORIGIN_WORDS;
+    let (rows, unused_rows) = table[..capacity * width].split_at_mut(reached.len() * width);
+    for (words, (row, origin)) in rows.chunks_exact_mut(width).zip(reached.slots()) {
+        let (state, words) = words.split_at_mut(row.len());
+        state.copy_from_slice(row);
+        let brought = |origin: Origin| [origin.parent.0 as i32, origin.edge.0 as i32];
+        words.copy_from_slice(&origin.map_or([NO_PARENT, 0], brought));
+    }
     unused_rows.fill(0);
     let (slots, unused_slots) = waitlist[..capacity].split_at_mut(analysis.waitlist.len());
     for (word, slot) in slots.iter_mut().zip(analysis.waitlist.slots()) {

@@ -7,6 +7,8 @@ pub const MAX_VARIABLES: usize = 8;
 pub const MAX_LOCATIONS: usize = 64;
 pub const MAX_EDGES: usize = 256;
 pub const MAX_NAME: usize = 16;
+/// At the end of a slot: the slot and the edge that first brought it.
+pub const ORIGIN_WORDS: usize = 2;
 
 /// Counted from 0 in file order.
 #[derive(Clone, Copy, Debug, PartialEq, Eq)]
@@ -17,7 +19,7 @@ pub struct LocationId(pub usize);
 pub struct EdgeId(pub usize);
 
 /// Counted from 0 in order of arrival in the reached table.
-#[derive(Clone, Copy, Debug, PartialEq, Eq)]
+#[derive(Clone, Copy, Debug, PartialEq, Eq, PartialOrd, Ord)]
 pub struct SlotId(pub usize);
 
 /// A name's bytes, 0 after its end; no name holds a 0.
@@ -97,6 +99,16 @@ impl Chart {
     pub fn width(&self) -> usize {
         self.variables.len() + 1
     }
+
+    /// Words of one slot as it is lent.
+    pub fn slot_width(&self) -> usize {
+        slot_width(self.variables.len())
+    }
+}
+
+/// Words of one slot with so many variables: its abstract state, and its origin.
+pub fn slot_width(variables: usize) -> usize {
+    variables + 1 + ORIGIN_WORDS
 }
 
 impl Name {

@@ -46,8 +46,8 @@ impl<L: Ord + Debug> Default for Met<L> {
     }
 }
 
-/// Of what the program printed: the settings and the verdict, or the refusal's number and whether
-/// it has a line.
+/// Of what the program printed: the settings and the verdict of a listing, the merge of a path, or the
+/// refusal's number and whether it has a line.
 pub fn program_label(output: &[u8]) -> String {
     let header = String::from_utf8_lossy(output.split(|&byte| byte == b'\n').next().unwrap_or(b""));
     let fields: Vec<&str> = header.split('\t').collect();
@@ -55,17 +55,32 @@ pub fn program_label(output: &[u8]) -> String {
         ["refused", number, "0"] => format!("refused {number}, line 0"),
         ["refused", number, _] => format!("refused {number}"),
         ["walk", merge, stop, order, verdict, ..] => format!("{merge} {stop} {order} {verdict}"),
-        _ => format!("neither a listing nor a refusal: {header}"),
+        ["path", merge, _] => format!("path {merge}"),
+        _ => format!("no listing, path or refusal: {header}"),
     }
 }
 
-/// Every label that an output of the program can have.
+/// Every label that an output of the program can have, started without an argument.
 pub fn program_labels() -> Vec<String> {
+    let mut labels = refusal_labels();
+    labels.extend(analysis_labels());
+    labels
+}
+
+/// Every label that an output of the program can have, started with `path`.
+pub fn path_labels() -> Vec<String> {
+    let mut labels = refusal_labels();
+    labels.push("refused 24, line 0".to_string());
+    labels.extend(Merge::ALL.map(|merge| format!("path {}", merge.word())));
+    labels
+}
+
+/// Of a go line or a chart.
+fn refusal_labels() -> Vec<String> {
     let mut labels: Vec<String> = (2..=10).map(|number| format!("refused {number}")).collect();
     for number in [1, 2, 3, 5, 6, 8, 11, 12, 13] {
         labels.push(format!("refused {number}, line 0"));
     }
-    labels.extend(analysis_labels());
     labels
 }
 

@@ -1,5 +1,5 @@
 //! The reference walker: a reachability analyser for flow charts, written a
-//! second time from documents 01 and 02 (requests 2.1, 2.6 and 2.9) alone, so that
+//! second time from documents 01 and 02 (requests 2.1, 2.2, 2.6 and 2.9) alone, so that
 //! the verified program can be compared with it.
 //!
 //! `program::respond` is the whole walk program, `calls` has the calls on lent
@@ -20,10 +20,12 @@ pub mod explorer;
 pub mod form;
 pub mod listing;
 pub mod memory;
+pub mod paths;
 pub mod program;
 pub mod random;
 pub mod reader;
 pub mod refusal;
 pub mod renderer;
 pub mod text;
+pub mod way;
 pub mod worked;

@@ -1,15 +1,40 @@
-//! What the walk program prints: a listing, or one line for a refusal.
+//! What the walk program prints: a listing, a path, or one line for a refusal.
 
 use std::io::Write;
 
 use crate::analysis::{location_of, Analysis, Merge, Order, Settings, Stop, Verdict};
-use crate::chart::{Chart, SlotId};
+use crate::chart::{Chart, EdgeId, SlotId};
 use crate::domain::TOP;
-use crate::refusal::Refusal;
+use crate::refusal::{Reason, Refusal};
+
+/// What to print of an analysis.
+#[derive(Clone, Copy, Debug, PartialEq, Eq)]
+pub enum Report {
+    Listing,
+    Path,
+}
+
+impl Report {
+    /// A path leads to an alarm: 24 without one.
+    pub fn text(self, chart: &Chart, analysis: &Analysis) -> Result<Vec<u8>, Reason> {
+        match self {
+            Report::Listing => Ok(listing(chart, analysis)),
+            Report::Path if analysis.verdict == Verdict::Alarm => Ok(path(chart, analysis)),
+            Report::Path => Err(Reason::NoAlarm),
+        }
+    }
+}
 
 pub fn listing(chart: &Chart, analysis: &Analysis) -> Vec<u8> {
     let mut text = Vec::new();
     write_listing(&mut text, chart, analysis).expect("a vector takes every write");
+    text
+}
+
+/// How slot 0 led to the slot taken next.
+pub fn path(chart: &Chart, analysis: &Analysis) -> Vec<u8> {
+    let mut text = Vec::new();
+    write_path(&mut text, chart, analysis).expect("a vector takes every write");
     text
 }
 
@@ -28,21 +53,41 @@ fn write_listing(text: &mut Vec<u8>, chart: &Chart, analysis: &Analysis) -> std:
         analysis.verdict.word(),
         analysis.iterations,
         analysis.reached.len(),
-        analysis.edge.map_or(0, |edge| edge.0),
+        number(analysis.edge),
     )?;
-    for (slot, row) in analysis.reached.rows().enumerate() {
-        write!(text, "{slot}\t")?;
-        text.write_all(chart.location(location_of(row)).name.as_bytes())?;
-        for &value in &row[1..] {
-            match value {
-                TOP => text.write_all(b"\t*")?,
-                value => write!(text, "\t{value}")?,
-            }
+    (0..analysis.reached.len()).try_for_each(|slot| write_slot(text, chart, analysis, SlotId(slot)))
+}
+
+fn write_path(text: &mut Vec<u8>, chart: &Chart, analysis: &Analysis) -> std::io::Result<()> {
+    writeln!(text, "path\t{}\t{}", analysis.settings.merge.word(), number(analysis.edge))?;
+    analysis.path().into_iter().try_for_each(|slot| {
+        let origin = analysis.reached.origin(slot);
+        write!(text, "{}\t", number(origin.map(|origin| origin.edge)))?;
+        write_slot(text, chart, analysis, slot)
+    })
+}
+
+/// Edges count from 1, so that 0 says that there is none.
+fn number(edge: Option<EdgeId>) -> usize {
+    edge.map_or(0, |edge| edge.0)
+}
+
+fn write_slot(
+    text: &mut Vec<u8>,
+    chart: &Chart,
+    analysis: &Analysis,
+    slot: SlotId,
+) -> std::io::Result<()> {
+    let row = analysis.reached.row(slot);
+    write!(text, "{}\t", slot.0)?;
+    text.write_all(chart.location(location_of(row)).name.as_bytes())?;
+    for &value in &row[1..] {
+        match value {
+            TOP => text.write_all(b"\t*")?,
+            value => write!(text, "\t{value}")?,
         }
-        let is_waiting = analysis.waitlist.contains(SlotId(slot));
-        text.write_all(if is_waiting { b"\tw\n" } else { b"\t-\n" })?;
     }
-    Ok(())
+    text.write_all(if analysis.waitlist.contains(slot) { b"\tw\n" } else { b"\t-\n" })
 }
 
 impl Merge {

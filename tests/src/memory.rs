@@ -2,8 +2,9 @@
 
 use crate::analysis::{Merge, Order, Settings, Stop, Verdict};
 use crate::calls::{self, Answer, Record};
-use crate::chart::Chart;
+use crate::chart::{slot_width, Chart, MAX_VARIABLES};
 use crate::encoding::encode;
+use crate::listing::Report;
 
 /// What no call may rely on, nor write past the capacity: words before the first begin.
 pub const JUNK: i32 = -77;
@@ -50,7 +51,7 @@ impl Memory {
         let answer = self.call(begin);
         assert_eq!(junk.call(begin), answer);
         if answer == Answer::DONE {
-            let (words, slots) = (capacity as usize * self.width(), capacity as usize);
+            let (words, slots) = (capacity as usize * self.slot_width(), capacity as usize);
             assert_eq!(self.record, junk.record);
             assert_eq!(self.table[..words], junk.table[..words]);
             assert_eq!(self.waitlist[..slots], junk.waitlist[..slots]);
@@ -66,14 +67,27 @@ impl Memory {
 
     /// The answer and the listing, written into a space of so many bytes.
     pub fn listing(&self, space: usize) -> (Answer, Vec<u8>) {
+        self.report(Report::Listing, space)
+    }
+
+    /// The answer and the path to the alarm.
+    pub fn path(&self, space: usize) -> (Answer, Vec<u8>) {
+        self.report(Report::Path, space)
+    }
+
+    pub fn report(&self, report: Report, space: usize) -> (Answer, Vec<u8>) {
         const UNTOUCHED: u8 = 0xA5;
+        let call = match report {
+            Report::Listing => calls::listing,
+            Report::Path => calls::path,
+        };
         let mut bytes = vec![UNTOUCHED; space];
         let (answer, length) =
-            calls::listing(&self.chart, &self.table, &self.waitlist, &self.record, &mut bytes);
-        assert!(answer == Answer::DONE || length == 0, "a refused listing has no length");
+            call(&self.chart, &self.table, &self.waitlist, &self.record, &mut bytes);
+        assert!(answer == Answer::DONE || length == 0, "a refused text has no length");
         assert!(
             bytes[length..].iter().all(|&byte| byte == UNTOUCHED),
-            "bytes past a listing's end are untouched"
+            "bytes past a text's end are untouched"
         );
         bytes.truncate(length);
         (answer, bytes)
@@ -91,7 +105,7 @@ impl Memory {
             assert!(*self == before, "a call that answers {answer:?} changes nothing");
             return answer;
         }
-        let (width, capacity) = (self.width(), self.record.capacity as usize);
+        let (width, capacity) = (self.slot_width(), self.record.capacity as usize);
         assert_eq!(self.table[capacity * width..], before.table[capacity * width..]);
         assert_eq!(self.waitlist[capacity..], before.waitlist[capacity..]);
         let unused_rows = &self.table[self.record.used as usize * width..capacity * width];
@@ -100,8 +114,10 @@ impl Memory {
         answer
     }
 
-    /// The words of a slot, once a call has gone through.
-    fn width(&self) -> usize {
-        self.chart[0] as usize + 1
+    /// The words of a slot. A chart out of form has as many variables as its first word says, as far as
+    /// there can be so many.
+    pub fn slot_width(&self) -> usize {
+        let variables = self.chart.first().map_or(0, |&count| count.clamp(0, MAX_VARIABLES as i32));
+        slot_width(variables as usize)
     }
 }

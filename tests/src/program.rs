@@ -1,8 +1,8 @@
-//! The walk program: one go line and one chart in, one listing or refusal out.
+//! The walk program: one go line and one chart in, one listing, path or refusal out.
 
 use crate::analysis::{check_budget, check_settings, Analysis, Merge, Order, Settings, Stop};
 use crate::chart::Chart;
-use crate::listing::{listing, refusal_line};
+use crate::listing::{refusal_line, Report};
 use crate::reader;
 use crate::refusal::{Reason, Refusal};
 use crate::text;
@@ -17,18 +17,29 @@ pub struct GoLine {
     pub budget: u32,
 }
 
-pub fn respond(input: &[u8]) -> Vec<u8> {
-    printed(&walk(input))
+/// What the program's arguments ask it to print of an input; help, and what it says of other arguments,
+/// are the program's own.
+pub fn asked(arguments: &[impl AsRef<[u8]>]) -> Option<Report> {
+    match arguments {
+        [] => Some(Report::Listing),
+        [word] if word.as_ref() == b"path" => Some(Report::Path),
+        _ => None,
+    }
+}
+
+pub fn respond(report: Report, input: &[u8]) -> Vec<u8> {
+    printed(report, &walk(input))
 }
 
 /// A chart and its analysis, as far as the budget goes, or why there is none.
 pub type Walked = Result<(Chart, Analysis), Refusal>;
 
-pub fn printed(walked: &Walked) -> Vec<u8> {
-    match walked {
-        Ok((chart, analysis)) => listing(chart, analysis),
-        Err(refusal) => refusal_line(*refusal),
-    }
+pub fn printed(report: Report, walked: &Walked) -> Vec<u8> {
+    let text = match walked {
+        Ok((chart, analysis)) => report.text(chart, analysis).map_err(Refusal::from),
+        Err(refusal) => Err(*refusal),
+    };
+    text.unwrap_or_else(refusal_line)
 }
 
 /// An input without its go line.

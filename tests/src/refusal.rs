@@ -22,6 +22,7 @@ pub enum Reason {
     AnalysisForm = 21,
     Finished = 22,
     IterationLimit = 23,
+    NoAlarm = 24,
 }
 
 /// A reason and the line it applies to, counted from 1; 0 where none does.

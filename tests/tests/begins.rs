@@ -141,7 +141,7 @@ const WRONG_BUILDS: [(&str, Build); 22] = [
         let before = memory.clone();
         let answer = right(begin, memory);
         if answer == 0 {
-            let unused = memory.record.used as usize * (memory.chart[0] as usize + 1);
+            let unused = memory.record.used as usize * memory.slot_width();
             memory.table[unused..].copy_from_slice(&before.table[unused..]);
         }
         answer

@@ -1,9 +1,9 @@
 //! The worked cases and the examples: each input fed to the walk program, byte for byte.
 
 use reference::explorer::Explorer;
-use reference::program::{chart_part, respond};
+use reference::program::{asked, chart_part, respond};
 use reference::reader;
-use reference::worked::{cases, examples, Worked};
+use reference::worked::{cases, example_paths, examples, Worked};
 
 #[test]
 fn every_case_prints_what_is_expected() {
@@ -15,12 +15,23 @@ fn every_example_prints_what_is_expected() {
     assert_prints(&examples());
 }
 
+/// Each that raises an alarm has a path beside it, and no other.
+#[test]
+fn every_path_of_an_example_is_what_is_expected() {
+    let names = |all: &[Worked]| all.iter().map(|each| each.name.clone()).collect::<Vec<_>>();
+    let mut alarms = examples();
+    alarms.retain(|example| verdict(example) == "alarm");
+    assert_eq!(names(&example_paths()), names(&alarms));
+    assert_prints(&example_paths());
+}
+
 fn assert_prints(all: &[Worked]) {
-    let differing: Vec<&str> = all
-        .iter()
-        .filter(|worked| respond(&worked.input) != worked.output)
-        .map(|worked| worked.name.as_str())
-        .collect();
+    let prints = |worked: &Worked| {
+        let report = asked(&worked.arguments).expect("the arguments ask for something");
+        respond(report, &worked.input) == worked.output
+    };
+    let differing: Vec<&str> =
+        all.iter().filter(|worked| !prints(worked)).map(|worked| worked.name.as_str()).collect();
     assert!(differing.is_empty(), "{} differ: {differing:#?}", differing.len());
 }
 
@@ -54,8 +65,11 @@ fn every_example_means_what_its_description_says() {
 fn found(example: &Worked) -> (String, String, bool) {
     let chart = reader::read(chart_part(&example.input)).expect("an example is accepted");
     let explorer = Explorer::new(&chart, 200_000).expect("an example has few states");
-    let output = String::from_utf8_lossy(&example.output);
-    let verdict = output.split('\t').nth(4).unwrap_or_default();
     let is_wrong = explorer.reaches_error() || explorer.overruns();
-    (example.name.clone(), verdict.to_string(), is_wrong)
+    (example.name.clone(), verdict(example), is_wrong)
+}
+
+/// As its listing has it.
+fn verdict(example: &Worked) -> String {
+    String::from_utf8_lossy(&example.output).split('\t').nth(4).unwrap_or_default().to_string()
 }

@@ -1,20 +1,25 @@
 //! The generators reach everything there is to compare: every operation and
-//! relation, every refusal number, every verdict and every corner of an analysis
-//! and of a begin; and neither overruns nor safe charts are rare.
+//! relation, every refusal number, every verdict and every corner of an analysis,
+//! of a begin and of a path; and neither overruns nor safe charts are rare.
 
 use std::ops::RangeInclusive;
 
 use reference::analysis::{Analysis, Merge, Verdict};
 use reference::begins::{begin_corners, begin_corners_of, spent_corner_of, spent_corners};
 use reference::chart::{Chart, Operand, Operation};
-use reference::coverage::{corner_labels, corner_labels_of, program_label, program_labels, Met};
+use reference::coverage::{
+    corner_labels, corner_labels_of, path_labels, program_label, program_labels, Met,
+};
 use reference::explorer::Explorer;
+use reference::listing::Report;
+use reference::paths::{alarm_corners, alarm_corners_of, path_corners, path_corners_of};
 use reference::program::{printed, read_go_line, walk};
 use reference::random::charts::small;
 use reference::random::{calls, count_at_least, inputs, permitted_settings, seed, Random};
 
 const INPUTS: usize = 14_000;
 const BEGINS: usize = 8_000;
+const PATHS: usize = 10_000;
 /// Of each, so that another seed finds it too.
 const FEWEST: usize = 20;
 /// Of what becomes of a budget.
@@ -24,12 +29,15 @@ const FEWEST_BUDGETS: usize = 5;
 fn inputs_meet_every_refusal_verdict_and_corner() {
     let mut random = Random::new(seed());
     let (mut met, mut corners, mut budgets) = (Met::new(), Met::new(), Met::new());
+    let (mut met_by_path, mut paths) = (Met::new(), Met::new());
     for _ in 0..count_at_least(INPUTS) {
         let input = inputs::program_input(&mut random);
         let walked = walk(&input);
-        met.add(program_label(&printed(&walked)));
-        if let Ok((_, analysis)) = walked {
+        met.add(program_label(&printed(Report::Listing, &walked)));
+        met_by_path.add(program_label(&printed(Report::Path, &walked)));
+        if let Ok((chart, analysis)) = walked {
             corners.add_all(corner_labels_of(&analysis));
+            paths.add_all(alarm_corners_of(&chart, &analysis));
             let (go, _) = read_go_line(&input).expect("it is accepted");
             budgets.add(spent_corner_of(go.budget, &analysis));
         }
@@ -37,6 +45,19 @@ fn inputs_meet_every_refusal_verdict_and_corner() {
     met.assert_exactly(&program_labels(), FEWEST);
     corners.assert_exactly(&corner_labels(), FEWEST);
     budgets.assert_exactly(&spent_corners(), FEWEST_BUDGETS);
+    met_by_path.assert_exactly(&path_labels(), FEWEST);
+    paths.assert_exactly(&alarm_corners(), FEWEST);
+}
+
+#[test]
+fn path_calls_meet_every_corner() {
+    let mut random = Random::new(seed() ^ 5);
+    let mut corners = Met::new();
+    for _ in 0..count_at_least(PATHS) {
+        let (lent, space) = calls::lent_to_path(&mut random);
+        corners.add_all(path_corners_of(&lent, space));
+    }
+    corners.assert_exactly(&path_corners(), FEWEST);
 }
 
 #[test]

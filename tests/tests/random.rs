@@ -9,6 +9,7 @@ use reference::coverage::{
     program_labels, Met,
 };
 use reference::explorer::Explorer;
+use reference::listing::Report;
 use reference::program::respond;
 use reference::random::charts::small;
 use reference::random::{count, count_at_least, inputs, permitted_settings, seed, Random};
@@ -119,7 +120,7 @@ fn every_input_has_an_answer() {
             let place = random.below(input.len() + 1);
             input.insert(place, random.below(256) as u8);
         }
-        let output = respond(&input);
+        let output = respond(Report::Listing, &input);
         met.add(program_label(&output));
         let text = std::str::from_utf8(&output).expect("names and numbers are text");
         let text = text.strip_suffix('\n').expect("the last line is ended too");

@@ -47,7 +47,7 @@ fn the_chart_held_is_judged_exactly() {
     let (mut accepted, mut refused) = (0, 0);
     for _ in 0..count_at_least(10_000) {
         let chart = inputs::chart(&mut random);
-        let mut memory = Memory::new(&chart, 256 * 9, 256);
+        let mut memory = Memory::new(&chart, 256 * 11, 256);
         assert!(begins_with_a_chart(&memory.chart));
         for _ in 0..random.below(3) {
             if random.percent(20) {

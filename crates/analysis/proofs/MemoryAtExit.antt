@@ -1,55 +1,64 @@
 -- Record and words in form are exactly those of the exploration that they say, also as the semantics' own
 -- exploration: what `run_core` leaves, after `start_core` too, is what document 01's run and 2.9's call put there.
 -- Assumes nothing.
-use Rattle.semantics.proofs.Prelude.{_≡_, refl, sym, ap, subst, _∙_, List, [], _∷_, _++_, map, ℕ, zero, suc, _+_, _-_, _*_, _≤_, min, suc-mul, add-comm, arith, T, ℤ, pos, length, take, drop, replicate, take-append-drop, length-map, take-add, length-take-le}
+use Rattle.semantics.proofs.Prelude.{_≡_, refl, sym, ap, subst, _∙_, List, [], _∷_, _++_, map, nil≢cons, ℕ, zero, suc, _+_, _-_, _*_, _≤_, min, suc-mul, add-comm, arith, T, ℤ, pos, length, take, drop, replicate, take-append-drop, length-map, take-add, take-take, length-drop, length-take-le}
 use Rattle.semantics.specs.Layout.{most-iterations}
 use Rattle.semantics.specs.declared.Analysis.{Analysis}
 use Rattle.semantics.specs.declared.Settings.{Settings}
-use Rattle.semantics.specs.Lists.{each}
 use Rattle.semantics.specs.Chart.{Chart, numbered}
 use Rattle.semantics.specs.Constants.{AbstractState, constants, initial}
-use Rattle.semantics.specs.Algorithm.{Exploration, run, start}
+use Rattle.semantics.specs.Algorithm.{Origin, Exploration, run, start}
 use Rattle.semantics.specs.Encoding.{decode, well-formed, padded}
-use Rattle.semantics.specs.Memory.{Memory, width, row, table-of, waitlist-of, analysis-of, load, analysis-ok}
+use Rattle.semantics.specs.Memory.{Memory, stride, tail, slots, table-of, waitlist-of, analysis-of, load, analysis-ok}
 use Rattle.semantics.specs.Outcomes.{started, resumed, begun, put-in}
 use Rattle.semantics.proofs.Encoded.{well-formed-split}
 use Rattle.semantics.proofs.SettingsKept.{run-kept}
 use Rattle.semantics.proofs.Simulate.{AllPairs, ExplorationR, run-R, start-R, same-length}
 use Rattle.state.specs.declared.Layout.{Layout}
-use Rattle.state.specs.Rows.{width-of, rows-of}
+use Rattle.state.specs.Rows.{width-of, rows-of, tails-of}
 use Rattle.state.proofs.Layouts.{LayoutOf}
 use Rattle.waitlist.specs.Waits.{waits}
 use Rattle.reached.specs.Reached.{Kept}
 use Rattle.reached.proofs.Table.{rows-length}
-use Rattle.reached.proofs.FormKept.{in-table}
+use Rattle.reached.proofs.FormKept.{apart, in-table}
 use Rattle.transfer.specs.Transfer.{edges-from, initial-row}
 use Rattle.transfer.proofs.Agree.{Says, SameEdge, edges-say, agree, initial-says}
 use Rattle.progress.specs.Progress.{load-of}
 use Rattle.analysis.specs.Loaded.{domain-of, Loaded}
 use Rattle.analysis.proofs.RunEntry.{entry-says}
 
--- ---- the words of a table in form are its rows, then zeros
+-- ---- the words of a table in form are its slots, then zeros
 
-abbrev flat : List (List ℤ) → List ℤ
-flat en = each (λ e. e) en
-
-flat-rows : (y : Layout) → y .stride ≡ width-of y → (n : ℕ) (t : List ℤ) → flat (rows-of y n t) ≡ take (n * y .stride) t
-flat-rows y p zero t = let z : 0 * y .stride ≡ 0 = omega arith in rw z
-flat-rows y p (suc n) t =
+-- the states that the rows say, and the origins after them, in words
+slots-said : (c : Chart) (y : Layout) → width-of y ≤ y .stride → (n : ℕ) (t : List ℤ) → n * y .stride ≤ length t → (es : List AbstractState) (os : List Origin)
+    → AllPairs (Says c) (rows-of y n t) es → tails-of y n t ≡ map tail os → slots es os ≡ take (n * y .stride) t
+slots-said c y p zero t l [] os a e = let z : 0 * y .stride ≡ 0 = omega arith in rw z
+slots-said c y p zero t l (f ∷ es) os a e = absurd a
+slots-said c y p (suc n) t l [] os a e = absurd a
+slots-said c y p (suc n) t l (f ∷ es) [] a e = absurd (nil≢cons (sym e))
+slots-said c y p (suc n) t l (f ∷ es) (o ∷ os) a e =
+    let w = width-of y in
     let d = y .stride in
-    let e : suc n * d ≡ d + n * d = suc-mul n d ∙ add-comm (n * d) d in
-    rw e ((λ i. take (sym p i) t ++ flat-rows y p n (drop d t) i) ∙ sym (take-add d (n * d) t))
+    let m : suc n * d ≡ d + n * d = suc-mul n d ∙ add-comm (n * d) d in
+    let own : drop w (take d t) ≡ tail o = cc in
+    let rest : tails-of y n (drop d t) ≡ map tail os = cc in
+    let later = slots-said c y p n (drop d t) (omega (arith, length-drop d t, m)) es os (a .1) rest in
+    rw m (
+    (λ i. (sym (a .0 .words) i ++ sym own i) ++ later i)
+    ∙ ap (λ (r : List ℤ). (r ++ drop w (take d t)) ++ take (n * d) (drop d t)) (sym (take-take w d t p))
+    ∙ ap (λ (r : List ℤ). r ++ take (n * d) (drop d t)) (take-append-drop w (take d t))
+    ∙ sym (take-add d (n * d) t)
+    )
 
 module _ {y : Layout} {t l : List ℤ} {used waiting : ℕ} (k : Kept y t l used waiting) where
-  table-padded : y .stride ≡ width-of y → t ≡ padded (length l * y .stride) (flat (rows-of y used t))
-  table-padded p =
+  table-padded : (ws : List ℤ) → ws ≡ take (used * y .stride) t → t ≡ padded (length l * y .stride) ws
+  table-padded ws f =
       let d = y .stride in
-      let f = flat-rows y p used t in
-      let n : length (flat (rows-of y used t)) ≡ used * d = ap length f ∙ length-take-le (used * d) t (in-table k) in
-      let z : length t - used * d ≡ length l * d - length (flat (rows-of y used t)) = omega (arith, n, k .table) in
+      let n : length ws ≡ used * d = ap length f ∙ length-take-le (used * d) t (in-table k) in
+      let z : length t - used * d ≡ length l * d - length ws = omega (arith, n, k .table) in
       sym (take-append-drop (used * d) t) ∙ ap (λ (x : List ℤ). x ++ drop (used * d) t) (sym f)
-      ∙ ap (λ (x : List ℤ). flat (rows-of y used t) ++ x) (k .rest)
-      ∙ ap (λ (m : ℕ). flat (rows-of y used t) ++ replicate m (pos 0)) z
+      ∙ ap (λ (x : List ℤ). ws ++ x) (k .rest)
+      ∙ ap (λ (m : ℕ). ws ++ replicate m (pos 0)) z
 
   list-padded : l ≡ padded (length l) (map pos (waits waiting l))
   list-padded =
@@ -65,12 +74,6 @@ pub record Stores (c : Chart) (a : Analysis) (t l : List ℤ) (v : Exploration A
   pub waitlist : l ≡ waitlist-of v
   pub analysis : a ≡ analysis-of v
 
-rows-said : (c : Chart) (en : List (List ℤ)) (fs : List AbstractState) → AllPairs (Says c) en fs → flat en ≡ each row fs
-rows-said c [] [] a = refl
-rows-said c [] (f ∷ fs) a = absurd a
-rows-said c (e ∷ en) [] a = absurd a
-rows-said c (e ∷ en) (f ∷ fs) a = let p = a .0 .words in let q = rows-said c en fs (a .1) in λ i. p i ++ q i
-
 module _ (c : Chart) (y : Layout) (o : LayoutOf c y) (last : ℕ) (a : Analysis) (t l : List ℤ) where
   pub stores : (x : Exploration (List ℤ)) (v : Exploration AbstractState) → Loaded y last a t l x → ExplorationR (Says c) x v → Stores c a t l v
   stores x v h s = go (subst (λ (z : Exploration (List ℤ)). ExplorationR (Says c) z v) (sym (h .load)) s)
@@ -80,12 +83,12 @@ module _ (c : Chart) (y : Layout) (o : LayoutOf c y) (last : ℕ) (a : Analysis)
 
       go : ExplorationR (Says c) (load-of y a t l) v → Stores c a t l v
       go q =
-          let rows = rows-said c (rows-of y (a .used) t) (v .reached) (q .reached) in
+          let words = slots-said c y (apart k) (a .used) t (in-table k) (v .reached) (v .origins) (q .reached) (k .origins ∙ ap (map tail) (q .origins)) in
           let used : a .used ≡ length (v .reached) = sym (rows-length y (a .used) t) ∙ same-length (Says c) (rows-of y (a .used) t) (v .reached) (q .reached) in
           let waiting : a .waiting ≡ length (v .waitlist) = k .slots .count ∙ ap length (q .waitlist) in
           let size : length l ≡ v .capacity = h .form .capacity ∙ q .capacity in
           record {
-            table = table-padded k (o .stride ∙ sym (o .wide)) ∙ (λ i. padded (size i * o .stride i) (rows i));
+            table = table-padded k (slots (v .reached) (v .origins)) words ∙ (λ i. padded (size i * o .stride i) (slots (v .reached) (v .origins)));
             waitlist = list-padded k ∙ (λ i. padded (size i) (map pos (q .waitlist i)));
             analysis = λ i. record {
               settings = q .settings i;
@@ -124,7 +127,7 @@ module _ (c : Chart) (y : Layout) (o : LayoutOf c y) (m : Memory) (r : Analysis)
 
 module _ (ws : List ℤ) (ok : T (well-formed ws)) (y : Layout) (o : LayoutOf (decode ws) y) (m : Memory) (r : Analysis) (t l : List ℤ) where
   -- a run with a budget, from the capacity's words of an analysis in form
-  pub run-at-exit : m .analysis .capacity * width (decode ws) ≤ length (m .table) → m .analysis .capacity ≤ length (m .waitlist) → T (analysis-ok (decode ws) m) → (budget : ℕ)
+  pub run-at-exit : m .analysis .capacity * stride (decode ws) ≤ length (m .table) → m .analysis .capacity ≤ length (m .waitlist) → T (analysis-ok (decode ws) m) → (budget : ℕ)
       → Loaded y (length (decode ws .edges)) r t l (run (domain-of ws) (edges-from 0 (length (decode ws .edges))) (min budget (most-iterations - m .analysis .iterations))
       (load-of y (m .analysis) (take (m .analysis .capacity * y .stride) (m .table)) (take (m .analysis .capacity) (m .waitlist))))
       → put-in (decode ws) (resumed (decode ws) (pos budget) (load (decode ws) m)) m

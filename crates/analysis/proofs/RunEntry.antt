@@ -7,7 +7,7 @@ use Rattle.semantics.specs.declared.Verdict.the-variants.{Open, Safe, Alarm, Fu
 use Rattle.semantics.specs.Lists.{In, some-of, all}
 use Rattle.semantics.specs.Chart.{Chart, eqZ}
 use Rattle.semantics.specs.Tidy.{Distinct, Queue, Tidy}
-use Rattle.semantics.specs.Memory.{Memory, width, load, below, each-once, zeros, is-alarm, empty-if-safe, analysis-ok}
+use Rattle.semantics.specs.Memory.{Memory, stride, origin-in, load, below, each-once, zeros, is-alarm, empty-if-safe, analysis-ok}
 use Rattle.semantics.proofs.Bools.{and-left, and-right}
 use Rattle.semantics.proofs.Tidy.{some-not}
 use Rattle.semantics.proofs.MemoryOf.{counted}
@@ -16,14 +16,14 @@ use Rattle.semantics.proofs.Simulate.{ExplorationR}
 use Rattle.semantics.proofs.AtAndIn.{clash}
 use Rattle.semantics.proofs.Encoded.{every-any}
 use Rattle.state.specs.declared.Layout.{Layout}
-use Rattle.state.specs.Rows.{rows-of}
-use Rattle.state.proofs.Layouts.{LayoutOf, slots-in}
+use Rattle.state.specs.Rows.{rows-of, tails-of}
+use Rattle.state.proofs.Layouts.{LayoutOf, slots-in, origins-say}
 use Rattle.waitlist.specs.Waits.{waits, Stored}
 use Rattle.waitlist.proofs.WaitWords.{any-some}
 use Rattle.reached.specs.Reached.{Kept}
-use Rattle.reached.proofs.Table.{rows-length, rows-prefix}
+use Rattle.reached.proofs.Table.{rows-length, rows-prefix, tails-prefix}
 use Rattle.transfer.proofs.Agree.{Says}
-use Rattle.transfer.proofs.RowsSayStates.{rows-say}
+use Rattle.transfer.proofs.RowsSayStates.{rows-say, tails-say}
 use Rattle.progress.specs.Progress.{load-of}
 use Rattle.analysis.specs.Loaded.{Any, Resumable}
 
@@ -72,7 +72,7 @@ alarm-only Full false t h = t
 
 -- ---- the capacity's words
 
-module _ (c : Chart) (y : Layout) (o : LayoutOf c y) (m : Memory) (lt : m .analysis .capacity * width c ≤ length (m .table)) (ll : m .analysis .capacity ≤ length (m .waitlist)) (ok : T (analysis-ok c m)) where
+module _ (c : Chart) (y : Layout) (o : LayoutOf c y) (m : Memory) (lt : m .analysis .capacity * stride c ≤ length (m .table)) (ll : m .analysis .capacity ≤ length (m .waitlist)) (ok : T (analysis-ok c m)) where
   abbrev pub table-in : List ℤ
   table-in = take (m .analysis .capacity * y .stride) (m .table)
 
@@ -94,12 +94,24 @@ module _ (c : Chart) (y : Layout) (o : LayoutOf c y) (m : Memory) (lt : m .analy
   table-fits : m .analysis .capacity * y .stride ≤ length (m .table)
   table-fits = slots-in o (m .analysis .capacity) (length (m .table)) lt
 
+  abbrev in-use-size : ℕ
+  in-use-size = m .analysis .used * y .stride
+
+  in-room : in-use-size ≤ m .analysis .capacity * y .stride
+  in-room = mul-le-mul-right (y .stride) few
+
+  -- the slots in use stand in the table, and before whatever else stands in the capacity's words
+  in-use-fits : m .analysis .used * stride c ≤ length (m .table)
+  in-use-fits = subst (λ (d : ℕ). m .analysis .used * d ≤ length (m .table)) (o .stride) (omega (arith, in-room, table-fits))
+
+  table-parts : table-in ≡ take in-use-size (m .table) ++ drop in-use-size table-in
+  table-parts = sym (take-append-drop in-use-size table-in) ∙ ap (λ (x : List ℤ). x ++ drop in-use-size table-in) (take-take in-use-size (m .analysis .capacity * y .stride) (m .table) in-room)
+
   rows-in : rows-of y (m .analysis .used) table-in ≡ rows-of y (m .analysis .used) (m .table)
-  rows-in =
-      let n = m .analysis .used * y .stride in
-      let le : n ≤ m .analysis .capacity * y .stride = mul-le-mul-right (y .stride) few in
-      ap (rows-of y (m .analysis .used)) (sym (take-append-drop n table-in) ∙ ap (λ (x : List ℤ). x ++ drop n table-in) (take-take n (m .analysis .capacity * y .stride) (m .table) le))
-      ∙ rows-prefix y (omega (arith, o .wide, o .stride)) (m .analysis .used) (m .table) (drop n table-in) (omega (arith, le, table-fits))
+  rows-in = ap (rows-of y (m .analysis .used)) table-parts ∙ rows-prefix y (omega (arith, o .wide, o .stride)) (m .analysis .used) (m .table) (drop in-use-size table-in) (omega (arith, in-room, table-fits))
+
+  tails-in : tails-of y (m .analysis .used) table-in ≡ tails-of y (m .analysis .used) (m .table)
+  tails-in = ap (tails-of y (m .analysis .used)) table-parts ∙ tails-prefix y (m .analysis .used) (m .table) (drop in-use-size table-in) (omega (arith, in-room, table-fits))
 
   size : length list-in ≡ m .analysis .capacity
   size = length-take-le (m .analysis .capacity) (m .waitlist) ll
@@ -133,11 +145,12 @@ module _ (c : Chart) (y : Layout) (o : LayoutOf c y) (m : Memory) (lt : m .analy
       let zero : T (zeros (drop n table-in)) = subst (λ (k : ℕ). T (zeros (drop (m .analysis .used * k) (take (m .analysis .capacity * k) (m .table))))) (sym (o .stride)) (f .rest) in
       record {
         wide = omega (arith, o .wide);
-        apart = omega (arith, o .wide, o .stride);
+        tailed = omega (arith, o .wide, o .stride);
         capacity = omega (arith, few, size);
         small = omega (arith, counted (pos (m .analysis .capacity)) (f .capacity) .few, size);
         table = length-take-le (m .analysis .capacity * y .stride) (m .table) table-fits ∙ ap (λ (k : ℕ). k * y .stride) (sym size);
         rest = sym (zeros-back (drop n table-in) zero) ∙ ap (λ (q : ℕ). replicate q (pos 0)) (length-drop n table-in);
+        origins = rw tails-in (tails-say c y o (m .analysis .used) (m .table) in-use-fits (f .rows));
         slots = put;
         queue = queue;
       }
@@ -170,6 +183,7 @@ module _ (c : Chart) (y : Layout) (o : LayoutOf c y) (m : Memory) (lt : m .analy
     capacity = refl;
     iterations = refl;
     reached = rw rows-in (rows-say c y o (m .analysis .used) (m .table) (f .rows));
+    origins = ap (map origin-in) tails-in ∙ origins-say o (m .analysis .used) (m .table);
     waitlist = ap (map natAbs) front;
     verdict = refl;
     edge = refl;

@@ -1,16 +1,16 @@
 -- What an arrival, an iteration and a run ask of record, table words and list words, and what they say after it as an
 -- exploration of rows. Assumes nothing.
 use mathlib.Core.Path.{_≡_}
-use mathlib.Core.List.{List}
+use mathlib.Core.List.{List, [], _++_}
 use Prim.Native.Nat.{ℕ, _+_, _≤_, _<_}
 use lib.IntN.{ℤ}
 use lib.ListN.{length}
 use Rattle.semantics.specs.declared.Analysis.{Analysis}
 use Rattle.semantics.specs.Layout.{index-limit}
-use Rattle.semantics.specs.Algorithm.{Domain, merged, rewait, Out, Exploration}
+use Rattle.semantics.specs.Algorithm.{Domain, merged, rewait, Out, taking, brought, Exploration}
 use Rattle.semantics.specs.Tidy.{Allowed, Tidy}
 use Rattle.state.specs.declared.Layout.{Layout}
-use Rattle.state.specs.Rows.{width-of, most-width, rows-of, row-domain}
+use Rattle.state.specs.Rows.{width-of, most-width, rows-of, origins-of, row-domain}
 use Rattle.waitlist.specs.Waits.{waits}
 use Rattle.reached.specs.Reached.{Kept}
 use Rattle.chart.specs.declared.EdgeRow.{EdgeRow}
@@ -49,12 +49,19 @@ pub record Ready (y : Layout) (a : Analysis) (t l e : List ℤ) : Type 0 where
 pub record Merged (y : Layout) (a : Analysis) (e t l t′ l′ : List ℤ) (r : ℕ) : Type 0 where
   pub rows : rows-of y (a .used) t′ ≡ merged rows-only (a .settings .merge) e (rows-of y (a .used) t)
   pub waiting : waits r l′ ≡ rewait rows-only (a .settings .merge) e (rows-of y (a .used) t) (waits (a .waiting) l)
+  pub origins : origins-of y (a .used) t′ ≡ origins-of y (a .used) t
   pub kept : Kept y t′ l′ (a .used) r
 
 -- the words t, l and the counts p are in form and hold the outcome o
 pub record Progressed (y : Layout) (t l : List ℤ) (p : Progress) (o : Out (List ℤ)) : Type 0 where
   pub out : out-of y t l p ≡ o
   pub kept : Kept y t l (p .used) (p .waiting)
+
+-- the same of one edge n, at slot k: where by it a slot was taken, since there were n₀ in t₀, that one has them for its
+-- origin
+pub record Noted (y : Layout) (n₀ : ℕ) (t₀ : List ℤ) (k n : ℕ) (t l : List ℤ) (p : Progress) (o : Out (List ℤ)) : Type 0 where
+  pub progressed : Progressed y t l p o
+  pub origins : origins-of y (p .used) t ≡ origins-of y n₀ t₀ ++ brought k (taking n n₀ o (λ en wa. []))
 
 -- ---- between iterations
 

@@ -3,6 +3,7 @@
 use chart::EdgeRow;
 use progress::Progress;
 use semantics::Analysis;
+use semantics::EdgeId;
 use semantics::Mode;
 use semantics::Settings;
 use semantics::SlotId;
@@ -10,15 +11,16 @@ use state::Layout;
 use transfer::Move;
 ghost use mathlib.Core.Path.{_≡_};
 ghost use Prim.Native.Nat.{ℕ, _+_, _-_, _*_, _<_, _≤_, min};
+ghost use mathlib.Core.List.{_++_};
 ghost use lib.ListN.{length};
-ghost use Rattle.semantics.specs.Layout.{most-iterations, index-limit};
-ghost use Rattle.semantics.specs.Algorithm.{arrive, visit, visit-all, iteration, run, start};
+ghost use Rattle.semantics.specs.Layout.{most-iterations, index-limit, origin-size};
+ghost use Rattle.semantics.specs.Algorithm.{arrive, visit, visit-all, takers, brought, iteration, run, start};
 ghost use Rattle.semantics.specs.Tidy.{Allowed};
-ghost use Rattle.state.specs.Rows.{width-of, most-width, rows-of};
+ghost use Rattle.state.specs.Rows.{width-of, most-width, word-limit, rows-of, origins-of};
 ghost use Rattle.waitlist.specs.Waits.{waits};
 ghost use Rattle.transfer.specs.Transfer.{edge-at, edges-from, post-at};
 ghost use Rattle.progress.specs.Progress.{rows-only, load-of};
-ghost use Rattle.analysis.specs.Loaded.{Outlined, Ready, Merged, domain-of, Progressed, Resumable, Loaded};
+ghost use Rattle.analysis.specs.Loaded.{Outlined, Ready, Merged, domain-of, Progressed, Noted, Resumable, Loaded};
 
 mod outgoing;
 
@@ -42,11 +44,20 @@ fn merge_by(layout: Layout, a: Analysis, e: &[i32], table: &mut [i32], list: &mu
     }
 }
 
-// A successor that is at no error location: merge, then stop, then store. After a join the test against the join of its
-// slots is the test against one slot, so one test serves both ways to stop. The list has a word for each slot.
-fn arrive(layout: Layout, a: Analysis, e: &[i32], table: &mut [i32], list: &mut [i32]) -> Progress
-    requires { ⌜ Ready layout a (now table) (now list) (now e) ⌝ }
-    ensures { λ p. ⌜ Progressed layout (now (table .exit)) (now (list .exit)) p (arrive rows-only (a .settings) (length (now (list .entry))) (now (e .entry)) (rows-of layout (a .used) (now (table .entry))) (waits (a .waiting) (now (list .entry)))) ⌝ }
+// A successor that is at no error location: merge, then stop, then store, with the slot and the edge that brought it. After
+// a join the test against the join of its slots is the test against one slot, so one test serves both ways to stop. The
+// list has a word for each slot.
+fn arrive(
+    layout: Layout,
+    a: Analysis,
+    e: &[i32],
+    parent: SlotId,
+    edge: EdgeId,
+    table: &mut [i32],
+    list: &mut [i32],
+) -> Progress
+    requires { ⌜ Ready layout a (now table) (now list) (now e) × (parent .0 < word-limit) × (edge .0 < word-limit) ⌝ }
+    ensures { λ p. ⌜ Noted layout (a .used) (now (table .entry)) (parent .0) (edge .0) (now (table .exit)) (now (list .exit)) p (arrive rows-only (a .settings) (length (now (list .entry))) (now (e .entry)) (rows-of layout (a .used) (now (table .entry))) (waits (a .waiting) (now (list .entry)))) ⌝ }
 {
     let used = a.used;
     let count = merge_by(layout, a, e, table, list);
@@ -54,26 +65,27 @@ fn arrive(layout: Layout, a: Analysis, e: &[i32], table: &mut [i32], list: &mut 
         return progress::went_on(used, count);
     }
     if used < list.len() {
-        reached::put_row(layout, table, SlotId(used), e);
+        reached::put_slot(layout, table, SlotId(used), e, parent, edge);
         let more = waitlist::append(list, count, SlotId(used));
         return progress::went_on(used + 1, more);
     }
     progress::table_full(used, count)
 }
 
-// One edge, with the copy of the taken state. `next` is a row lent for the successor.
+// One edge, with the copy of the taken state and its slot. `next` is a row lent for the successor.
 fn visit(
     chart: &[i32],
     edge: EdgeRow,
     layout: Layout,
     a: Analysis,
+    slot: SlotId,
     copy: &[i32],
     next: &mut [i32],
     table: &mut [i32],
     list: &mut [i32],
 ) -> Progress
-    requires { ⌜ Ready layout a (now table) (now list) (now copy) × (length (now next) ≡ length (now copy)) × (edge .at < index-limit) ⌝ }
-    ensures { λ p. ⌜ Progressed layout (now (table .exit)) (now (list .exit)) p (visit (domain-of (now (chart .entry))) (a .settings) (length (now (list .entry))) (edge .id .0) (post-at (now (chart .entry)) (edge .at) (now (copy .entry))) (rows-of layout (a .used) (now (table .entry))) (waits (a .waiting) (now (list .entry)))) ⌝ }
+    requires { ⌜ Ready layout a (now table) (now list) (now copy) × (length (now next) ≡ length (now copy)) × (edge .at < index-limit) × (slot .0 < word-limit) × (edge .id .0 < word-limit) ⌝ }
+    ensures { λ p. ⌜ Noted layout (a .used) (now (table .entry)) (slot .0) (edge .id .0) (now (table .exit)) (now (list .exit)) p (visit (domain-of (now (chart .entry))) (a .settings) (length (now (list .entry))) (edge .id .0) (post-at (now (chart .entry)) (edge .at) (now (copy .entry))) (rows-of layout (a .used) (now (table .entry))) (waits (a .waiting) (now (list .entry)))) ⌝ }
 {
     match transfer::successor(chart, edge, copy, next) {
         Move::Blocked => progress::went_on(a.used, a.waiting),
@@ -82,7 +94,7 @@ fn visit(
             if transfer::is_error(chart, next) {
                 return progress::alarm_by(edge.id, a.used, a.waiting);
             }
-            arrive(layout, a, next, table, list)
+            arrive(layout, a, next, slot, edge.id, table, list)
         }
     }
 }
@@ -94,12 +106,14 @@ fn visit_all(
     heads: &[usize],
     nexts: &[usize],
     a: Analysis,
+    slot: SlotId,
     copy: &[i32],
     table: &mut [i32],
     list: &mut [i32],
 ) -> Progress
-    requires { ⌜ Ready (outline .layout) a (now table) (now list) (now copy) × Outlined (now chart) outline (now heads) (now nexts) ⌝ }
-    ensures { λ p. ⌜ Progressed (outline .layout) (now (table .exit)) (now (list .exit)) p (visit-all (domain-of (now (chart .entry))) (a .settings) (length (now (list .entry))) (now (copy .entry)) (edges-from 0 (outline .edges)) (rows-of (outline .layout) (a .used) (now (table .entry))) (waits (a .waiting) (now (list .entry)))) ⌝ }
+    requires { ⌜ Ready (outline .layout) a (now table) (now list) (now copy) × Outlined (now chart) outline (now heads) (now nexts) × (slot .0 < word-limit) ⌝ }
+    ensures progressed { λ p. ⌜ Progressed (outline .layout) (now (table .exit)) (now (list .exit)) p (visit-all (domain-of (now (chart .entry))) (a .settings) (length (now (list .entry))) (now (copy .entry)) (edges-from 0 (outline .edges)) (rows-of (outline .layout) (a .used) (now (table .entry))) (waits (a .waiting) (now (list .entry)))) ⌝ }
+    ensures origins { λ p. ⌜ origins-of (outline .layout) (p .used) (now (table .exit)) ≡ origins-of (outline .layout) (a .used) (now (table .entry)) ++ brought (slot .0) (takers (domain-of (now (chart .entry))) (a .settings) (length (now (list .entry))) (now (copy .entry)) (edges-from 0 (outline .edges)) (rows-of (outline .layout) (a .used) (now (table .entry))) (waits (a .waiting) (now (list .entry)))) ⌝ }
 {
     let layout = outline.layout;
     let first = outline.first;
@@ -116,6 +130,7 @@ fn visit_all(
             edge,
             layout,
             at,
+            slot,
             copy,
             &mut next[..width],
             table,
@@ -152,7 +167,7 @@ fn iteration_with(
     let slot = waitlist::take_slot(order, list, a.waiting);
     reached::get_row(layout, table, slot, copy);
     let taken = progress::with_counts(a, a.used, a.waiting - 1);
-    let p = visit_all(chart, outline, heads, nexts, taken, copy, table, list);
+    let p = visit_all(chart, outline, heads, nexts, taken, slot, copy, table, list);
     progress::finish(a, slot, p, list)
 }
 
@@ -262,12 +277,19 @@ pub fn start_core(
     list: &mut [i32],
     row: &[i32],
 ) -> Analysis
-    requires { ⌜ (0 < length (now row)) × (length (now row) ≡ width-of layout) × (width-of layout ≤ layout .stride) × (0 < capacity) × (capacity < index-limit) × (length (now table) ≡ capacity * layout .stride) × (length (now list) ≡ capacity) × Allowed settings ⌝ }
+    requires { ⌜ (0 < length (now row)) × (length (now row) ≡ width-of layout) × (layout .stride ≡ width-of layout + origin-size) × (0 < capacity) × (capacity < index-limit) × (length (now table) ≡ capacity * layout .stride) × (length (now list) ≡ capacity) × Allowed settings ⌝ }
     ensures { λ r. ⌜ ((last : ℕ) → Loaded layout last r (now (table .exit)) (now (list .exit)) (start (domain-of (now (chart .entry))) settings capacity (now (row .entry)))) ⌝ }
 {
     words::fill_zero(table);
     words::fill_zero(list);
-    reached::put_row(layout, table, SlotId(0), row);
+    reached::put_slot(
+        layout,
+        table,
+        SlotId(0),
+        row,
+        SlotId(semantics::NO_SLOT),
+        EdgeId(0),
+    );
     let count = waitlist::append(list, 0, SlotId(0));
     let error = transfer::is_error(chart, row);
     progress::first_record(settings, capacity, count, error)

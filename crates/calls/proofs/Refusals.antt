@@ -4,7 +4,7 @@ use Rattle.semantics.proofs.Bools.{passed}
 use Rattle.semantics.specs.declared.Settings.{Settings}
 use Rattle.semantics.specs.Algorithm.{allowed}
 use Rattle.semantics.specs.Encoding.{decode, well-formed}
-use Rattle.semantics.specs.Memory.{Memory, width, capacity-ok}
+use Rattle.semantics.specs.Memory.{Memory, stride, capacity-ok}
 use Rattle.semantics.specs.Outcomes.{Outcome, refusal, refused-by, settled, budget-ok, size-of, form-of, begin-cases, run-cases}
 use Rattle.semantics.proofs.FirstCase.{none-met, enough, refused-stays, goes}
 use Rattle.checks.specs.Form.{InForm}
@@ -17,7 +17,7 @@ pub record BeginPasses (ws : List ℤ) (z : Settings) (r a : ℤ) (t l : ℕ) : 
   pub settings : T (allowed (z .merge) (z .stop))
   pub budget : T (budget-ok a)
   pub chart : T (well-formed ws)
-  pub room : (natAbs r * width (decode ws) ≤ t) × (natAbs r ≤ l)
+  pub room : (natAbs r * stride (decode ws) ≤ t) × (natAbs r ≤ l)
 
 pub begin-passes : (ws : List ℤ) (z : Settings) (r a : ℤ) (t l : ℕ) → refusal (begin-cases z r a (size-of ws (natAbs r) t l)) ≡ 0 → BeginPasses ws z r a t l
 begin-passes ws z r a t l e =

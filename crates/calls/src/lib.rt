@@ -12,7 +12,7 @@ ghost use Rattle.semantics.specs.Layout.{most-slots, most-iterations, index-lim
 ghost use Rattle.semantics.specs.declared.Analysis.{Analysis};
 ghost use Rattle.semantics.specs.Algorithm.{start, run, allowed};
 ghost use Rattle.semantics.specs.Encoding.{decode, well-formed};
-ghost use Rattle.semantics.specs.Memory.{width, load};
+ghost use Rattle.semantics.specs.Memory.{stride, load};
 ghost use Rattle.state.specs.Rows.{width-of, most-width};
 ghost use Rattle.checks.specs.Form.{lent, InForm};
 ghost use Rattle.analysis.specs.Loaded.{domain-of, Loaded};
@@ -154,7 +154,7 @@ fn begin_through(
     table: &mut [i32],
     list: &mut [i32],
 ) -> Analysis
-    requires { ⌜ T (well-formed (now chart)) × T (allowed (settings .merge) (settings .stop)) × (1 ≤ capacity) × (capacity ≤ most-slots) × (capacity * width (decode (now chart)) ≤ length (now table)) × (capacity ≤ length (now list)) ⌝ }
+    requires { ⌜ T (well-formed (now chart)) × T (allowed (settings .merge) (settings .stop)) × (1 ≤ capacity) × (capacity ≤ most-slots) × (capacity * stride (decode (now chart)) ≤ length (now table)) × (capacity ≤ length (now list)) ⌝ }
     ensures { λ r. ⌜ ((a : Analysis) → put-in (decode (now (chart .entry))) (begun (decode (now (chart .entry))) settings (pos capacity) (pos budget)) (lent (now (table .entry)) (now (list .entry)) a) ≡ lent (now (table .exit)) (now (list .exit)) r) ⌝ }
 {
     let layout = state::layout_of(chart);

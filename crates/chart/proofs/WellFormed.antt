@@ -79,6 +79,18 @@ module _ (ws : List ℤ) where
   abbrev e-rows : List ℤ
   e-rows = past location-size (location-count ws) l-rows
 
+  -- where they stand
+  l-at : l-rows ≡ drop (locations-at ws) ws
+  l-at = past-drop variable-size (variable-count ws) v-rows ∙ drop-drop (variable-size * variable-count ws) counts-size ws
+
+  e-at : e-rows ≡ drop (edges-at ws) ws
+  e-at = past-drop location-size (location-count ws) l-rows ∙ ap (drop (location-size * location-count ws)) l-at ∙ drop-drop (location-size * location-count ws) (locations-at ws) ws
+
+  -- the chart's edges, by the place of their rows
+  pub edges-by-place : decode ws .edges ≡ several edge-in edge-size (edge-count ws) (drop (edges-at ws) ws)
+  unfolding decode
+  edges-by-place = ap (several edge-in edge-size (edge-count ws)) e-at
+
   -- each row is what its decoding encodes to; and that is what reading can produce
   abbrev exact-vars : Bool
   exact-vars = all (exact var-words var-in) (rows variable-size (variable-count ws) v-rows)
@@ -149,12 +161,6 @@ no-counts ws e = go (leb counts-size (length ws)) refl where
   go false t = no-room ws (omega (arith, leb-false counts-size (length ws) t))
 
 module _ (ws : List ℤ) (room : edges-at ws + edge-size * edge-count ws ≤ length ws) where
-  l-at : l-rows ws ≡ drop (locations-at ws) ws
-  l-at = past-drop variable-size (variable-count ws) (drop counts-size ws) ∙ drop-drop (variable-size * variable-count ws) counts-size ws
-
-  e-at : e-rows ws ≡ drop (edges-at ws) ws
-  e-at = past-drop location-size (location-count ws) (l-rows ws) ∙ ap (drop (location-size * location-count ws)) l-at ∙ drop-drop (location-size * location-count ws) (locations-at ws) ws
-
   vars-exact : exact-vars ws ≡ true
   vars-exact = rows-same (exact var-words var-in) (λ r. true) variable-size var-row (variable-count ws) (v-rows ws) (simp length-drop (omega arith)) ∙ every-true (rows variable-size (variable-count ws) (v-rows ws))
 
@@ -162,7 +168,7 @@ module _ (ws : List ℤ) (room : edges-at ws + edge-size * edge-count ws ≤ len
   locations-are =
       rw (all-rows loc-in location-size (λ l. name-ok (l .name)) (location-count ws) (l-rows ws))
       (all-and (exact loc-words loc-in) (λ r. name-ok (loc-in r .name)) (rows location-size (location-count ws) (l-rows ws))
-      ∙ rows-same (λ r. exact loc-words loc-in r && name-ok (loc-in r .name)) location-fine location-size location-row (location-count ws) (l-rows ws) (rw l-at (simp length-drop (omega arith))))
+      ∙ rows-same (λ r. exact loc-words loc-in r && name-ok (loc-in r .name)) location-fine location-size location-row (location-count ws) (l-rows ws) (rw (l-at ws) (simp length-drop (omega arith))))
 
   edges-are : exact-edges ws && all (edge-ok (decode ws)) (several edge-in edge-size (edge-count ws) (e-rows ws))
       ≡ all (edge-fine (v-rows ws) (variable-count ws) (location-count ws)) (rows edge-size (edge-count ws) (e-rows ws))
@@ -172,7 +178,7 @@ module _ (ws : List ℤ) (room : edges-at ws + edge-size * edge-count ws ≤ len
       let row = edge-row c (v-rows ws) (λ k z h. range-words (variable-count ws) k (v-rows ws) z (rw (vars-count ws) at h)) in
       rw (all-rows edge-in edge-size (edge-ok c) (edge-count ws) (e-rows ws))
       (all-and (exact edge-words edge-in) (λ r. edge-ok c (edge-in r)) (rows edge-size (edge-count ws) (e-rows ws))
-      ∙ rows-same (λ r. exact edge-words edge-in r && edge-ok c (edge-in r)) (edge-fine (v-rows ws) (length (c .vars)) (length (c .locs))) edge-size row (edge-count ws) (e-rows ws) (rw e-at (simp length-drop (omega arith)))
+      ∙ rows-same (λ r. exact edge-words edge-in r && edge-ok c (edge-in r)) (edge-fine (v-rows ws) (length (c .vars)) (length (c .locs))) edge-size row (edge-count ws) (e-rows ws) (rw (e-at ws) (simp length-drop (omega arith)))
       ∙ rw (vars-count ws, locs-count ws))
 
   pub by-rows : counts-fine ws ≡ true → well-formed ws ≡ rows-fine ws
@@ -182,4 +188,4 @@ module _ (ws : List ℤ) (room : edges-at ws + edge-size * edge-count ws ≤ len
       parts ws (omega arith)
       ∙ rw (e, vars-exact)
       (shuffle-rows (exact-locs ws) (exact-edges ws) (all var-ok (c .vars)) (all (λ l. name-ok (l .name)) (c .locs)) (distinct-names (c .locs)) (all (edge-ok c) (c .edges))
-      ∙ rw (locations-are, edges-are, e-at, l-at))
+      ∙ rw (locations-are, edges-are, e-at ws, l-at ws))

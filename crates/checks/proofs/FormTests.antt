@@ -1,19 +1,19 @@
 -- Facts behind the form check: the loops' turns, the two parts of rule 21, and what 20, 14 and 21 ask.
 -- Assumes nothing.
-use Rattle.semantics.proofs.Prelude.{_≡_, refl, ap, sym, _∙_, Bool, true, false, _&&_, _||_, not, List, [], _∷_, _++_, ℕ, suc, _+_, _*_, _<_, add-zero, add-one, arith, ℤ, pos, length, drop, drop-cons, drop-drop, getD-drop}
+use Rattle.semantics.proofs.Prelude.{_≡_, refl, ap, sym, _∙_, Bool, true, false, _&&_, _||_, not, and-assoc, and-true, List, [], _∷_, _++_, ℕ, suc, _+_, _*_, _<_, add-zero, add-one, arith, leb, ℤ, pos, length, take, drop, drop-cons, drop-drop, getD-drop, take-take, nonNeg}
 use Rattle.semantics.specs.Lists.{some-of, all, all-pairs, all-of}
-use Rattle.semantics.specs.Chart.{eqZ, within}
+use Rattle.semantics.specs.Chart.{Chart, eqZ, within}
 use Rattle.semantics.specs.Layout.{top-word, counts-size, variable-size, high-place}
 use Rattle.semantics.specs.Encoding.{word-at, several, var-in, decode, well-formed, variable-count, location-count, edge-count}
 use Rattle.semantics.specs.declared.Analysis.{Analysis}
-use Rattle.semantics.specs.Memory.{Memory, value-ok, below, width, row-ok, rows-ok, each-once, lent-tests, record-tests, analysis-ok}
+use Rattle.semantics.specs.Memory.{Memory, value-ok, below, width, stride, row-ok, states-in, origins-in, slots-ok, locations, origins-ok, each-once, zeros, lent-tests, record-tests, analysis-ok}
 use Rattle.semantics.specs.Outcomes.{too-few}
 use Rattle.semantics.proofs.Decoded.{vars-count, locs-count, edges-count}
 use Rattle.semantics.proofs.Bools.{passed}
 use Rattle.semantics.proofs.FirstCase.{enough}
 use Rattle.chart.proofs.Rows.{interchange}
 use Rattle.state.specs.declared.Layout.{Layout}
-use Rattle.state.specs.Rows.{location-word, values-of, row-of}
+use Rattle.state.specs.Rows.{location-word, values-of, row-of, tail-of}
 use Rattle.state.proofs.Layouts.{LayoutOf}
 use Rattle.state.proofs.Slots.{drop-slot}
 use Rattle.checks.specs.Form.{lent, InForm}
@@ -45,10 +45,12 @@ row-is ws (x ∷ xs) h =
     let n : length xs ≡ variable-count ws = omega (arith, h, vars-count ws) in
     λ j. below (sym (locs-count ws) j) x && all-pairs value-ok (several var-in variable-size (n j) (drop counts-size ws)) xs
 
--- the state of slot s is tested, and the slots after it are left
-pub rows-ok-turn : (ws t : List ℤ) (y : Layout) → LayoutOf (decode ws) y → (s n : ℕ) (b : Bool) → row-ok (decode ws) (row-of y s t) ≡ b →
-    rows-ok (decode ws) (suc n) (drop (s * y .stride) t) ≡ b && rows-ok (decode ws) n (drop ((s + 1) * y .stride) t)
-rows-ok-turn ws t y o s n b q = rw (← drop-slot y s t, ← q, o .wide, o .stride)
+-- the words of slot s are tested, those of its state and of its origin, and the slots after it are left
+pub slots-ok-turn : (ws t : List ℤ) (y : Layout) → LayoutOf (decode ws) y → (s n : ℕ) (b : Bool) → (row-ok (decode ws) (row-of y s t) && all nonNeg (tail-of y s t)) ≡ b →
+    slots-ok (decode ws) (suc n) (drop (s * y .stride) t) ≡ b && slots-ok (decode ws) n (drop ((s + 1) * y .stride) t)
+slots-ok-turn ws t y o s n b q =
+    let d = decode ws in
+    rw (← drop-slot y s t, ← q, o .wide, o .stride, take-take (width d) (stride d) (drop (s * stride d) t) (omega arith))
 
 -- ---- the rule in its two parts
 
@@ -63,6 +65,18 @@ unfolding analysis-ok
 both-parts ws t l a =
     all-of-append (lent-tests (decode ws) (a .capacity) (a .used) (a .waiting) t l) (record-tests (edge-count ws) a)
     ∙ ap (λ (n : ℕ). all-of (lent-tests (decode ws) (a .capacity) (a .used) (a .waiting) t l ++ record-tests n a)) (sym (edges-count ws))
+
+in-order : (s o a e u f : Bool) → (((s && o) && (a && e)) && u) && f ≡ s && (o && (a && (e && (u && (f && true)))))
+in-order s o a e u f = simp (and-assoc, and-true)
+
+-- the words lent pass, by what the code asks of them once the counts are in order
+module _ (c : Chart) (r n k : ℕ) (t l : List ℤ) where
+  pub lent-passes : leb n r ≡ true → leb k n ≡ true → {s o w u f : Bool} → s ≡ slots-ok c n t → o ≡ origins-ok c (locations (states-in c n t)) 0 (origins-in c n t)
+      → w ≡ (all (below n) (take k l) && each-once (take k l)) → u ≡ zeros (drop (n * stride c) (take (r * stride c) t)) → f ≡ zeros (drop k (take r l)) → (((s && o) && w) && u) && f ≡ all-of (lent-tests c r n k t l)
+  lent-passes p q hs ho hw hu hf =
+      rw (p, q)
+      ((λ j. (((hs j && ho j) && hw j) && hu j) && hf j)
+      ∙ in-order (slots-ok c n t) (origins-ok c (locations (states-in c n t)) 0 (origins-in c n t)) (all (below n) (take k l)) (each-once (take k l)) (zeros (drop (n * stride c) (take (r * stride c) t))) (zeros (drop k (take r l))))
 
 -- none of 20, 14 and 21 holds
 pub in-form : (words : List ℤ) (m : Memory) → not (well-formed words) ≡ false → too-few (decode words) (m .analysis .capacity) (length (m .table)) (length (m .waitlist)) ≡ false → not (analysis-ok (decode words) m) ≡ false → InForm words m

@@ -4,23 +4,26 @@
 // before 21; all else is total.
 use semantics::Analysis;
 use semantics::EdgeId;
+use semantics::LocationId;
 use semantics::Mode;
 use semantics::Settings;
 use semantics::SlotId;
 use semantics::Verdict;
 use state::Layout;
+use state::SlotRow;
 ghost use mathlib.Core.Path.{_≡_};
 ghost use mathlib.Core.Bool.{_&&_, _||_};
-ghost use Prim.Native.Nat.{_*_, _≤_};
-ghost use lib.Dec.{eqb, ltb};
+ghost use Prim.Native.Nat.{_*_, _<_, _≤_};
+ghost use lib.Dec.{T, eqb, ltb};
 ghost use lib.ListN.{length, drop};
 ghost use Rattle.semantics.specs.Lists.{all, all-pairs, all-of};
 ghost use Rattle.semantics.specs.Chart.{eqZ, within};
 ghost use Rattle.semantics.specs.Layout.{top-word, counts-size, variable-size, index-limit};
 ghost use Rattle.semantics.specs.Algorithm.{allowed};
-ghost use Rattle.semantics.specs.Encoding.{several, var-in, decode};
-ghost use Rattle.semantics.specs.Memory.{width, capacity-ok, value-ok, below, row-ok, rows-ok, each-once, is-alarm, empty-if-safe, lent-tests, record-tests, analysis-ok};
+ghost use Rattle.semantics.specs.Encoding.{several, var-in, decode, well-formed};
+ghost use Rattle.semantics.specs.Memory.{width, capacity-ok, value-ok, below, row-ok, slots-ok, joins, locations, origin-ok, origins-ok, origin-in, origins-in, states-in, each-once, is-alarm, empty-if-safe, lent-tests, record-tests, analysis-ok};
 ghost use Rattle.semantics.specs.Outcomes.{refusal, budget-ok, asked-cases, size-of, form-of};
+ghost use Rattle.state.specs.Rows.{Placed, tail-of};
 ghost use Rattle.checks.specs.Form.{lent, ChartLayout, Enough};
 
 // ---- the reached table
@@ -59,14 +62,70 @@ fn row_ok(chart: &[i32], row: &[i32]) -> bool
     words::is_below(chart::location_count(chart), location) & values_ok(chart, state::values(row))
 }
 
-// The slots in use.
-fn rows_ok(chart: &[i32], layout: Layout, table: &[i32], used: usize) -> bool
+// The slots in use: the words of their states and origins, each by itself.
+fn slots_ok(chart: &[i32], layout: Layout, table: &[i32], used: usize) -> bool
     requires { ⌜ ChartLayout (now chart) layout × (used * layout .stride ≤ length (now table)) ⌝ }
-    ensures { λ r. ⌜ r ≡ rows-ok (decode (now (chart .entry))) used (now (table .entry)) ⌝ }
+    ensures { λ r. ⌜ r ≡ slots-ok (decode (now (chart .entry))) used (now (table .entry)) ⌝ }
 {
     let mut slot = layout.slot(SlotId(0));
     while slot.id.is_below(used) {
-        if !row_ok(chart, state::row_of(layout, table, slot)) {
+        let row = row_ok(chart, state::row_of(layout, table, slot));
+        let tail = state::tail_ok(state::tail_of(layout, table, slot));
+        if !(row & tail) {
+            return false;
+        }
+        slot = layout.after(slot);
+    }
+    true
+}
+
+// ---- the origins
+
+// Whether the edge is one of the chart, and leads from one location to the other.
+fn edge_joins(chart: &[i32], edge: EdgeId, from: LocationId, to: LocationId) -> bool
+    requires { ⌜ T (well-formed (now chart)) ⌝ }
+    ensures { λ r. ⌜ r ≡ joins (decode (now (chart .entry))) (edge .0) (from .0) (to .0) ⌝ }
+{
+    if edge.is_none() {
+        return false;
+    }
+    if !edge.is_within(chart::edge_count(chart)) {
+        return false;
+    }
+    let row = chart::edge_of(chart::first_edge(chart), edge);
+    let leaves = chart::edge_from(chart, row);
+    let comes = chart::edge_to(chart, row);
+    leaves.equals(from) & comes.equals(to)
+}
+
+// The origin of a slot in use: slot 0 has none, any other a parent below it and an edge that joins their locations.
+fn origin_ok(chart: &[i32], layout: Layout, table: &[i32], slot: SlotRow, used: usize) -> bool
+    requires { ⌜ T (well-formed (now chart)) × ChartLayout (now chart) layout × Placed layout slot × (slot .id .0 < «used») × («used» * layout .stride ≤ length (now table)) ⌝ }
+    ensures { λ r. ⌜ r ≡ origin-ok (decode (now (chart .entry))) (locations (states-in (decode (now (chart .entry))) «used» (now (table .entry)))) (slot .id .0) (origin-in (tail-of layout (slot .id .0) (now (table .entry)))) ⌝ }
+{
+    let tail = state::tail_of(layout, table, slot);
+    let parent = state::parent_of(tail);
+    let edge = state::edge_of(tail);
+    let id = slot.id;
+    if id.0 == 0 {
+        return (parent.0 == semantics::NO_SLOT) & edge.is_none();
+    }
+    if !parent.is_below(id.0) {
+        return false;
+    }
+    let from = state::location_of(state::row_of(layout, table, layout.slot(parent)));
+    let to = state::location_of(state::row_of(layout, table, slot));
+    edge_joins(chart, edge, from, to)
+}
+
+// The origins of the slots in use.
+fn origins_ok(chart: &[i32], layout: Layout, table: &[i32], used: usize) -> bool
+    requires { ⌜ T (well-formed (now chart)) × ChartLayout (now chart) layout × (used * layout .stride ≤ length (now table)) ⌝ }
+    ensures { λ r. ⌜ r ≡ origins-ok (decode (now (chart .entry))) (locations (states-in (decode (now (chart .entry))) used (now (table .entry)))) 0 (origins-in (decode (now (chart .entry))) used (now (table .entry))) ⌝ }
+{
+    let mut slot = layout.slot(SlotId(0));
+    while slot.id.is_below(used) {
+        if !origin_ok(chart, layout, table, slot, used) {
             return false;
         }
         slot = layout.after(slot);
@@ -110,7 +169,8 @@ fn lent_ok(chart: &[i32], layout: Layout, table: &[i32], list: &[i32], a: Analys
     }
     let from = layout.slot(SlotId(used)).at;
     let to = capacity * layout.stride;
-    rows_ok(chart, layout, table, used)
+    slots_ok(chart, layout, table, used)
+        & origins_ok(chart, layout, table, used)
         & waits_ok(&list[..waiting], used)
         & words::all_zero(&table[from..to])
         & words::all_zero(&list[waiting..capacity])
@@ -118,7 +178,8 @@ fn lent_ok(chart: &[i32], layout: Layout, table: &[i32], list: &[i32], a: Analys
 
 // ---- the record
 
-fn is_alarm(v: Verdict) -> bool
+// Of all verdicts this alone has an edge, and a path.
+pub fn is_alarm(v: Verdict) -> bool
     ensures { λ r. ⌜ r ≡ is-alarm v ⌝ }
 {
     match v {

@@ -1,3 +1,4 @@
--- The text piece by piece, then the refusals.
+-- The way back along parents, the texts piece by piece, then the refusals.
+pub mod Ways
 pub mod TextPieces
 pub mod Refusals

@@ -1,18 +1,22 @@
--- The listing's text piece by piece: lines as their fields, and what one turn of each loop adds. Assumes nothing.
-use Rattle.semantics.proofs.Prelude.{_≡_, refl, sym, ap, subst, _∙_, Bool, true, false, _||_, or-true, or-false, List, [], _∷_, _++_, map, append-assoc, ℕ, suc, _+_, _*_, _≤_, _<_, add-one, arith, eqb-true, eqb-false, T, eqb, leb→le, ℤ, pos, natAbs, length, getD, set, take, drop, replicate, getD-replicate, length-set, length-replicate, drop-cons, getD-set-same, getD-set-other}
+-- The texts piece by piece: lines as their fields, and what one turn of each loop adds. Assumes nothing.
+use Rattle.semantics.proofs.Prelude.{_≡_, refl, sym, ap, subst, _∙_, Bool, true, false, _||_, or-true, or-false, List, [], _∷_, _++_, map, append-assoc, ℕ, suc, _+_, _*_, _≤_, _<_, add-one, arith, eqb-true, eqb-false, T, eqb, leb→le, ℤ, pos, natAbs, length, getD, set, take, drop, replicate, getD-replicate, length-set, length-replicate, drop-cons, length-take-le, getD-set-same, getD-set-other}
 use Rattle.semantics.specs.Lists.{some-of, each}
 use Rattle.semantics.specs.Text.{bytes, decimal, line-of}
 use Rattle.semantics.specs.Chart.{Chart}
-use Rattle.semantics.specs.Encoding.{val, word-at, count}
-use Rattle.semantics.specs.Memory.{Memory, width, state-in, states-in, load, analysis-ok}
+use Rattle.semantics.specs.Encoding.{val, word-at, count, decode}
+use Rattle.semantics.specs.Memory.{Memory, state-in, states-in, origin-in, load, analysis-ok}
 use Rattle.semantics.specs.Listing.{loc-text, mark, val-text, slot-text, slots-text, header-text, listing-text}
+use Rattle.semantics.specs.Path.{way-to, path-header, path-line, path-text}
+use Rattle.semantics.specs.Tidy.{Every}
 use Rattle.semantics.specs.declared.Analysis.{Analysis}
 use Rattle.semantics.proofs.MemoryInForm.{form, states-count}
 use Rattle.state.specs.declared.Layout.{Layout}
-use Rattle.state.specs.Rows.{location-in, values-of, row-of}
-use Rattle.state.proofs.Layouts.{LayoutOf}
+use Rattle.state.specs.Rows.{location-in, values-of, row-of, tail-of, origins-of}
+use Rattle.state.proofs.Layouts.{LayoutOf, origins-say}
 use Rattle.state.proofs.Slots.{drop-slot}
-use Rattle.checks.specs.Form.{lent}
+use Rattle.waitlist.specs.Waits.{NextBy}
+use Rattle.checks.specs.Form.{lent, InForm}
+use Rattle.listing.proofs.Ways.{edge-get, state-get}
 use Rattle.listing.specs.Pieces.{tabbed, values-text, words-text, numbers-text, marked}
 
 -- ---- lines
@@ -52,9 +56,27 @@ slot-is c s (x ∷ xs) n b h p =
 
 -- the lines of the slots from slot s on
 pub slots-turn : (c : Chart) (wa : List ℕ) (y : Layout) → LayoutOf c y → (s n : ℕ) (t : List ℤ)
-    → slots-text c wa s (states-in (width c) (suc n) (drop (s * y .stride) t))
-    ≡ slot-text c s (state-in (row-of y s t)) (some-of (eqb s) wa) ++ slots-text c wa (s + 1) (states-in (width c) n (drop ((s + 1) * y .stride) t))
+    → slots-text c wa s (states-in c (suc n) (drop (s * y .stride) t))
+    ≡ slot-text c s (state-in (row-of y s t)) (some-of (eqb s) wa) ++ slots-text c wa (s + 1) (states-in c n (drop ((s + 1) * y .stride) t))
 slots-turn c wa y o s n t = rw (← drop-slot y s t, o .wide, o .stride, add-one)
+
+-- ---- the path
+
+-- the line of slot s, by its words; wa is the waitlist
+abbrev pub step-text : Chart → List ℕ → Layout → List ℤ → ℕ → List ℕ
+step-text c wa y t s = decimal (origin-in (tail-of y s t) .edge) ++ tabbed (slot-text c s (state-in (row-of y s t)) (some-of (eqb s) wa))
+
+pub steps-turn : (f : ℕ → List ℕ) (ks : List ℕ) (i : ℕ) → i < length ks → each f (drop i ks) ≡ f (getD ks i 0) ++ each f (drop (i + 1) ks)
+steps-turn f ks i h = rw (add-one, drop-cons ks i 0 h)
+
+module _ (c : Chart) (y : Layout) (o : LayoutOf c y) (t l : List ℤ) (a : Analysis) where
+  step-is : (s : ℕ) → s < a .used → step-text c (map natAbs (take (a .waiting) l)) y t s ≡ path-line c (load c (lent t l a)) s
+  unfolding load
+  step-is s h = rw (← origins-say o (a .used) t, edge-get y (a .used) s t h, state-get c y o (a .used) s t h)
+
+  pub steps-are : (ks : List ℕ) → Every (λ s. s < a .used) ks → each (step-text c (map natAbs (take (a .waiting) l)) y t) ks ≡ each (path-line c (load c (lent t l a))) ks
+  steps-are [] h = refl
+  steps-are (k ∷ ks) h = λ i. step-is k (h .0) i ++ steps-are ks (h .1) i
 
 -- ---- the marks
 
@@ -84,10 +106,22 @@ marked-from-none n ks s h =
 -- ---- the whole
 
 pub listing-is : (c : Chart) (t l : List ℤ) (a : Analysis)
-    → header-text a ++ slots-text c (map natAbs (take (a .waiting) l)) 0 (states-in (width c) (a .used) t) ≡ listing-text c (load c (lent t l a))
+    → header-text a ++ slots-text c (map natAbs (take (a .waiting) l)) 0 (states-in c (a .used) t) ≡ listing-text c (load c (lent t l a))
 unfolding listing-text load
 listing-is c t l a = rw (states-count c (a .used) t)
+
+-- the path to slot k, the one taken next
+pub path-is : (c : Chart) (y : Layout) → LayoutOf c y → (t l : List ℤ) (a : Analysis) (k : ℕ) → NextBy (a .settings .order) (map natAbs (take (a .waiting) l)) k
+    → path-header (a .settings .merge) (a .edge .0) ++ each (path-line c (load c (lent t l a))) (way-to (origins-of y (a .used) t) k k) ≡ path-text c (load c (lent t l a))
+unfolding path-text load
+path-is c y o t l a k next = rw (next .taken, origins-say o (a .used) t)
 
 -- of rule 21, that the counts are in order
 pub counts-in-order : (c : Chart) (m : Memory) → T (analysis-ok c m) → (m .analysis .used ≤ m .analysis .capacity) × (m .analysis .waiting ≤ m .analysis .used)
 counts-in-order c m t = let f = form c m t in (leb→le _ _ (f .used), leb→le _ _ (f .waiting))
+
+-- and the waiting slots are in their words
+pub waiting-long : (words : List ℤ) (m : Memory) → InForm words m → length (take (m .analysis .waiting) (m .waitlist)) ≡ m .analysis .waiting
+waiting-long words m f =
+    let o = counts-in-order (decode words) m (f .analysis) in
+    length-take-le (m .analysis .waiting) (m .waitlist) (omega (arith, f .list, o .0, o .1))

@@ -1,5 +1,5 @@
-// The listing of an analysis: its text written into lent bytes, and the public call. A piece is written as far as it
-// fits and counted whole, so that one function measures the text and writes it.
+// The listing of an analysis, and the path to its alarm: texts written into lent bytes, and the public calls. A piece is
+// written as far as it fits and counted whole, so that one function measures a text and writes it.
 use semantics::Analysis;
 use semantics::Answer;
 use semantics::LocationId;
@@ -7,22 +7,29 @@ use semantics::Mode;
 use semantics::Order;
 use semantics::SlotId;
 use semantics::Verdict;
+use semantics::View;
+use state::Layout;
 ghost use mathlib.Core.Path.{_≡_};
 ghost use mathlib.Core.Bool.{true};
-ghost use mathlib.Core.List.{map};
-ghost use Prim.Native.Nat.{_*_, _≤_, _<_, min};
+ghost use mathlib.Core.List.{_++_, map};
+ghost use Prim.Native.Nat.{_+_, _*_, _≤_, _<_, min};
 ghost use lib.Dec.{T};
 ghost use lib.IntN.{natAbs};
-ghost use lib.ListN.{length, set};
+ghost use lib.ListN.{length, drop, set};
 ghost use Rattle.semantics.specs.Layout.{most-slots};
+ghost use Rattle.semantics.specs.Lists.{each};
+ghost use Rattle.semantics.specs.Tidy.{Every};
 ghost use Rattle.semantics.specs.Text.{decimal};
 ghost use Rattle.semantics.specs.Encoding.{val, decode, well-formed};
-ghost use Rattle.semantics.specs.Memory.{width, state-in, states-in, load};
-ghost use Rattle.semantics.specs.Listing.{mode-text, order-text, verdict-text, loc-text, val-text, mark, slot-text, slots-text, header-text, listing-text};
-ghost use Rattle.semantics.specs.Outcomes.{refusal, form-of, text-of, listing-cases, listing-outcome};
+ghost use Rattle.semantics.specs.Memory.{stride, state-in, states-in, origin-in, load, is-alarm};
+ghost use Rattle.semantics.specs.Listing.{mode-text, order-text, verdict-text, loc-text, val-text, mark, slot-text, slots-text, header-text};
+ghost use Rattle.semantics.specs.Path.{way-to, path-header, path-line};
+ghost use Rattle.semantics.specs.Outcomes.{refusal, form-of, text-of, path-of, listing-outcome, path-outcome};
+ghost use Rattle.state.specs.Rows.{width-of, row-of, tail-of, origins-of};
 ghost use Rattle.checks.specs.Form.{lent, InForm};
 ghost use Rattle.writer.specs.Writing.{Put, limit};
 ghost use Rattle.listing.specs.Pieces.{tabbed, values-text, words-text, numbers-text, marked};
+ghost use Rattle.listing.specs.Views.{Traceable, has-text, view-text, view-cases, view-outcome};
 
 // A field that is not a line's first: a tab, and its bytes.
 fn put_field(out: &mut [u8], at: usize, field: &[u8]) -> usize
@@ -209,8 +216,8 @@ fn put_slots(
     list: &[i32],
     used: usize,
 ) -> usize
-    requires { ⌜ T (well-formed (now chart)) × (used * width (decode (now chart)) ≤ length (now table)) × (used ≤ most-slots) ⌝ }
-    ensures { λ r. ⌜ Put at (slots-text (decode (now (chart .entry))) (map natAbs (now (list .entry))) 0 (states-in (width (decode (now (chart .entry)))) used (now (table .entry)))) (now (out .entry)) (now (out .exit)) r ⌝ }
+    requires { ⌜ T (well-formed (now chart)) × (used * stride (decode (now chart)) ≤ length (now table)) × (used ≤ most-slots) ⌝ }
+    ensures { λ r. ⌜ Put at (slots-text (decode (now (chart .entry))) (map natAbs (now (list .entry))) 0 (states-in (decode (now (chart .entry))) used (now (table .entry)))) (now (out .entry)) (now (out .exit)) r ⌝ }
 {
     let layout = state::layout_of(chart);
     let mut marks = [false; semantics::MOST_SLOTS];
@@ -227,12 +234,112 @@ fn put_slots(
     place
 }
 
-// ---- the text
+// ---- the path
+
+// The first line.
+fn put_path_header(out: &mut [u8], merge: Mode, edge: usize) -> usize
+    ensures { λ r. ⌜ Put 0 (path-header merge edge) (now (out .entry)) (now (out .exit)) r ⌝ }
+{
+    let second = writer::put_bytes(out, 0, b"path");
+    let third = put_mode(out, second, merge);
+    let end = put_number(out, third, edge);
+    writer::put_byte(out, end, semantics::LF)
+}
+
+// The slots from slot 0 to the one given, each after its parent, at the end of the places lent; where they begin there.
+fn trace_back(layout: Layout, table: &[i32], used: usize, to: SlotId, way: &mut [usize]) -> usize
+    requires { ⌜ Traceable layout used (now table) × (to .0 < used) × (used ≤ length (now way)) ⌝ }
+    ensures inside { λ r. ⌜ r ≤ length (now (way .exit)) ⌝ }
+    ensures way { λ r. ⌜ drop r (now (way .exit)) ≡ way-to (origins-of layout used (now (table .entry))) (to .0) (to .0) ⌝ }
+{
+    let mut at = way.len() - 1;
+    let mut slot = to;
+    way[at] = to.0;
+    while slot.0 != 0 {
+        slot = state::parent_of(state::tail_of(layout, table, layout.slot(slot)));
+        at -= 1;
+        way[at] = slot.0;
+    }
+    at
+}
+
+// A slot's line after the edge that brought it.
+fn put_step(
+    out: &mut [u8],
+    at: usize,
+    chart: &[i32],
+    layout: Layout,
+    table: &[i32],
+    slot: SlotId,
+    waiting: bool,
+) -> usize
+    requires { ⌜ T (well-formed (now chart)) × (1 ≤ width-of layout) × (width-of layout ≤ layout .stride) × (slot .0 * layout .stride + layout .stride ≤ length (now table)) ⌝ }
+    ensures { λ r. ⌜ Put at (decimal (origin-in (tail-of layout (slot .0) (now (table .entry))) .edge) ++ tabbed (slot-text (decode (now (chart .entry))) (slot .0) (state-in (row-of layout (slot .0) (now (table .entry)))) waiting)) (now (out .entry)) (now (out .exit)) r ⌝ }
+{
+    let row = layout.slot(slot);
+    let edge = state::edge_of(state::tail_of(layout, table, row));
+    let tab = writer::put_decimal(out, at, edge.0);
+    let line = writer::put_byte(out, tab, semantics::TAB);
+    put_slot(
+        out,
+        line,
+        chart,
+        slot,
+        state::row_of(layout, table, row),
+        waiting,
+    )
+}
+
+// The lines of these slots, in their order.
+fn put_steps(
+    out: &mut [u8],
+    at: usize,
+    chart: &[i32],
+    table: &[i32],
+    list: &[i32],
+    a: Analysis,
+    way: &[usize],
+) -> usize
+    requires { ⌜ InForm (now chart) (lent (now table) (now list) a) × Every (λ s. s < a .used) (now way) ⌝ }
+    ensures { λ r. ⌜ Put at (each (path-line (decode (now (chart .entry))) (load (decode (now (chart .entry))) (lent (now (table .entry)) (now (list .entry)) a))) (now (way .entry))) (now (out .entry)) (now (out .exit)) r ⌝ }
+{
+    let layout = state::layout_of(chart);
+    let waiting = a.waiting;
+    let mut marks = [false; semantics::MOST_SLOTS];
+    mark_waiting(&mut marks, &list[..waiting]);
+    let mut place = at;
+    let mut i = 0;
+    while i < way.len() {
+        let s = way[i];
+        let waits = marks[s];
+        place = put_step(out, place, chart, layout, table, SlotId(s), waits);
+        i += 1;
+    }
+    place
+}
+
+// Writes the path as far as it fits, and answers how long it is.
+fn write_path(chart: &[i32], table: &[i32], list: &[i32], a: Analysis, out: &mut [u8]) -> usize
+    requires { ⌜ InForm (now chart) (lent (now table) (now list) a) × T (is-alarm (a .verdict)) ⌝ }
+    ensures { λ r. ⌜ Put 0 (path-of (decode (now (chart .entry))) (lent (now (table .entry)) (now (list .entry)) a)) (now (out .entry)) (now (out .exit)) r ⌝ }
+{
+    let settings = a.settings;
+    let merge = settings.merge;
+    let order = settings.order;
+    let waiting = a.waiting;
+    let place = put_path_header(out, merge, a.edge.0);
+    let taken = waitlist::next_slot(order, &list[..waiting]);
+    let mut way = [0usize; semantics::MOST_SLOTS];
+    let first = trace_back(state::layout_of(chart), table, a.used, taken, &mut way);
+    put_steps(out, place, chart, table, list, a, &way[first..])
+}
+
+// ---- the texts
 
 // Writes the listing as far as it fits, and answers how long it is.
 fn write_listing(chart: &[i32], table: &[i32], list: &[i32], a: Analysis, out: &mut [u8]) -> usize
     requires { ⌜ InForm (now chart) (lent (now table) (now list) a) ⌝ }
-    ensures { λ r. ⌜ Put 0 (listing-text (decode (now (chart .entry))) (load (decode (now (chart .entry))) (lent (now (table .entry)) (now (list .entry)) a))) (now (out .entry)) (now (out .exit)) r ⌝ }
+    ensures { λ r. ⌜ Put 0 (text-of (decode (now (chart .entry))) (lent (now (table .entry)) (now (list .entry)) a)) (now (out .entry)) (now (out .exit)) r ⌝ }
 {
     let used = a.used;
     let waiting = a.waiting;
@@ -240,19 +347,48 @@ fn write_listing(chart: &[i32], table: &[i32], list: &[i32], a: Analysis, out: &
     put_slots(out, place, chart, table, &list[..waiting], used)
 }
 
-// How long the listing is; it is written nowhere.
-fn listing_length(chart: &[i32], table: &[i32], list: &[i32], a: Analysis) -> usize
-    requires { ⌜ InForm (now chart) (lent (now table) (now list) a) ⌝ }
-    ensures { λ r. ⌜ min r limit ≡ min (length (text-of (decode (now (chart .entry))) (lent (now (table .entry)) (now (list .entry)) a))) limit ⌝ }
+// Whether there is such a text: a path needs an alarm.
+fn has_text(view: View, v: Verdict) -> bool
+    ensures { λ r. ⌜ r ≡ has-text view v ⌝ }
 {
-    let mut none = [0u8; 1];
-    write_listing(chart, table, list, a, &mut none[..0])
+    match view {
+        View::Listing => true,
+        View::Path => checks::is_alarm(v),
+    }
 }
 
-// ---- the public call
+// Writes the text as far as it fits, and answers how long it is.
+fn write_text(
+    view: View,
+    chart: &[i32],
+    table: &[i32],
+    list: &[i32],
+    a: Analysis,
+    out: &mut [u8],
+) -> usize
+    requires { ⌜ InForm (now chart) (lent (now table) (now list) a) × T (has-text view (a .verdict)) ⌝ }
+    ensures { λ r. ⌜ Put 0 (view-text view (decode (now (chart .entry))) (lent (now (table .entry)) (now (list .entry)) a)) (now (out .entry)) (now (out .exit)) r ⌝ }
+{
+    match view {
+        View::Listing => write_listing(chart, table, list, a, out),
+        View::Path => write_path(chart, table, list, a, out),
+    }
+}
 
-// 20, 14, 21, 15: the first that refuses a listing into so many bytes, or 0.
-fn listing_refusal(
+// How long the text is; it is written nowhere.
+fn text_length(view: View, chart: &[i32], table: &[i32], list: &[i32], a: Analysis) -> usize
+    requires { ⌜ InForm (now chart) (lent (now table) (now list) a) × T (has-text view (a .verdict)) ⌝ }
+    ensures { λ r. ⌜ min r limit ≡ min (length (view-text view (decode (now (chart .entry))) (lent (now (table .entry)) (now (list .entry)) a))) limit ⌝ }
+{
+    let mut none = [0u8; 1];
+    write_text(view, chart, table, list, a, &mut none[..0])
+}
+
+// ---- the public calls
+
+// 20, 14, 21, of a path 24, then 15: the first that refuses a text into so many bytes, or 0.
+fn show_refusal(
+    view: View,
     chart: &[i32],
     a: Analysis,
     table: &[i32],
@@ -260,30 +396,57 @@ fn listing_refusal(
     space_length: usize,
 ) -> u32
     requires { ⌜ «space_length» < limit ⌝ }
-    ensures { λ r. ⌜ r ≡ refusal (listing-cases (form-of (now (chart .entry)) (lent (now (table .entry)) (now (list .entry)) a)) «space_length» (text-of (decode (now (chart .entry))) (lent (now (table .entry)) (now (list .entry)) a))) ⌝ }
+    ensures { λ r. ⌜ r ≡ refusal (view-cases view (form-of (now (chart .entry)) (lent (now (table .entry)) (now (list .entry)) a)) (a .verdict) «space_length» (view-text view (decode (now (chart .entry))) (lent (now (table .entry)) (now (list .entry)) a))) ⌝ }
 {
     let earlier = checks::form_refusal(chart, a, table, list);
     if earlier != 0 {
         return earlier;
     }
+    let verdict = a.verdict;
+    if !has_text(view, verdict) {
+        return 24;
+    }
     if semantics::LISTING_BYTES <= space_length {
         return 0;
     }
-    if space_length < listing_length(chart, table, list, a) {
+    if space_length < text_length(view, chart, table, list, a) {
         return 15;
     }
     0
 }
 
-// Writes the listing of an analysis and answers its length, or refuses and writes nothing.
+// Writes a text of an analysis and answers its length, or refuses and writes nothing.
+pub fn show(
+    view: View,
+    chart: &[i32],
+    a: Analysis,
+    table: &[i32],
+    list: &[i32],
+    space: &mut [u8],
+) -> Answer
+    ensures answer { λ r. ⌜ r ≡ view-outcome view (now (chart .entry)) (lent (now (table .entry)) (now (list .entry)) a) (now (space .entry)) .answer ⌝ }
+    ensures space { λ _. ⌜ now (space .exit) ≡ view-outcome view (now (chart .entry)) (lent (now (table .entry)) (now (list .entry)) a) (now (space .entry)) .space ⌝ }
+{
+    let number = show_refusal(view, chart, a, table, list, space.len());
+    if number != 0 {
+        return semantics::refused(number, 0);
+    }
+    let length = write_text(view, chart, table, list, a, space);
+    semantics::gone_through(length)
+}
+
+// The listing of an analysis.
 pub fn listing(chart: &[i32], a: Analysis, table: &[i32], list: &[i32], space: &mut [u8]) -> Answer
     ensures answer { λ r. ⌜ r ≡ listing-outcome (now (chart .entry)) (lent (now (table .entry)) (now (list .entry)) a) (now (space .entry)) .answer ⌝ }
     ensures space { λ _. ⌜ now (space .exit) ≡ listing-outcome (now (chart .entry)) (lent (now (table .entry)) (now (list .entry)) a) (now (space .entry)) .space ⌝ }
 {
-    let number = listing_refusal(chart, a, table, list, space.len());
-    if number != 0 {
-        return semantics::refused(number, 0);
-    }
-    let length = write_listing(chart, table, list, a, space);
-    semantics::gone_through(length)
+    show(View::Listing, chart, a, table, list, space)
+}
+
+// The path to the alarm of an analysis.
+pub fn path(chart: &[i32], a: Analysis, table: &[i32], list: &[i32], space: &mut [u8]) -> Answer
+    ensures answer { λ r. ⌜ r ≡ path-outcome (now (chart .entry)) (lent (now (table .entry)) (now (list .entry)) a) (now (space .entry)) .answer ⌝ }
+    ensures space { λ _. ⌜ now (space .exit) ≡ path-outcome (now (chart .entry)) (lent (now (table .entry)) (now (list .entry)) a) (now (space .entry)) .space ⌝ }
+{
+    show(View::Path, chart, a, table, list, space)
 }

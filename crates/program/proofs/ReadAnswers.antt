@@ -3,6 +3,7 @@
 use Rattle.semantics.proofs.Prelude.{_≡_, refl, sym, ap, _∙_, List, _++_, ℕ, _-_, _≤_, zero-add, arith, T, leb, leb→le, ℤ, length, take, drop}
 use Rattle.semantics.specs.Layout.{chart-size}
 use Rattle.semantics.specs.Listing.{refused-text}
+use Rattle.semantics.specs.declared.View.{View}
 use Rattle.semantics.specs.Program.{go-line, past-line, print-read, output}
 use Rattle.semantics.specs.Reading.{fail, Reading, refused, accepted, read}
 use Rattle.semantics.specs.Encoding.{encode, decode, well-formed}
@@ -51,13 +52,13 @@ put-printed {text} {out} p h =
 
 -- ---- the output
 
-pub refused-output : (input : List ℕ) {n : ℕ} → go-line input ≡ fail n → output input ≡ refused-text n 0
+pub refused-output : (v : View) (input : List ℕ) {n : ℕ} → go-line input ≡ fail n → output v input ≡ refused-text n 0
 unfolding output
-refused-output input e = rw e
+refused-output v input e = rw e
 
-pub charted-output : (input : List ℕ) (g : Go) (at : ℕ) → Asks input g at → output input ≡ print-read (asking g) (read (take (length input - at) (drop at input)))
+pub charted-output : (v : View) (input : List ℕ) (g : Go) (at : ℕ) → Asks input g at → output v input ≡ print-read v (asking g) (read (take (length input - at) (drop at input)))
 unfolding output
-charted-output input g at a =
+charted-output v input g at a =
     let all : take (length input - at) (drop at input) ≡ past-line input = tail input at ∙ a .rest in
     rw (a .is, all)
 

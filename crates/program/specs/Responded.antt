@@ -1,5 +1,6 @@
 -- What the parts of the program ask, and what they leave. Assumes nothing.
 use mathlib.Core.Path.{_≡_}
+use mathlib.Core.Logic.{_⊎_}
 use mathlib.Core.List.{List, [], _++_}
 use Prim.Native.Nat.{ℕ, _<_}
 use lib.Dec.{T}
@@ -7,7 +8,7 @@ use lib.IntN.{ℤ}
 use lib.ListN.{length, take, drop}
 use Rattle.semantics.specs.Layout.{most-slots, table-words}
 use Rattle.semantics.specs.Chart.{Chart}
-use Rattle.semantics.specs.Reading.{ok}
+use Rattle.semantics.specs.Reading.{ok, nth}
 use Rattle.semantics.specs.Algorithm.{Exploration}
 use Rattle.semantics.specs.Constants.{AbstractState}
 use Rattle.semantics.specs.Encoding.{well-formed}
@@ -19,6 +20,10 @@ use Rattle.semantics.specs.declared.Analysis.{Analysis}
 use Rattle.semantics.specs.declared.Verdict.the-variants.{Open}
 use Rattle.program.specs.declared.go_line.Go.{Go}
 use Rattle.program.specs.Asked.{asking}
+
+-- the bytes of the first argument that are looked at
+abbrev pub argument-bytes : ℕ
+argument-bytes = 8
 
 -- the record before the first call, which a beginning that goes through does not look at
 abbrev pub no-analysis : Settings → Analysis
@@ -44,6 +49,11 @@ pub record PutIn (c : Chart) (w : Exploration AbstractState) (m : Memory) : Type
 pub record Printed (text out out′ : List ℕ) (r : ℕ) : Type 0 where
   pub long : r ≡ length text
   pub bytes : out′ ≡ text ++ drop (length text) out
+
+-- the arguments as they are handed on: how many there are, and the first; one of more bytes than its buffer has as none
+pub record Arguments (args : List (List ℕ)) (count : ℕ) (first : List ℕ) : Type 0 where
+  pub many : length args ≡ count
+  pub is : (nth args 0 ≡ first) ⊎ ((first ≡ []) × (argument-bytes < length (nth args 0)))
 
 -- the input begins with the first count bytes of the buffer, and ends there where the buffer is not full: of this input
 -- a buffer can have been read so. A count above the buffer's size says that it is full

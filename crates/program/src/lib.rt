@@ -2,9 +2,11 @@
 use go_line::Go;
 use go_line::GoLine;
 use semantics::Analysis;
+use semantics::Command;
 use semantics::EdgeId;
 use semantics::Settings;
 use semantics::Verdict;
+use semantics::View;
 ghost use mathlib.Core.Path.{_≡_};
 ghost use mathlib.Core.List.{List, _++_};
 ghost use Prim.Native.Nat.{ℕ, min};
@@ -12,20 +14,20 @@ ghost use lib.Dec.{T};
 ghost use lib.ListN.{length, drop};
 ghost use Rattle.semantics.specs.Layout.{listing-bytes};
 ghost use Rattle.semantics.specs.Encoding.{decode, well-formed};
-ghost use Rattle.semantics.specs.Listing.{listing-text, refused-text};
+ghost use Rattle.semantics.specs.Listing.{refused-text};
 ghost use Rattle.semantics.specs.Reading.{read};
-ghost use Rattle.semantics.specs.Program.{explored, print-read, output};
+ghost use Rattle.semantics.specs.Program.{explored, shown, print-read, output, command};
 ghost use Rattle.checks.specs.Form.{lent};
 ghost use Rattle.writer.specs.Writing.{Put};
 ghost use Rattle.program.specs.Asked.{asking};
-ghost use Rattle.program.specs.Responded.{no-analysis, Accepted, Lends, PutIn, Printed, Buffered};
+ghost use Rattle.program.specs.Responded.{no-analysis, Accepted, Lends, PutIn, Printed, Buffered, Arguments};
 
 mod go_line;
 
-// The words lent suffice for every chart and every capacity: 3,163, 2,304 and 256.
+// The words lent suffice for every chart and every capacity: 3,163, 2,816 and 256.
 const CHART_SIZE: usize = chart::CHART_SIZE;
 
-const TABLE_SIZE: usize = semantics::MOST_SLOTS * state::MOST_WIDTH;
+const TABLE_SIZE: usize = semantics::MOST_SLOTS * state::MOST_STRIDE;
 
 const LIST_SIZE: usize = semantics::MOST_SLOTS;
 
@@ -59,8 +61,7 @@ fn no_analysis(settings: Settings) -> Analysis
     }
 }
 
-// The analysis. It goes through, and so does the listing: the go line was accepted, and the words lent are enough. So
-// no answer of theirs is looked at but the listing's length.
+// The analysis. It goes through: the go line was accepted, and the words lent are enough. So its answer is not looked at.
 fn explore(chart: &[i32], go: Go, table: &mut [i32], list: &mut [i32]) -> Analysis
     requires { ⌜ Lends (now chart) (now table) (now list) × Accepted go ⌝ }
     ensures { λ r. ⌜ PutIn (decode (now (chart .entry))) (explored (decode (now (chart .entry))) (asking go)) (lent (now (table .exit)) (now (list .exit)) r) ⌝ }
@@ -71,39 +72,42 @@ fn explore(chart: &[i32], go: Go, table: &mut [i32], list: &mut [i32]) -> Analys
     called.analysis
 }
 
-// The listing of an accepted chart.
-fn put_listing(chart: &[i32], go: Go, out: &mut [u8]) -> usize
+// What is to be shown of an accepted chart. A listing always goes through; a path is refused where there is no alarm.
+fn put_view(view: View, chart: &[i32], go: Go, out: &mut [u8]) -> usize
     requires { ⌜ T (well-formed (now chart)) × (length (now out) ≡ listing-bytes) × Accepted go ⌝ }
-    ensures { λ r. ⌜ Printed (listing-text (decode (now (chart .entry))) (explored (decode (now (chart .entry))) (asking go))) (now (out .entry)) (now (out .exit)) r ⌝ }
+    ensures { λ r. ⌜ Printed (shown view (decode (now (chart .entry))) (explored (decode (now (chart .entry))) (asking go))) (now (out .entry)) (now (out .exit)) r ⌝ }
 {
     let mut table = [0i32; TABLE_SIZE];
     let mut list = [0i32; LIST_SIZE];
     let a = explore(chart, go, &mut table, &mut list);
-    let answer = listing::listing(chart, a, &table, &list, out);
+    let answer = listing::show(view, chart, a, &table, &list, out);
+    if answer.number != 0 {
+        return put_refusal(out, answer.number, 0);
+    }
     answer.length
 }
 
-// The chart's refusal, or its listing.
-fn put_answer(chart: &[u8], go: Go, out: &mut [u8]) -> usize
+// The chart's refusal, or what is to be shown of it.
+fn put_answer(view: View, chart: &[u8], go: Go, out: &mut [u8]) -> usize
     requires { ⌜ (length (now out) ≡ listing-bytes) × Accepted go ⌝ }
-    ensures { λ r. ⌜ Printed (print-read (asking go) (read (now (chart .entry)))) (now (out .entry)) (now (out .exit)) r ⌝ }
+    ensures { λ r. ⌜ Printed (print-read view (asking go) (read (now (chart .entry)))) (now (out .entry)) (now (out .exit)) r ⌝ }
 {
     let mut words = [0i32; CHART_SIZE];
     let answer = reader::read(chart, &mut words);
     if answer.number != 0 {
         return put_refusal(out, answer.number, answer.line);
     }
-    put_listing(&words, go, out)
+    put_view(view, &words, go, out)
 }
 
 // What the program prints for an input: its bytes at the front of those lent, and how many they are.
-pub fn respond(input: &[u8], out: &mut [u8; semantics::LISTING_BYTES]) -> usize
-    ensures count { λ r. ⌜ r ≡ length (output (now (input .entry))) ⌝ }
-    ensures bytes { λ _. ⌜ now (out .exit) ≡ output (now (input .entry)) ++ drop (length (output (now (input .entry)))) (now (out .entry)) ⌝ }
+pub fn respond(view: View, input: &[u8], out: &mut [u8; semantics::LISTING_BYTES]) -> usize
+    ensures count { λ r. ⌜ r ≡ length (output view (now (input .entry))) ⌝ }
+    ensures bytes { λ _. ⌜ now (out .exit) ≡ output view (now (input .entry)) ++ drop (length (output view (now (input .entry)))) (now (out .entry)) ⌝ }
 {
     match go_line::read(input) {
         GoLine::Refused(n) => put_refusal(out, n, 0),
-        GoLine::Accepted { go, chart } => put_answer(&input[chart..], go, out),
+        GoLine::Accepted { go, chart } => put_answer(view, &input[chart..], go, out),
     }
 }
 
@@ -116,13 +120,37 @@ fn least(a: usize, b: usize) -> usize
 // What the program prints, by the buffer that it read into and the count of bytes read: a count below the size says that
 // the input is at its end. The output is that of every input of which this can have been read.
 pub fn respond_to(
+    view: View,
     buffer: &[u8; INPUT],
     count: usize,
     out: &mut [u8; semantics::LISTING_BYTES],
 ) -> usize
-    ensures { λ r. ⌜ ((input : List ℕ) → Buffered input (now (buffer .entry)) count → Printed (output input) (now (out .entry)) (now (out .exit)) r) ⌝ }
+    ensures { λ r. ⌜ ((input : List ℕ) → Buffered input (now (buffer .entry)) count → Printed (output view input) (now (out .entry)) (now (out .exit)) r) ⌝ }
 {
     let bytes: &[u8] = buffer;
     let n = least(count, bytes.len());
-    respond(&bytes[..n], out)
+    respond(view, &bytes[..n], out)
+}
+
+// The bytes of the first argument that are looked at: more than any word of a command has.
+pub const ARGUMENT: usize = 8;
+
+// What the program's arguments ask: how many there are, and the first of them. One that is longer than its buffer is read
+// as none, which says as little.
+pub fn command(count: usize, first: &[u8]) -> Command
+    ensures { λ r. ⌜ ((args : List (List ℕ)) → Arguments args count (now (first .entry)) → r ≡ command args) ⌝ }
+{
+    if count == 0 {
+        return Command::Show(View::Listing);
+    }
+    if count != 1 {
+        return Command::Unknown;
+    }
+    if text::same_bytes(first, b"path") {
+        return Command::Show(View::Path);
+    }
+    if text::same_bytes(first, b"help") {
+        return Command::Help;
+    }
+    Command::Unknown
 }

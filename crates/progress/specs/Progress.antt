@@ -1,7 +1,7 @@
 -- The record of an analysis as it advances, and what it says with rows and slots. Assumes nothing.
 use mathlib.Core.Path.{_≡_}
 use mathlib.Core.Bool.{Bool, true, false}
-use mathlib.Core.List.{List}
+use mathlib.Core.List.{List, _++_}
 use Prim.Native.Nat.{ℕ, _+_}
 use lib.IntN.{ℤ}
 use lib.ListN.{length}
@@ -9,9 +9,9 @@ use Rattle.semantics.specs.declared.EdgeId.{EdgeId}
 use Rattle.semantics.specs.declared.Analysis.{Analysis}
 use Rattle.semantics.specs.declared.Settings.{Settings}
 use Rattle.semantics.specs.declared.Verdict.{Verdict}
-use Rattle.semantics.specs.Algorithm.{Domain, Out, on, alarmed, full, blocked, Exploration, finish, verdict-of, first-verdict}
+use Rattle.semantics.specs.Algorithm.{Domain, Out, on, alarmed, full, blocked, Origin, Exploration, with-origins, finish, verdict-of, first-verdict}
 use Rattle.state.specs.declared.Layout.{Layout}
-use Rattle.state.specs.Rows.{rows-of, row-domain}
+use Rattle.state.specs.Rows.{rows-of, origins-of, row-domain}
 use Rattle.waitlist.specs.Waits.{waits, Stored}
 use Rattle.progress.specs.declared.Exit.{Exit}
 use Rattle.progress.specs.declared.Exit.the-variants.{On, Alarm, Full}
@@ -28,6 +28,7 @@ load-of y a t l = record {
   capacity = a .capacity;
   iterations = a .iterations;
   reached = rows-of y (a .used) t;
+  origins = origins-of y (a .used) t;
   waitlist = waits (a .waiting) l;
   verdict = a .verdict;
   edge = a .edge .0;
@@ -107,9 +108,11 @@ advanced a used waiting verdict edge = record {
 pub record VerdictBy (waiting : ℕ) (v : Verdict) : Type 0 where
   pub verdict : (wa : List ℕ) → waiting ≡ length wa → v ≡ verdict-of wa
 
--- the record r and the list l′ hold the end of an iteration that took slot k and ended with p over the list l
+-- the record r and the list l′ hold the end of an iteration that took slot k and ended with p over the list l, where the
+-- slots that it took have the origins os
 pub record Finished (a : Analysis) (k : ℕ) (p : Progress) (l : List ℤ) (r : Analysis) (l′ : List ℤ) : Type 0 where
-  pub load : (y : Layout) (t t₀ l₀ : List ℤ) → load-of y r t l′ ≡ finish rows-only (load-of y a t₀ l₀) k (out-of y t l p)
+  pub load : (y : Layout) (t t₀ l₀ : List ℤ) (os : List Origin) → origins-of y (a .used) t₀ ++ os ≡ origins-of y (p .used) t
+      → load-of y r t l′ ≡ finish rows-only (with-origins rows-only (load-of y a t₀ l₀) os) k (out-of y t l p)
   pub stored : Stored l′ (r .waiting) (waits (r .waiting) l′)
   pub used : r .used ≡ p .used
   pub capacity : r .capacity ≡ a .capacity

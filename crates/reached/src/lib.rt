@@ -1,5 +1,7 @@
-// The reached table in lent words, slot after slot, each with a state at its beginning. Loops carry a slot's id and the
-// place of its words together; what a slot holds past its state is left alone.
+// The reached table in lent words, slot after slot, each a state and after it what first brought the slot: that is written
+// with the state when the slot is taken, and no other function here touches it. Loops carry a slot's id and the place of
+// its words together.
+use semantics::EdgeId;
 use semantics::SlotId;
 use state::Layout;
 ghost use mathlib.Core.Path.{_≡_};
@@ -7,9 +9,9 @@ ghost use mathlib.Core.List.{_++_};
 ghost use Prim.Native.Nat.{_+_, _*_, _<_, _≤_};
 ghost use lib.ListN.{length, take, drop};
 ghost use Rattle.semantics.specs.Lists.{some-of};
-ghost use Rattle.semantics.specs.Layout.{index-limit};
+ghost use Rattle.semantics.specs.Layout.{index-limit, origin-size};
 ghost use Rattle.semantics.specs.Tidy.{Queue};
-ghost use Rattle.state.specs.Rows.{row-leq, rows-merge, rows-of, Laid};
+ghost use Rattle.state.specs.Rows.{row-leq, rows-merge, rows-of, tail-words, Laid};
 ghost use Rattle.waitlist.specs.Waits.{waits, Stored};
 ghost use Rattle.reached.specs.Reached.{rewaits};
 
@@ -54,14 +56,22 @@ pub fn covered(layout: Layout, table: &[i32], used: usize, e: &[i32]) -> bool
     false
 }
 
-// Writes the row e to a slot.
-pub fn put_row(layout: Layout, table: &mut [i32], slot: SlotId, e: &[i32])
-    requires { ⌜ slot .0 * layout .stride + length (now e) ≤ length (now table) ⌝ }
-    ensures { λ _. ⌜ now (table .exit) ≡ take (slot .0 * layout .stride) (now (table .entry)) ++ (now (e .entry) ++ drop (length (now (e .entry))) (drop (slot .0 * layout .stride) (now (table .entry)))) ⌝ }
+// The row e takes a slot, brought by a slot and an edge.
+pub fn put_slot(
+    layout: Layout,
+    table: &mut [i32],
+    slot: SlotId,
+    e: &[i32],
+    parent: SlotId,
+    edge: EdgeId,
+)
+    requires { ⌜ (slot .0 * layout .stride + layout .stride ≤ length (now table)) × (layout .stride ≡ length (now e) + origin-size) ⌝ }
+    ensures { λ _. ⌜ now (table .exit) ≡ take (slot .0 * layout .stride) (now (table .entry)) ++ ((now (e .entry) ++ tail-words (parent .0) (edge .0)) ++ drop (layout .stride) (drop (slot .0 * layout .stride) (now (table .entry)))) ⌝ }
 {
-    let width = e.len();
     let from = layout.slot(slot).at;
-    words::copy_words(&mut table[from..from + width], e);
+    let tail = from + e.len();
+    words::copy_words(&mut table[from..tail], e);
+    state::set_origin(&mut table[tail..from + layout.stride], parent, edge);
 }
 
 // Copies the row of a slot out.

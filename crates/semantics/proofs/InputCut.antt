@@ -3,7 +3,7 @@ use Rattle.semantics.proofs.Prelude.{_≡_, refl, sym, ap, _∙_, subst
 use Rattle.semantics.specs.Lists.{pick}
 use Rattle.semantics.specs.Layout.{most-bytes, go-line-bytes, input-bytes}
 use Rattle.semantics.specs.Reading.{Res, fail, ok, check, refused, read}
-use Rattle.semantics.specs.Program.{has-lf, first-line, past-line, Go, sized, go-line, print-read, print-go, output}
+use Rattle.semantics.specs.Program.{has-lf, first-line, past-line, View, Go, sized, go-line, print-read, print-go, output}
 use Rattle.semantics.specs.Algorithm.{Settings, allowed}
 use Rattle.semantics.specs.Memory.{capacity-ok}
 use Rattle.semantics.specs.Outcomes.{refusal, budget-ok, asked-cases}
@@ -82,30 +82,30 @@ too-long : (text : List ℕ) → most-bytes < length text → read text ≡ refu
 unfolding read
 too-long text l = rw (lt-ltb most-bytes (length text) l)
 
-same-print : (r : Res Go) (x y : List ℕ) → read x ≡ read y → print-go r x ≡ print-go r y
-same-print (fail n) x y e = refl
-same-print (ok g) x y e = ap (print-read g) e
+same-print : (v : View) (r : Res Go) (x y : List ℕ) → read x ≡ read y → print-go v r x ≡ print-go v r y
+same-print v (fail n) x y e = refl
+same-print v (ok g) x y e = ap (print-read v g) e
 
-cut : (p q : List ℕ) → length p ≡ input-bytes → output p ≡ output (p ++ q)
+cut : (v : View) (p q : List ℕ) → length p ≡ input-bytes → output v p ≡ output v (p ++ q)
 unfolding output
-cut p q l = go (has-lf (take go-line-bytes p)) refl
+cut v p q l = go (has-lf (take go-line-bytes p)) refl
   where
     longer : go-line-bytes < length (p ++ q)
     longer = omega (arith, length-append p q)
 
-    go : (x : Bool) → has-lf (take go-line-bytes p) ≡ x → print-go (go-line p) (past-line p) ≡ print-go (go-line (p ++ q)) (past-line (p ++ q))
+    go : (x : Bool) → has-lf (take go-line-bytes p) ≡ x → print-go v (go-line p) (past-line p) ≡ print-go v (go-line (p ++ q)) (past-line (p ++ q))
     go false e = rw (no-line p (omega arith) e, no-line (p ++ q) longer (ap has-lf (take-append-le go-line-bytes p q (omega arith)) ∙ e))
     go true e =
         let t = from-true e in
         let h = past-long go-line-bytes p t in
         let r = after-lf p q (h .0) in
         rw (same-line p q (omega arith) t, r .rest)
-        (same-print (go-line p) (past-line p) (past-line p ++ q) (too-long (past-line p) (omega (arith, h .1)) ∙ sym (too-long (past-line p ++ q) (omega (arith, h .1, length-append (past-line p) q)))))
+        (same-print v (go-line p) (past-line p) (past-line p ++ q) (too-long (past-line p) (omega (arith, h .1)) ∙ sym (too-long (past-line p ++ q) (omega (arith, h .1, length-append (past-line p) q)))))
 
 -- what stands past them changes nothing: the program need not read it
-pub cut-same : (input : List ℕ) → output (take input-bytes input) ≡ output input
-cut-same input = go (decLe (length input) input-bytes)
+pub cut-same : (v : View) (input : List ℕ) → output v (take input-bytes input) ≡ output v input
+cut-same v input = go (decLe (length input) input-bytes)
   where
-    go : Dec (length input ≤ input-bytes) → output (take input-bytes input) ≡ output input
-    go (yes h) = ap output (take-all input-bytes input h)
-    go (no h) = cut (take input-bytes input) (drop input-bytes input) (length-take-le input-bytes input (omega arith)) ∙ ap output (take-append-drop input-bytes input)
+    go : Dec (length input ≤ input-bytes) → output v (take input-bytes input) ≡ output v input
+    go (yes h) = ap (output v) (take-all input-bytes input h)
+    go (no h) = cut v (take input-bytes input) (drop input-bytes input) (length-take-le input-bytes input (omega arith)) ∙ ap (output v) (take-append-drop input-bytes input)

@@ -50,7 +50,7 @@ mark-short : (b : Bool) → length (mark b) ≤ 1
 mark-short true = omega arith
 mark-short false = omega arith
 
-mode-short : (m : Mode) → length (mode-text m) ≤ 4
+pub mode-short : (m : Mode) → length (mode-text m) ≤ 4
 mode-short Sep = omega arith
 mode-short Join = omega arith
 
@@ -70,7 +70,7 @@ few-used c m t =
     omega (arith, leb→le (m .analysis .used) (m .analysis .capacity) (f .used), counted (pos (m .analysis .capacity)) (f .capacity) .few)
 
 module _ (c : Chart) (b : Bounds c) where
-  slot-short : (s : ℕ) (e : AbstractState) (waits : Bool) → s ≤ most-slots → StateOk c e → length (slot-text c s e waits) ≤ 82
+  pub slot-short : (s : ℕ) (e : AbstractState) (waits : Bool) → s ≤ most-slots → StateOk c e → length (slot-text c s e waits) ≤ 82
   slot-short s e waits l h =
       let m = mark waits in
       omega (

@@ -4,7 +4,7 @@ use Rattle.semantics.proofs.Prelude.{_≡_, true, false, _++_, _*_, ari
 use Rattle.semantics.specs.Chart.{Chart}
 use Rattle.semantics.specs.Algorithm.{Exploration}
 use Rattle.semantics.specs.Constants.{AbstractState}
-use Rattle.semantics.specs.Memory.{Memory, width, table-of, waitlist-of, analysis-ok, load}
+use Rattle.semantics.specs.Memory.{Memory, stride, table-of, waitlist-of, analysis-ok, load}
 use Rattle.semantics.specs.Outcomes.{too-few, put-in}
 use Rattle.semantics.proofs.Bools.{to-true}
 use Rattle.semantics.proofs.StatesOk.{Bounds}
@@ -17,12 +17,12 @@ module _ (c : Chart) (b : Bounds c) (w : Exploration AbstractState) (good : Prop
   pub enough-held : too-few c (w .capacity) (length (held .table)) (length (held .waitlist)) ≡ false
   enough-held =
       rw (
-        le-ltb (length (held .table)) (w .capacity * width c) (omega (arith, length-append (table-of c w) (drop (w .capacity * width c) (m .table)), table-length c b w good)),
+        le-ltb (length (held .table)) (w .capacity * stride c) (omega (arith, length-append (table-of c w) (drop (w .capacity * stride c) (m .table)), table-length c b w good)),
         le-ltb (length (held .waitlist)) (w .capacity) (omega (arith, length-append (waitlist-of w) (drop (w .capacity) (m .waitlist)), list-length c b w good)),
       )
 
   pub load-held : load c held ≡ w
-  load-held = load-back c b w good (drop (w .capacity * width c) (m .table)) (drop (w .capacity) (m .waitlist))
+  load-held = load-back c b w good (drop (w .capacity * stride c) (m .table)) (drop (w .capacity) (m .waitlist))
 
   pub held-ok : analysis-ok c held ≡ true
-  held-ok = to-true (analysis-ok c held) (formed-back c b w good (drop (w .capacity * width c) (m .table)) (drop (w .capacity) (m .waitlist)))
+  held-ok = to-true (analysis-ok c held) (formed-back c b w good (drop (w .capacity * stride c) (m .table)) (drop (w .capacity) (m .waitlist)))

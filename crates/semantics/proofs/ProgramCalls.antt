@@ -1,5 +1,6 @@
--- The program's calls go through one after the other on the words that it lends: 14 and 15 never come up. Assumes nothing.
-use Rattle.semantics.proofs.Prelude.{_≡_, List, [], _++_, ℕ, arith, T, length, drop, ℤ, natAbs, le-ltb}
+-- The program's calls go through one after the other on the words that it lends: 14 and 15 never come up, and a path is
+-- refused by 24 alone. Assumes nothing.
+use Rattle.semantics.proofs.Prelude.{_≡_, true, false, List, [], _++_, ℕ, arith, T, length, drop, ℤ, natAbs, le-ltb}
 use Rattle.semantics.proofs.Bools.{to-true}
 use Rattle.semantics.specs.Layout.{most-slots, chart-size, listing-bytes, table-words}
 use Rattle.semantics.specs.Chart.{Chart}
@@ -7,9 +8,10 @@ use Rattle.semantics.specs.Reading.{accepted, read}
 use Rattle.semantics.specs.Algorithm.{Exploration, allowed}
 use Rattle.semantics.specs.Constants.{AbstractState}
 use Rattle.semantics.specs.Encoding.{encode, decode, well-formed}
-use Rattle.semantics.specs.Memory.{Memory, capacity-ok}
+use Rattle.semantics.specs.Memory.{Memory, is-alarm, capacity-ok}
 use Rattle.semantics.specs.Listing.{listing-text}
-use Rattle.semantics.specs.Outcomes.{fine, budget-ok, put-in, read-outcome, begin-outcome, listing-outcome}
+use Rattle.semantics.specs.Path.{path-text}
+use Rattle.semantics.specs.Outcomes.{fine, refused-by, budget-ok, put-in, showing, read-outcome, begin-outcome, listing-outcome, path-outcome}
 use Rattle.semantics.specs.Program.{Go, explored}
 use Rattle.semantics.proofs.StatesOk.{Bounds}
 use Rattle.semantics.proofs.MemoryOf.{counted, Proper}
@@ -17,6 +19,7 @@ use Rattle.semantics.proofs.MemoryPut.{enough-held, load-held, held-ok}
 use Rattle.semantics.proofs.Encoded.{encode-short, formed-bounds}
 use Rattle.semantics.proofs.ReadInBounds.{in-bounds}
 use Rattle.semantics.proofs.ListingShort.{listing-short}
+use Rattle.semantics.proofs.PathShort.{path-short}
 use Rattle.semantics.proofs.Program.{GoOk, never-too-few}
 
 -- 3,163 words hold every chart
@@ -45,3 +48,14 @@ module _ (words : List ℤ) (formed : T (well-formed words)) where
   unfolding listing-outcome
   listing-goes w good m sp s =
       rw (to-true (well-formed words) formed, enough-held chart b w good m, held-ok chart b w good m, load-held chart b w good m, le-ltb (length sp) (length (listing-text chart w)) (omega (arith, listing-short chart b w good)))
+
+  -- likewise a path, by whether there is an alarm
+  module _ (w : Exploration AbstractState) (good : Proper chart w) (m : Memory) (sp : List ℕ) (s : length sp ≡ listing-bytes) where
+    pub path-goes : is-alarm (w .verdict) ≡ true → path-outcome words (put-in chart w m) sp ≡ showing (path-text chart w) (put-in chart w m) sp
+    unfolding path-outcome
+    path-goes e =
+        rw (to-true (well-formed words) formed, enough-held chart b w good m, held-ok chart b w good m, load-held chart b w good m, e, le-ltb (length sp) (length (path-text chart w)) (omega (arith, path-short chart b w good)))
+
+    pub path-refused : is-alarm (w .verdict) ≡ false → path-outcome words (put-in chart w m) sp ≡ record { answer = refused-by 24 0; memory = put-in chart w m; space = sp }
+    unfolding path-outcome
+    path-refused e = rw (to-true (well-formed words) formed, enough-held chart b w good m, held-ok chart b w good m, e)

@@ -13,7 +13,7 @@ use Rattle.semantics.specs.Tidy.{Every}
 use Rattle.semantics.specs.Memory.{analysis-of}
 use Rattle.semantics.specs.Listing.{mode-text, order-text, verdict-text, slots-text, listing-text, refused-text}
 use Rattle.semantics.specs.Rendering.{fields-text}
-use Rattle.semantics.specs.Program.{first-line, past-line, Go, go-line, explored, print-read, print-go, output}
+use Rattle.semantics.specs.Program.{first-line, past-line, Listing, Go, go-line, explored, print-read, print-go, output}
 use Rattle.semantics.specs.ProgramSafe.{verdict-field, ChartSafe, ProgramSafe}
 use Rattle.semantics.proofs.Bools.{and-left, and-right}
 use Rattle.semantics.proofs.Covering.{covering}
@@ -112,7 +112,7 @@ program-safe input = by-go (go-line input) refl
     text : List ℕ
     text = past-line input
 
-    by-read : (g : Go) → GoOk g → (r : Reading) → read text ≡ r → verdict-field (print-read g r) ≡ bytes "safe" → ChartSafe text
+    by-read : (g : Go) → GoOk g → (r : Reading) → read text ≡ r → verdict-field (print-read Listing g r) ≡ bytes "safe" → ChartSafe text
     by-read g h (refused n l) e v = absurd (refused-none n l v)
     by-read g h (accepted c) e v =
         let good = explored-good c (in-bounds text c e) g h in
@@ -125,6 +125,6 @@ program-safe input = by-go (go-line input) refl
           no-overrun = λ ss r j s a h i. let n = in-numbered 1 (c .edges) h i in λ o. all .safe-faultless safe ss r j s a (n .0) (n .1) (subst (λ (x : Edge). Overruns c x s) (sym (n .2)) o);
         }
 
-    by-go : (r : Res Go) → go-line input ≡ r → verdict-field (print-go r text) ≡ bytes "safe" → ChartSafe text
+    by-go : (r : Res Go) → go-line input ≡ r → verdict-field (print-go Listing r text) ≡ bytes "safe" → ChartSafe text
     by-go (fail n) e v = absurd (refused-none n 0 v)
     by-go (ok g) e v = by-read g (go-fine input g e) (read text) refl v

@@ -7,7 +7,7 @@ use Rattle.semantics.specs.Reading.{ok, check}
 use Rattle.semantics.specs.Algorithm.{Settings, Alarm, Exploration, start, first-verdict, has-verdict, allowed}
 use Rattle.semantics.specs.Constants.{AbstractState, constants}
 use Rattle.semantics.specs.Encoding.{decode, well-formed}
-use Rattle.semantics.specs.Memory.{Memory, width, table-of, waitlist-of, analysis-of, capacity-ok}
+use Rattle.semantics.specs.Memory.{Memory, stride, table-of, waitlist-of, analysis-of, capacity-ok}
 use Rattle.semantics.specs.Outcomes.{Outcome, case, refusal, refused-by, settled, fine, size-of, begin-cases, budget-ok, started, resumed, begun, put-in, begin-outcome, run-outcome}
 use Rattle.semantics.specs.Program.{Go, unless, sized, explored}
 use Rattle.semantics.specs.StartThenRun.{start-cases, start-outcome, pair-outcome, bad-start, BadStart, StartThenRun}
@@ -35,10 +35,10 @@ resumed-closed c a w v = run-closed (constants c) (numbered c) (min (natAbs a) (
 -- one exploration put over another of its capacity
 put-twice : (c : Chart) → Bounds c → (w v : Exploration AbstractState) → Proper c w → v .capacity ≡ w .capacity → (m : Memory) → put-in c v (put-in c w m) ≡ put-in c v m
 put-twice c b w v good e m =
-    let p = drop-over (table-of c w) (drop (w .capacity * width c) (m .table)) (v .capacity * width c) (ap (λ (n : ℕ). n * width c) e ∙ sym (table-length c b w good)) in
+    let p = drop-over (table-of c w) (drop (w .capacity * stride c) (m .table)) (v .capacity * stride c) (ap (λ (n : ℕ). n * stride c) e ∙ sym (table-length c b w good)) in
     let q = drop-over (waitlist-of w) (drop (w .capacity) (m .waitlist)) (v .capacity) (e ∙ sym (list-length c b w good)) in
     λ i. record {
-      table = table-of c v ++ (p ∙ ap (λ (n : ℕ). drop (n * width c) (m .table)) (sym e)) i;
+      table = table-of c v ++ (p ∙ ap (λ (n : ℕ). drop (n * stride c) (m .table)) (sym e)) i;
       waitlist = waitlist-of v ++ (q ∙ ap (λ (n : ℕ). drop n (m .waitlist)) (sym e)) i;
       analysis = analysis-of v;
     }

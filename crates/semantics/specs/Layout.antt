@@ -32,6 +32,10 @@ most-iterations = 60000
 abbrev pub go-line-bytes : ℕ
 go-line-bytes = 64
 
+-- 2.2: the parent of slot 0, which no slot is
+abbrev pub no-slot : ℕ
+no-slot = 65535
+
 -- ---- a value
 
 -- "lies in −32,768..32,767"
@@ -67,6 +71,10 @@ location-size = 17
 abbrev pub edge-size : ℕ
 edge-size = 8
 
+-- 2.2, "Each slot gains two words at its end": parent and edge
+abbrev pub origin-size : ℕ
+origin-size = 2
+
 -- ---- what is enough for every chart: "It lends enough, so 14 and 15 never appear"
 
 -- the program's input: a go line, a chart file, and one byte by which the file is too long (`cut-same`)
@@ -77,9 +85,9 @@ input-bytes = go-line-bytes + most-bytes + 1
 abbrev pub chart-size : ℕ
 chart-size = counts-size + variable-size * most-variables + location-size * most-locations + edge-size * most-edges
 
--- the largest table: "room × (v + 1) table words"
+-- the largest table: "room × (v + 1) table words", and two more a slot
 abbrev pub table-words : ℕ
-table-words = most-slots * suc most-variables
+table-words = most-slots * (suc most-variables + origin-size)
 
 -- no listing has more bytes (`listing-short`)
 abbrev pub listing-bytes : ℕ

@@ -9,7 +9,7 @@ use Rattle.semantics.specs.Text.{bytes, fields}
 use Rattle.semantics.specs.Chart.{Chart, Edge, State, Overruns, Error}
 use Rattle.semantics.specs.Reading.{nth, accepted, read}
 use Rattle.semantics.specs.Coverage.{system, Execution}
-use Rattle.semantics.specs.Program.{first-line, past-line, output}
+use Rattle.semantics.specs.Program.{Listing, first-line, past-line, output}
 
 -- "Header: merge, stop, order, verdict ...", after the word `walk`: the fifth field of the first line; a refusal has three
 abbrev pub verdict-field : List ℕ → List ℕ
@@ -22,6 +22,6 @@ pub record ChartSafe (text : List ℕ) : Type 0 where
   pub safe : (ss : List State) → Execution (system chart) ss → (j : ℕ) (s : State) → At ss j s → Error chart s → ⊥
   pub no-overrun : (ss : List State) → Execution (system chart) ss → (j : ℕ) (s : State) → At ss j s → (g : Edge) → In g (chart .edges) → Overruns chart g s → ⊥
 
--- for every input; its chart is what stands after the go line
+-- for every input of the program without arguments; its chart is what stands after the go line
 abbrev pub ProgramSafe : Type 0
-ProgramSafe = (input : List ℕ) → verdict-field (output input) ≡ bytes "safe" → ChartSafe (past-line input)
+ProgramSafe = (input : List ℕ) → verdict-field (output Listing input) ≡ bytes "safe" → ChartSafe (past-line input)

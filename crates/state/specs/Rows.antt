@@ -1,17 +1,19 @@
 -- One abstract state as a row of words, its location and then one word a variable: order, join and merge, with no
--- word on the rows' form; rows of a table; and the rows as a domain of the algorithm. Assumes nothing.
+-- word on the rows' form; rows of a table, and the origins after them; and the rows as a domain of the algorithm. Assumes
+-- nothing.
 use mathlib.Core.Path.{_≡_}
 use mathlib.Core.Bool.{Bool, false, _&&_, _||_}
-use mathlib.Core.List.{List, [], _∷_, _++_}
+use mathlib.Core.List.{List, [], _∷_, _++_, map}
 use Prim.Native.Nat.{ℕ, zero, suc, _+_, _*_, _≤_, _<_}
 use lib.Dec.{ltb}
 use lib.IntN.{ℤ, pos, natAbs}
 use lib.ListN.{length, take, drop, set}
 use Rattle.semantics.specs.Lists.{pick, all-pairs}
 use Rattle.semantics.specs.Chart.{eqZ}
-use Rattle.semantics.specs.Layout.{most-variables, top-word}
+use Rattle.semantics.specs.Layout.{most-variables, top-word, origin-size}
 use Rattle.semantics.specs.Encoding.{word-at, variable-count}
-use Rattle.semantics.specs.Algorithm.{Domain, Step}
+use Rattle.semantics.specs.Algorithm.{Origin, Domain, Step}
+use Rattle.semantics.specs.Memory.{origin-in}
 use Rattle.state.specs.declared.Layout.{Layout}
 use Rattle.state.specs.declared.SlotRow.{SlotRow}
 
@@ -33,13 +35,13 @@ width-of l = l .head + l .value * l .variables
 abbrev pub most-width : ℕ
 most-width = head-size + value-size * most-variables
 
--- the tables of an encoded chart: slot follows slot
+-- the tables of an encoded chart: slot follows slot, each a state and an origin
 abbrev pub layout-of : List ℤ → Layout
 layout-of ws = record {
   head = head-size;
   value = value-size;
   variables = variable-count ws;
-  stride = head-size + value-size * variable-count ws;
+  stride = head-size + value-size * variable-count ws + origin-size;
 }
 
 -- where the location's word stands in a row
@@ -74,7 +76,7 @@ value-at e k = word-at e (value-place k)
 abbrev pub word-limit : ℕ
 word-limit = 2147483648
 
--- the word of a location; one that no word can hold has 0
+-- the word of an id; one that no word can hold has 0
 unfoldable pub id-word : ℕ → ℤ
 id-word n = pick (ltb n word-limit) (pos n) (pos 0)
 
@@ -85,6 +87,10 @@ with-location e n = set e location-place (id-word n)
 -- the row with another value of variable k
 abbrev pub with-value : List ℤ → ℕ → ℤ → List ℤ
 with-value e k x = set e (value-place k) x
+
+-- the words of an origin, by the ids of slot and edge
+abbrev pub tail-words : ℕ → ℕ → List ℤ
+tail-words parent edge = id-word parent ∷ id-word edge ∷ []
 
 -- ---- words
 
@@ -148,10 +154,26 @@ Placed y s = s .at ≡ s .id .0 * y .stride
 abbrev pub row-of : Layout → ℕ → List ℤ → List ℤ
 row-of y s t = take (width-of y) (drop (s * y .stride) t)
 
+-- what f makes of each of the first n slots, d words apart, from its first word on
+abbrev pub by-slot : {A : Type 0} → (List ℤ → A) → ℕ → ℕ → List ℤ → List A
+by-slot f d zero t = []
+by-slot f d (suc n) t = f t ∷ by-slot f d n (drop d t)
+
 -- the states of the first n slots
 abbrev pub rows-of : Layout → ℕ → List ℤ → List (List ℤ)
-rows-of y zero t = []
-rows-of y (suc n) t = take (width-of y) t ∷ rows-of y n (drop (y .stride) t)
+rows-of y n t = by-slot (take (width-of y)) (y .stride) n t
+
+-- what slot s holds past its state
+abbrev pub tail-of : Layout → ℕ → List ℤ → List ℤ
+tail-of y s t = drop (width-of y) (take (y .stride) (drop (s * y .stride) t))
+
+-- what each of the first n slots does
+abbrev pub tails-of : Layout → ℕ → List ℤ → List (List ℤ)
+tails-of y n t = by-slot (λ s. drop (width-of y) (take (y .stride) s)) (y .stride) n t
+
+-- the origins that these say
+abbrev pub origins-of : Layout → ℕ → List ℤ → List Origin
+origins-of y n t = map origin-in (tails-of y n t)
 
 -- the first slot, its state merged with e; the words after the state stay
 abbrev pub slot-merge : List ℤ → Layout → List ℤ → List ℤ

@@ -1,14 +1,18 @@
 // One abstract state as a row of words, its location and then one word a variable: where each stands, in a row and in a
-// table; order, join and merge. No other crate reads or writes a row by place.
+// table, and after it what first brought the slot; order, join and merge. No other crate reads or writes a slot by place.
 // The locations of two rows are compared as words, not as ids: nothing is asked of a row's form, and a word and its
 // negation say the same id.
+use semantics::EdgeId;
 use semantics::LocationId;
 use semantics::SlotId;
 ghost use mathlib.Core.Path.{_≡_};
-ghost use Prim.Native.Nat.{_+_, _*_, _<_, _≤_};
+ghost use Prim.Native.Nat.{_+_, _-_, _*_, _<_, _≤_};
 ghost use lib.ListN.{length};
-ghost use Rattle.semantics.specs.Layout.{index-limit, place-limit};
-ghost use Rattle.state.specs.Rows.{layout-of, width-of, Placed, row-of, location-word, location-in, values-of, value-at, id-word, with-location, with-value, word-leq, word-join, words-leq, same-words, row-leq, row-join, row-merge};
+ghost use lib.Signed.{nonNeg};
+ghost use Rattle.semantics.specs.Lists.{all};
+ghost use Rattle.semantics.specs.Layout.{index-limit, place-limit, origin-size};
+ghost use Rattle.semantics.specs.Memory.{origin-in};
+ghost use Rattle.state.specs.Rows.{layout-of, width-of, Placed, row-of, tail-of, tail-words, location-word, location-in, values-of, value-at, id-word, with-location, with-value, word-leq, word-join, words-leq, same-words, row-leq, row-join, row-merge};
 
 // ---- where the words stand
 
@@ -21,8 +25,14 @@ const VALUE: usize = 1;
 // The most words of a state.
 pub const MOST_WIDTH: usize = HEAD + VALUE * semantics::MOST_VARIABLES;
 
-// How the states of a table stand in its words. A slot begins `stride` words after the one before it; its state is the
-// first words of it, `width` of them.
+// The words after a state: parent and edge of its origin.
+const ORIGIN: usize = 2;
+
+// The most words of a slot.
+pub const MOST_STRIDE: usize = MOST_WIDTH + ORIGIN;
+
+// How the slots of a table stand in its words. A slot begins `stride` words after the one before it; its state is the
+// first words of it, `width` of them, and its origin is the rest.
 pub struct Layout {
     pub head: usize,
     pub value: usize,
@@ -83,6 +93,17 @@ pub fn row_of(layout: Layout, table: &[i32], slot: SlotRow) -> &[i32]
     &table[from..to]
 }
 
+// What a slot holds past its state: the words of its origin.
+pub fn tail_of(layout: Layout, table: &[i32], slot: SlotRow) -> &[i32]
+    requires { ⌜ Placed layout slot × (width-of layout ≤ layout .stride) × (slot .at + layout .stride ≤ length (now table)) ⌝ }
+    ensures tail { λ r. ⌜ now r ≡ tail-of layout (slot .id .0) (now (table .entry)) ⌝ }
+    ensures long { λ r. ⌜ length (now r) ≡ layout .stride - width-of layout ⌝ }
+{
+    let from = slot.at + layout.width();
+    let to = slot.at + layout.stride;
+    &table[from..to]
+}
+
 // The layout of a chart's tables: slot follows slot.
 pub fn layout_of(chart: &[i32]) -> Layout
     ensures layout { λ r. ⌜ r ≡ layout-of (now (chart .entry)) ⌝ }
@@ -93,7 +114,7 @@ pub fn layout_of(chart: &[i32]) -> Layout
         head: HEAD,
         value: VALUE,
         variables,
-        stride: HEAD + VALUE * variables,
+        stride: HEAD + VALUE * variables + ORIGIN,
     }
 }
 
@@ -134,11 +155,10 @@ pub fn value_at(row: &[i32], k: usize) -> i32
 // The least number that no word holds.
 const WORD_LIMIT: usize = 2147483648;
 
-// The word that a row holds for a location; 0 for one that no word can hold.
-fn id_word(l: LocationId) -> i32
-    ensures { λ r. ⌜ r ≡ id-word (l .0) ⌝ }
+// The word that a slot holds for an id; 0 for one that no word can hold.
+fn id_word(n: usize) -> i32
+    ensures { λ r. ⌜ r ≡ id-word n ⌝ }
 {
-    let n = l.0;
     if n < WORD_LIMIT {
         return n as i32;
     }
@@ -150,7 +170,7 @@ pub fn set_location(row: &mut [i32], l: LocationId)
     requires { ⌜ 0 < length (now row) ⌝ }
     ensures { λ _. ⌜ now (row .exit) ≡ with-location (now (row .entry)) (l .0) ⌝ }
 {
-    row[LOCATION_PLACE] = id_word(l);
+    row[LOCATION_PLACE] = id_word(l.0);
 }
 
 // Variable k becomes x; nothing where there is none.
@@ -162,6 +182,52 @@ pub fn set_value(row: &mut [i32], k: usize, x: i32)
     if i < row.len() {
         row[i] = x;
     }
+}
+
+// ---- the origin
+
+const PARENT_PLACE: usize = 0;
+
+const EDGE_PLACE: usize = 1;
+
+// The slot that first brought it.
+pub fn parent_of(tail: &[i32]) -> SlotId
+    ensures parent { λ r. ⌜ r .0 ≡ origin-in (now (tail .entry)) .parent ⌝ }
+    ensures small { λ r. ⌜ r .0 < index-limit ⌝ }
+{
+    SlotId(words::number_at(tail, PARENT_PLACE))
+}
+
+// The edge that did.
+pub fn edge_of(tail: &[i32]) -> EdgeId
+    ensures edge { λ r. ⌜ r .0 ≡ origin-in (now (tail .entry)) .edge ⌝ }
+    ensures small { λ r. ⌜ r .0 < index-limit ⌝ }
+{
+    EdgeId(words::number_at(tail, EDGE_PLACE))
+}
+
+fn not_negative(w: i32) -> bool
+    ensures { λ r. ⌜ r ≡ nonNeg w ⌝ }
+{
+    0 <= w
+}
+
+// Whether neither word is negative.
+pub fn tail_ok(tail: &[i32]) -> bool
+    requires { ⌜ length (now tail) ≡ origin-size ⌝ }
+    ensures { λ r. ⌜ r ≡ all nonNeg (now (tail .entry)) ⌝ }
+{
+    not_negative(words::word_at(tail, PARENT_PLACE))
+        & not_negative(words::word_at(tail, EDGE_PLACE))
+}
+
+// The slot was first brought by these.
+pub fn set_origin(tail: &mut [i32], parent: SlotId, edge: EdgeId)
+    requires { ⌜ length (now tail) ≡ origin-size ⌝ }
+    ensures { λ _. ⌜ now (tail .exit) ≡ tail-words (parent .0) (edge .0) ⌝ }
+{
+    tail[PARENT_PLACE] = id_word(parent.0);
+    tail[EDGE_PLACE] = id_word(edge.0);
 }
 
 // ---- order, join and merge

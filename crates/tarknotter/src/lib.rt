@@ -8,7 +8,7 @@ use semantics::Settings;
 use semantics::Verdict;
 ghost use mathlib.Core.Path.{_≡_};
 ghost use Rattle.semantics.specs.Encoding.{well-formed};
-ghost use Rattle.semantics.specs.Outcomes.{read-outcome, run-outcome, listing-outcome};
+ghost use Rattle.semantics.specs.Outcomes.{read-outcome, run-outcome, listing-outcome, path-outcome};
 ghost use Rattle.checks.specs.Form.{lent};
 ghost use Rattle.tarknotter.specs.Replies.{as-reply};
 ghost use Rattle.tarknotter.specs.Records.{mode-code, order-code, verdict-code, record-of, mode-in, order-in, verdict-in, settings-in, settings-named, codes-named, analysis-in};
@@ -292,4 +292,19 @@ pub extern "C" fn tarknotter_listing(
     ensures space { λ _. ⌜ now (space .exit) ≡ listing-outcome (now (chart .entry)) (lent (now (table .entry)) (now (list .entry)) (analysis-in «record»)) (now (space .entry)) .space ⌝ }
 {
     replied(listing::listing(chart, analysis_in(record), table, list, space))
+}
+
+// Writes the path to the alarm of an analysis and answers its length.
+#[no_mangle]
+pub extern "C" fn tarknotter_path(
+    chart: &[i32],
+    record: Record,
+    table: &[i32],
+    list: &[i32],
+    space: &mut [u8],
+) -> Reply
+    ensures reply { λ r. ⌜ r ≡ as-reply (path-outcome (now (chart .entry)) (lent (now (table .entry)) (now (list .entry)) (analysis-in «record»)) (now (space .entry)) .answer) ⌝ }
+    ensures space { λ _. ⌜ now (space .exit) ≡ path-outcome (now (chart .entry)) (lent (now (table .entry)) (now (list .entry)) (analysis-in «record»)) (now (space .entry)) .space ⌝ }
+{
+    replied(listing::path(chart, analysis_in(record), table, list, space))
 }

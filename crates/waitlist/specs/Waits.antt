@@ -53,6 +53,11 @@ next-place b j = pick b j (j + 1)
 abbrev pub kept-at : Bool → List ℤ → ℕ → ℤ → List ℤ
 kept-at b l j x = pick b l (set l j x)
 
+-- the slot k is next by the order o among the slots wa
+pub record NextBy (o : Order) (wa : List ℕ) (k : ℕ) : Type 0 where
+  pub rest : List ℕ
+  pub taken : take-by o wa ≡ some (record { slot = k; rest = rest })
+
 -- the slot k was taken by the order o from the slots wa, and the words l, n of them in use, hold the rest
 pub record TakenFrom (o : Order) (wa : List ℕ) (k : ℕ) (l : List ℤ) (n : ℕ) : Type 0 where
   pub taken : take-by o wa ≡ some (record { slot = k; rest = waits n l })

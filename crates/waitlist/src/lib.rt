@@ -5,17 +5,17 @@
 use semantics::Order;
 use semantics::SlotId;
 ghost use mathlib.Core.Path.{_≡_};
-ghost use mathlib.Core.List.{_∷_, [], _++_};
+ghost use mathlib.Core.List.{_∷_, [], _++_, map};
 ghost use Prim.Native.Nat.{_+_, _-_, _<_, _≤_};
 ghost use lib.Dec.{eqb};
-ghost use lib.IntN.{pos};
+ghost use lib.IntN.{pos, natAbs};
 ghost use lib.ListN.{length, take, drop, replicate};
 ghost use Rattle.semantics.specs.Layout.{index-limit};
 ghost use Rattle.semantics.specs.Chart.{eqZ};
 ghost use Rattle.semantics.specs.Lists.{pick, some-of};
 ghost use Rattle.semantics.specs.declared.Order.the-variants.{Old, New};
 ghost use Rattle.semantics.specs.Algorithm.{without, put-back, wait};
-ghost use Rattle.waitlist.specs.Waits.{waits, Stored, Admits, pushed, shifted, others, next-place, kept-at, TakenFrom};
+ghost use Rattle.waitlist.specs.Waits.{waits, Stored, Admits, pushed, shifted, others, next-place, kept-at, TakenFrom, NextBy};
 
 // The word that says a slot.
 fn slot_word(slot: SlotId) -> i32
@@ -125,6 +125,17 @@ fn remove_word(list: &mut [i32], count: usize, k: i32) -> usize
         i += 1;
     }
     j
+}
+
+// The slot that is next by the order; the words that wait are lent alone.
+pub fn next_slot(order: Order, list: &[i32]) -> SlotId
+    requires { ⌜ 0 < length (now list) ⌝ }
+    ensures { λ r. ⌜ NextBy order (map natAbs (now (list .entry))) (r .0) ⌝ }
+{
+    match order {
+        Order::Old => SlotId(words::number_at(list, 0)),
+        Order::New => SlotId(words::number_at(list, list.len() - 1)),
+    }
 }
 
 // Takes the slot that joined first. Only the words in use move.

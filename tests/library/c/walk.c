@@ -1,10 +1,10 @@
 /* Reads a chart of three variables from standard input and walks it with room 6 under each of the settings. After each call it
-   prints every field of the reply and the record and every word lent, and after a listing the listing. C and C++. */
+   prints every field of the reply and the record and every word lent, and after a listing or path its text. C and C++. */
 #include <stdio.h>
 
 #include "layout.h"
 
-enum { ROOM = 6, TABLE = ROOM * (3 + 1), NO_MERGE = 7 };
+enum { ROOM = 6, TABLE = ROOM * (3 + 3), NO_MERGE = 7 };
 
 static uint8_t text[40000], space[TARKNOTTER_LISTING_BYTES];
 static int32_t chart[TARKNOTTER_CHART_WORDS], table[TABLE], list[ROOM];
@@ -49,6 +49,14 @@ static size_t listing(size_t space_length) {
     return reply.length;
 }
 
+static size_t path(size_t space_length) {
+    struct tarknotter_reply reply =
+        tarknotter_path(chart, TARKNOTTER_CHART_WORDS, record, table, TABLE, list, ROOM, space, space_length);
+    print_call("path", reply);
+    fwrite(space, 1, reply.length, stdout);
+    return reply.length;
+}
+
 /* In small budgets and then to the verdict, with a refusal of each call; then anew, a part and the whole at once. */
 static void walk(uint32_t merge, uint32_t stop, uint32_t order) {
     begin(merge, stop, order, 100, TABLE - 1);
@@ -56,10 +64,13 @@ static void walk(uint32_t merge, uint32_t stop, uint32_t order) {
     run(0);
     run(1);
     run(2);
+    path(sizeof space);
     run(100);
     run(100);
     size_t length = listing(sizeof space);
     listing(length - 1);
+    length = path(sizeof space);
+    if (length > 0) path(length - 1);
     begin(merge, stop, order, -1, TABLE - 1);
     begin(merge, stop, order, 3, TABLE);
     begin(merge, stop, order, 100, TABLE);

@@ -1,10 +1,11 @@
 //! The verified library's calls, safe to call from Rust, beside the reference walker's under the same
-//! signatures, and files to call them with.
+//! signatures, and files and words to call them with.
 
 pub mod files;
+pub mod lent;
 pub mod walker;
 
-/// What a call answers: 0 and line 0 with the length of a listing, or the refusal's number and line.
+/// What a call answers: 0 and line 0 with the length of a listing or path, or the refusal's number and line.
 #[repr(C)]
 #[derive(Clone, Copy, Debug, PartialEq, Eq)]
 pub struct Reply {
@@ -88,7 +89,8 @@ pub type Read = fn(&[u8], &mut [i32]) -> Reply;
 /// The two numbers are the capacity and the budget.
 pub type Begin = fn(&[i32], Settings, i32, i32, Record, &mut [i32], &mut [i32]) -> Called;
 pub type Run = fn(&[i32], i32, Record, &mut [i32], &mut [i32]) -> Called;
-pub type Listing = fn(&[i32], Record, &[i32], &[i32], &mut [u8]) -> Reply;
+/// A listing or a path.
+pub type Report = fn(&[i32], Record, &[i32], &[i32], &mut [u8]) -> Reply;
 
 /// The calls of one of the two, to compare and to time them.
 #[derive(Clone, Copy)]
@@ -96,10 +98,11 @@ pub struct Calls {
     pub read: Read,
     pub begin: Begin,
     pub run: Run,
-    pub listing: Listing,
+    pub listing: Report,
+    pub path: Report,
 }
 
-pub const LIBRARY: Calls = Calls { read, begin, run, listing };
+pub const LIBRARY: Calls = Calls { read, begin, run, listing, path };
 
 /// A slice passes as its pointer and its length.
 mod linked {
@@ -138,6 +141,17 @@ mod linked {
             list_length: usize,
         ) -> Called;
         pub fn tarknotter_listing(
+            chart: *const i32,
+            chart_length: usize,
+            record: Record,
+            table: *const i32,
+            table_length: usize,
+            list: *const i32,
+            list_length: usize,
+            space: *mut u8,
+            space_length: usize,
+        ) -> Reply;
+        pub fn tarknotter_path(
             chart: *const i32,
             chart_length: usize,
             record: Record,
@@ -226,6 +240,24 @@ pub fn listing(
     // SAFETY: each pointer and length are those of one slice, and the space overlaps none of them.
     unsafe {
         linked::tarknotter_listing(
+            chart.as_ptr(),
+            chart.len(),
+            record,
+            table.as_ptr(),
+            table.len(),
+            list.as_ptr(),
+            list.len(),
+            space.as_mut_ptr(),
+            space.len(),
+        )
+    }
+}
+
+/// Writes the path to the alarm to the beginning of `space`.
+pub fn path(chart: &[i32], record: Record, table: &[i32], list: &[i32], space: &mut [u8]) -> Reply {
+    // SAFETY: each pointer and length are those of one slice, and the space overlaps none of them.
+    unsafe {
+        linked::tarknotter_path(
             chart.as_ptr(),
             chart.len(),
             record,

@@ -5,7 +5,7 @@ use reference::calls::{self, Answer};
 
 use crate::{Called, Calls, Record, Reply, Settings};
 
-pub const WALKER: Calls = Calls { read, begin, run, listing };
+pub const WALKER: Calls = Calls { read, begin, run, listing, path };
 
 /// By their codes.
 const MERGES: [Merge; 2] = [Merge::Sep, Merge::Join];
@@ -54,6 +54,11 @@ pub fn listing(
     space: &mut [u8],
 ) -> Reply {
     let (answer, length) = calls::listing(chart, table, list, &held(&record), space);
+    Reply { length, ..Reply::from(answer) }
+}
+
+pub fn path(chart: &[i32], record: Record, table: &[i32], list: &[i32], space: &mut [u8]) -> Reply {
+    let (answer, length) = calls::path(chart, table, list, &held(&record), space);
     Reply { length, ..Reply::from(answer) }
 }
 

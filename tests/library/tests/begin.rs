@@ -1,79 +1,16 @@
 //! The library's begin held to what document 02 says of it, not to the walker: the order of its refusals,
 //! that it looks at nothing held but the chart, and that it comes to what a start and a run came to.
 
-use library::{files, Record, Reply, Settings, LIBRARY};
+use library::lent::{Lent, ALARM, ANY, OPEN, SAFE, SEP, SPACE};
+use library::{files, Record, Settings};
 use reference::calls::held_chart;
 use reference::chart::Chart;
-use reference::encoding::MAX_WORDS;
-use reference::memory::{Memory, JUNK};
+use reference::memory::JUNK;
 use reference::random::calls::{begin, lent_to_begin};
 use reference::random::{count_at_least, inputs, seed, Random};
 
 /// Of each sort, so that another seed finds it too.
 const FEWEST: usize = 20;
-const SPACE: usize = 24_576;
-
-/// Verdicts by their codes.
-const OPEN: u32 = 0;
-const SAFE: u32 = 1;
-const ALARM: u32 = 2;
-
-const SEP: Settings = Settings { merge: 0, stop: 0, order: 0 };
-/// An unspecific value.
-const ANY: i32 = 32_768;
-
-#[derive(Clone, Debug, PartialEq, Eq)]
-struct Lent {
-    chart: Vec<i32>,
-    record: Record,
-    table: Vec<i32>,
-    list: Vec<i32>,
-}
-
-impl Lent {
-    /// A chart as read, with words before the first begin.
-    fn new(file: &[u8], table: usize, list: usize) -> Self {
-        let mut chart = vec![0; MAX_WORDS];
-        assert_eq!((LIBRARY.read)(file, &mut chart).number, 0);
-        Lent { chart, record: Record::NONE, table: vec![JUNK; table], list: vec![JUNK; list] }
-    }
-
-    /// Case A after three iterations, with room for eight slots.
-    fn underway() -> Self {
-        let mut lent = Lent::new(files::case_a(), 32, 8);
-        assert_eq!((lent.begin(SEP, 8, 0), lent.run(3)), (0, 0));
-        lent
-    }
-
-    fn begin(&mut self, settings: Settings, capacity: i32, budget: i32) -> u32 {
-        let Lent { chart, record, table, list } = self;
-        let called = (LIBRARY.begin)(chart, settings, capacity, budget, *record, table, list);
-        *record = called.record;
-        assert_eq!((called.reply.line, called.reply.length), (0, 0));
-        called.reply.number
-    }
-
-    fn run(&mut self, budget: i32) -> u32 {
-        let Lent { chart, record, table, list } = self;
-        let called = (LIBRARY.run)(chart, budget, *record, table, list);
-        *record = called.record;
-        called.reply.number
-    }
-
-    fn listing(&self) -> (Reply, Vec<u8>) {
-        let mut space = vec![0; SPACE];
-        let reply =
-            (LIBRARY.listing)(&self.chart, self.record, &self.table, &self.list, &mut space);
-        (reply, space)
-    }
-}
-
-impl From<Memory> for Lent {
-    fn from(memory: Memory) -> Self {
-        let Memory { chart, table, waitlist, record } = memory;
-        Lent { chart, record: Record::from(record), table, list: waitlist }
-    }
-}
 
 /// Where a begin goes through, it comes to what one without a budget and a run with it come to; at an error
 /// location it goes through, and the run is refused by 22. A refused one leaves everything as it was.
@@ -99,8 +36,8 @@ fn a_begin_is_a_plain_one_and_a_run() {
             continue;
         }
         assert!(one == pair, "{one:?} is not {pair:?}: {}", shown());
-        assert!(one.listing() == pair.listing(), "{}", shown());
-        assert_eq!(one.listing().0.number, 0, "{}", shown());
+        assert!(one.listing(SPACE) == pair.listing(SPACE), "{}", shown());
+        assert_eq!(one.listing(SPACE).0, 0, "{}", shown());
         let chart = held_chart(&one.chart).expect("the begin has gone through");
         if chart.location(Chart::START).is_error {
             let Record { iterations, used, waiting, verdict, edge, .. } = one.record;
@@ -125,13 +62,13 @@ fn the_first_refusal_is_answered() {
         let applies = |number: u32| all().any(|(_, each)| each == number);
         let mut before = Lent::underway();
         // As no begin leaves slot 0, so that one that has written it is seen.
-        before.table[..4].copy_from_slice(&[3, 1, 1, 5]);
+        before.table[..6].copy_from_slice(&[3, 1, 1, 5, 1, 1]);
         if applies(20) {
             // The first variable's least value, above its highest.
             before.chart[3] = 2;
         }
         if applies(14) {
-            before.table.truncate(31);
+            before.table.truncate(47);
         }
         let settings = Settings {
             merge: 0,
@@ -155,11 +92,11 @@ fn the_first_refusal_is_answered() {
 
 #[test]
 fn a_begin_takes_just_its_words() {
-    for (table, list, expected) in [(32, 8, 0), (31, 8, 14), (32, 7, 14), (33, 9, 0)] {
+    for (table, list, expected) in [(48, 8, 0), (47, 8, 14), (48, 7, 14), (49, 9, 0)] {
         for budget in [0, 2, 60_000] {
             let mut lent = Lent::new(files::case_a(), table, list);
             assert_eq!(lent.begin(SEP, 8, budget), expected, "{table}, {list}, {budget}");
-            assert!(lent.table[32.min(table)..].iter().all(|&word| word == JUNK));
+            assert!(lent.table[48.min(table)..].iter().all(|&word| word == JUNK));
             assert!(lent.list[8.min(list)..].iter().all(|&word| word == JUNK));
         }
     }
@@ -169,13 +106,13 @@ fn a_begin_takes_just_its_words() {
 #[test]
 fn a_begin_plays_its_budget() {
     for (budget, used) in (0..).zip([1, 3, 4, 5, 6, 7, 7, 7, 7]) {
-        let mut lent = Lent::new(files::case_a(), 32, 8);
+        let mut lent = Lent::new(files::case_a(), 48, 8);
         assert_eq!(lent.begin(SEP, 8, budget), 0);
         let Record { iterations, verdict, .. } = lent.record;
         assert_eq!((iterations, lent.record.used), (budget.min(7) as u32, used));
         assert_eq!(verdict, if budget < 7 { OPEN } else { SAFE });
         if budget == 0 {
-            assert_eq!(lent.table, [&[0, 0, 0, ANY][..], &[0; 28]].concat());
+            assert_eq!(lent.table, [&[0, 0, 0, ANY, 65_535, 0][..], &[0; 42]].concat());
             assert_eq!((lent.record.waiting, &lent.list[..]), (1, &[0; 8][..]));
         }
         assert_eq!(lent.run(1), if budget < 7 { 0 } else { 22 });
@@ -186,9 +123,9 @@ fn a_begin_plays_its_budget() {
 fn an_error_location_at_the_start_is_an_alarm_at_once() {
     let file = b"V\tx\t0\t9\t4\nL\tonly\te\nL\tnext\to\nE\t0\t0\tadd\t$0\t$0\t1\nE\t0\t1\tskip\n";
     for budget in [0, 1, 5, 60_000] {
-        let mut lent = Lent::new(file, 7, 4);
+        let mut lent = Lent::new(file, 13, 4);
         assert_eq!(lent.begin(Settings { merge: 1, stop: 1, order: 1 }, 3, budget), 0);
-        assert_eq!(lent.table, [0, 4, 0, 0, 0, 0, JUNK]);
+        assert_eq!(lent.table, [0, 4, 65_535, 0, 0, 0, 0, 0, 0, 0, 0, 0, JUNK]);
         assert_eq!(lent.list, [0, 0, 0, JUNK]);
         let expected = Record {
             merge: 1,
@@ -215,7 +152,7 @@ fn what_is_held_is_not_looked_at() {
             assert_eq!(lent.begin(SEP, 8, budget), 0, "{lent:?}, budget {budget}");
             lent
         };
-        let expected = begun(Lent::new(files::case_a(), 32, 8));
+        let expected = begun(Lent::new(files::case_a(), 48, 8));
         let anew = |change: &dyn Fn(&mut Lent)| {
             let mut lent = Lent::underway();
             change(&mut lent);
@@ -238,7 +175,7 @@ fn what_is_held_is_not_looked_at() {
         for word in [0, -1, 1, 9, ANY, ANY + 1, i32::MIN, i32::MAX] {
             anew(&|lent| lent.table.fill(word));
             anew(&|lent| lent.list.fill(word));
-            anew(&|lent| lent.table[31] = word);
+            anew(&|lent| lent.table[47] = word);
             anew(&|lent| lent.list[7] = word);
         }
     }

@@ -6,7 +6,7 @@ use std::path::{Path, PathBuf};
 use std::process::{Command, Stdio};
 
 use library::walker::WALKER;
-use library::{files, Called, Record, Reply, Settings};
+use library::{files, Called, Record, Reply, Report, Settings};
 use reference::encoding::MAX_WORDS;
 use reference::random::permitted_settings;
 
@@ -38,6 +38,9 @@ fn a_c_program_walks_case_a() {
         "\nbegin: 14 0 0, record",
         "\nrun: 22 0 0, record",
         "\nlisting: 15 0 0, record",
+        include_str!("../../cases/2.2-path-a-join-new.out"),
+        "\npath: 15 0 0, record",
+        "\npath: 24 0 0, record",
         "\nbegin: 6 0 0, record",
     ] {
         assert!(expected.contains(part), "{part} is not in\n{expected}");
@@ -58,7 +61,7 @@ struct Shown {
 
 impl Shown {
     const ROOM: usize = 6;
-    const TABLE: usize = Shown::ROOM * (3 + 1);
+    const TABLE: usize = Shown::ROOM * (3 + 3);
     const SPACE: usize = 24_576;
     const NO_MERGE: u32 = 7;
 
@@ -68,7 +71,7 @@ impl Shown {
             record: Record::NONE,
             table: [0; Shown::TABLE],
             list: [0; Shown::ROOM],
-            text: format!("{MAX_WORDS} {} {} {}\n", 256 * 9, 256, Shown::SPACE),
+            text: format!("{MAX_WORDS} {} {} {}\n", 256 * 11, 256, Shown::SPACE),
         };
         let reply = (WALKER.read)(files::case_a(), &mut shown.chart);
         shown.show("read", reply);
@@ -81,11 +84,19 @@ impl Shown {
     fn walk(&mut self, settings: Settings) {
         self.begin(settings, 100, Shown::TABLE - 1);
         self.begin(settings, 0, Shown::TABLE);
-        for budget in [0, 1, 2, 100, 100] {
+        for budget in [0, 1, 2] {
+            self.run(budget);
+        }
+        self.path(Shown::SPACE);
+        for budget in [100, 100] {
             self.run(budget);
         }
         let length = self.listing(Shown::SPACE);
         self.listing(length - 1);
+        let length = self.path(Shown::SPACE);
+        if length > 0 {
+            self.path(length - 1);
+        }
         self.begin(settings, -1, Shown::TABLE - 1);
         self.begin(settings, 3, Shown::TABLE);
         self.begin(settings, 100, Shown::TABLE);
@@ -107,10 +118,18 @@ impl Shown {
     }
 
     fn listing(&mut self, lent: usize) -> usize {
+        self.report("listing", WALKER.listing, lent)
+    }
+
+    fn path(&mut self, lent: usize) -> usize {
+        self.report("path", WALKER.path, lent)
+    }
+
+    fn report(&mut self, name: &str, call: Report, lent: usize) -> usize {
         let mut space = vec![0; lent];
-        let reply = (WALKER.listing)(&self.chart, self.record, &self.table, &self.list, &mut space);
-        self.show("listing", reply);
-        self.text += std::str::from_utf8(&space[..reply.length]).expect("a listing is text");
+        let reply = call(&self.chart, self.record, &self.table, &self.list, &mut space);
+        self.show(name, reply);
+        self.text += std::str::from_utf8(&space[..reply.length]).expect("it is text");
         reply.length
     }
 

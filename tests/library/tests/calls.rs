@@ -1,21 +1,25 @@
-//! The library's begin, run and listing against the reference walker's: after every call the
+//! The library's begin, run, listing and path against the reference walker's: after every call the
 //! answer, the record, every lent word and byte, and those around them.
 
 use library::walker::{held, WALKER};
 use library::{files, Called, Calls, Record, Reply, Settings, LIBRARY};
-use reference::analysis::{self, Analysis, Merge, Order, Stop};
+use reference::analysis::{self, Analysis, Merge, Order, Stop, Verdict};
 use reference::begins::{begin_corners, begin_corners_of, refusals, Begin, BeginCorner};
-use reference::calls::{advanced, begun};
+use reference::calls::{advanced, begun, held_chart};
 use reference::chart::Chart;
 use reference::coverage::{analysis_label, analysis_labels, corner_labels, corner_labels_of, Met};
 use reference::domain::TOP;
 use reference::encoding::MAX_WORDS;
+use reference::listing::Report;
 use reference::memory::Memory;
+use reference::paths::{alarm_corners, alarm_corners_of, path_corners, path_corners_of};
 use reference::program::{chart_part, read_go_line};
-use reference::random::calls::{begin, call, disturb, relend, Call};
+use reference::random::calls::{
+    begin, call, disturb, relend, report_space, Call, REPORT_BYTES as SPACE,
+};
 use reference::random::{count_at_least, inputs, permitted_settings, seed, Random};
 use reference::reader;
-use reference::worked::{cases, examples};
+use reference::worked::{cases, example_paths, examples};
 
 const CALLS_PER_CHART: usize = 16;
 /// Of each number and verdict, so that another seed finds it too.
@@ -24,8 +28,6 @@ const FEWEST: usize = 20;
 const FEWEST_CORNERS: usize = 5;
 /// Words and bytes around each buffer that is lent.
 const FENCE: usize = 4;
-/// More than any listing takes: into as many bytes it is written without being measured.
-const SPACE: usize = 24_576;
 
 /// Before the first begin.
 const NO_RECORD: Record = Record {
@@ -45,7 +47,7 @@ const NO_RECORD: Record = Record {
 enum Made {
     Begin { settings: Settings, capacity: i32, budget: i32 },
     Run { budget: i32 },
-    Listing,
+    Report(Report),
 }
 
 /// All that is lent to a call, each buffer within a fence.
@@ -80,9 +82,13 @@ impl Lent {
                 (calls.begin)(chart, settings, capacity, budget, self.record, table, list)
             }
             Made::Run { budget } => (calls.run)(chart, budget, self.record, table, list),
-            Made::Listing => {
+            Made::Report(report) => {
                 let space = within_mut(&mut self.space);
-                return (calls.listing)(chart, self.record, table, list, space);
+                let call = match report {
+                    Report::Listing => calls.listing,
+                    Report::Path => calls.path,
+                };
+                return call(chart, self.record, table, list, space);
             }
         };
         self.record = called.record;
@@ -123,7 +129,7 @@ fn compare(lent: &mut Lent, made: Made) -> Reply {
     assert_eq!(lent.record, expected.record, "{}", shown());
     assert!(lent.table == expected.table, "the tables differ: {}", shown());
     assert!(lent.list == expected.list, "the waitlists differ: {}", shown());
-    assert!(lent.space == expected.space, "the listings differ: {}", shown());
+    assert!(lent.space == expected.space, "the texts differ: {}", shown());
     assert!(lent.chart == before.chart, "the chart is written: {}", shown());
     assert!(reply.number == 0 || *lent == before, "refused and written: {}", shown());
     reply
@@ -133,7 +139,8 @@ fn label(made: Made, number: u32) -> String {
     let name = match made {
         Made::Begin { .. } => "begin",
         Made::Run { .. } => "run",
-        Made::Listing => "listing",
+        Made::Report(Report::Listing) => "listing",
+        Made::Report(Report::Path) => "path",
     };
     format!("{name} {number}")
 }
@@ -144,13 +151,14 @@ fn labels() -> Vec<String> {
         ("begin", &[0, 6, 11, 12, 13, 14, 20][..]),
         ("run", &[0, 13, 14, 20, 21, 22, 23]),
         ("listing", &[0, 14, 15, 20, 21]),
+        ("path", &[0, 14, 15, 20, 21, 24]),
     ]
     .iter()
     .flat_map(|(name, numbers)| numbers.iter().map(move |number| format!("{name} {number}")))
     .collect()
 }
 
-/// The analysis that a call leaves in what it is lent, where it goes through and is no listing.
+/// The analysis that a call leaves in what it is lent, where it goes through and is a begin or a run.
 fn left(made: Made, lent: &Memory) -> Option<Analysis> {
     let Memory { chart, table, waitlist, record } = lent;
     match made {
@@ -158,7 +166,7 @@ fn left(made: Made, lent: &Memory) -> Option<Analysis> {
             begun(chart, settings.named()?, capacity, budget, table, waitlist).ok()
         }
         Made::Run { budget } => advanced(chart, budget, table, waitlist, record).ok(),
-        Made::Listing => None,
+        Made::Report(_) => None,
     }
 }
 
@@ -181,8 +189,7 @@ fn make_odd(random: &mut Random, record: &mut Record) {
     }
 }
 
-/// A call, and how many bytes are lent to a listing.
-fn random_call(random: &mut Random, chart: &Chart, is_begun: bool) -> (Made, usize) {
+fn random_call(random: &mut Random, chart: &Chart, is_begun: bool) -> Made {
     let call = match is_begun || random.percent(20) {
         true => call(random, chart),
         false => Call::Begin(begin(random, chart)),
@@ -198,10 +205,10 @@ fn random_call(random: &mut Random, chart: &Chart, is_begun: bool) -> (Made, usi
                     _ => settings.order = code,
                 }
             }
-            (Made::Begin { settings, capacity, budget }, random.below(4))
+            Made::Begin { settings, capacity, budget }
         }
-        Call::Run { budget } => (Made::Run { budget }, random.below(4)),
-        Call::Listing { space } => (Made::Listing, space),
+        Call::Run { budget } => Made::Run { budget },
+        Call::Report(report) => Made::Report(report),
     }
 }
 
@@ -214,7 +221,7 @@ fn lend(random: &mut Random, memory: &Memory, made: Made) -> Memory {
     let mut lent = relend(random, memory, capacity);
     let taken = memory.record.capacity as usize;
     for (words, taken) in
-        [(&mut lent.table, taken * (memory.chart[0] as usize + 1)), (&mut lent.waitlist, taken)]
+        [(&mut lent.table, taken * memory.slot_width()), (&mut lent.waitlist, taken)]
     {
         if words.len() > taken {
             let after = rubbish(random, words.len() - taken);
@@ -224,16 +231,12 @@ fn lend(random: &mut Random, memory: &Memory, made: Made) -> Memory {
     lent
 }
 
-/// How much to lend for a listing: now and then enough for any, just enough, one byte more or one less.
-fn listing_space(random: &mut Random, memory: &Memory, space: usize) -> usize {
-    if random.percent(50) {
-        return space;
+/// How many bytes are lent beside the words; to a begin or a run a few, which it must leave alone.
+fn space(random: &mut Random, memory: &Memory, made: Made) -> usize {
+    match made {
+        Made::Report(report) => report_space(random, memory, report),
+        Made::Begin { .. } | Made::Run { .. } => random.below(4),
     }
-    if random.percent(50) {
-        return SPACE;
-    }
-    let length = memory.listing(SPACE).1.len();
-    (length + random.below(3)).saturating_sub(1)
 }
 
 /// What a begin meets in what it is lent; with a code that names nothing, which refusals 6 comes before.
@@ -259,12 +262,13 @@ fn lists_of_calls_are_answered_alike() {
     let mut random = Random::new(seed());
     let (mut answers, mut verdicts) = (Met::new(), Met::new());
     let (mut corners, mut begins) = (Met::new(), Met::new());
-    for _ in 0..count_at_least(4_000) {
+    let (mut path_calls, mut paths) = (Met::new(), Met::new());
+    for _ in 0..count_at_least(5_000) {
         let chart = inputs::chart(&mut random);
-        let mut memory = Memory::new(&chart, 256 * chart.width(), 256);
+        let mut memory = Memory::new(&chart, 256 * chart.slot_width(), 256);
         let mut is_begun = false;
         for _ in 0..CALLS_PER_CHART {
-            let (made, space) = random_call(&mut random, &chart, is_begun);
+            let made = random_call(&mut random, &chart, is_begun);
             let mut next = lend(&mut random, &memory, made);
             if random.percent(20) {
                 disturb(&mut random, &mut next);
@@ -272,7 +276,7 @@ fn lists_of_calls_are_answered_alike() {
             if random.percent(1) {
                 next.chart.clear();
             }
-            let space = listing_space(&mut random, &next, space);
+            let space = space(&mut random, &next, made);
             let mut record = Record::from(next.record);
             if random.percent(6) {
                 make_odd(&mut random, &mut record);
@@ -283,8 +287,18 @@ fn lists_of_calls_are_answered_alike() {
             next.record = held(&record);
             let whole = Memory { chart: within(&lent.chart).to_vec(), ..next.clone() };
             begins.add_all(begin_met(made, &whole));
+            if let Made::Report(Report::Path) = made {
+                path_calls.add_all(path_corners_of(&whole, space));
+            }
             if let Some(analysis) = left(made, &whole) {
                 corners.add_all(corner_labels_of(&analysis));
+                // What it has met is known here alone, so that its path is looked at at once.
+                if analysis.verdict == Verdict::Alarm {
+                    let chart = held_chart(&whole.chart).expect("the call has gone through");
+                    paths.add_all(alarm_corners_of(&chart, &analysis));
+                    let shown = Lent { space: vec![0; SPACE + 2 * FENCE], ..lent.clone() };
+                    compare(&mut shown.clone(), Made::Report(Report::Path));
+                }
             }
             if reply.number == 0 {
                 next.table = within(&lent.table).to_vec();
@@ -301,26 +315,42 @@ fn lists_of_calls_are_answered_alike() {
     corners.assert_exactly(&corner_labels(), FEWEST_CORNERS);
     let codes_first = [11, 12, 13, 20, 14].map(|number| BeginCorner::Before(6, number));
     begins.assert_exactly(&[&begin_corners()[..], &codes_first].concat(), FEWEST_CORNERS);
+    path_calls.assert_exactly(&path_corners(), FEWEST_CORNERS);
+    paths.assert_exactly(&alarm_corners(), FEWEST_CORNERS);
 }
 
-/// Case A after three iterations, with each word and each field of the record given many values.
+/// Case A after three iterations, and at its alarm, with each word and each field of the record given
+/// many values.
 #[test]
 fn every_word_and_field_is_judged_alike() {
-    let mut random = Random::new(seed() ^ 1);
     let chart = reader::read(files::case_a()).expect("case A is accepted");
-    let mut memory = Memory::new(&chart, 8 * chart.width() + 2, 10);
-    memory.begin(permitted_settings()[0], 8, 3);
-    let underway = Lent::new(&mut random, &memory, Record::from(memory.record), SPACE);
     let mut answers = Met::new();
+    for (settings, budget) in [(permitted_settings()[0], 3), (permitted_settings()[5], 100)] {
+        let mut memory = Memory::new(&chart, 8 * chart.slot_width() + 2, 10);
+        memory.begin(settings, 8, budget);
+        judge_every_change(&memory, &mut answers);
+    }
+    let wanted = ["run 0", "run 14", "run 21", "run 22", "run 23", "listing 0", "listing 14"];
+    let wanted = wanted.into_iter().chain(["listing 21", "begin 0", "path 0", "path 14"]);
+    let wanted = wanted.chain(["path 21", "path 24"]).map(String::from);
+    answers.assert_exactly(&wanted.collect::<Vec<_>>(), 1);
+}
+
+fn judge_every_change(memory: &Memory, answers: &mut Met<String>) {
+    let mut random = Random::new(seed() ^ 1);
+    let underway = Lent::new(&mut random, memory, Record::from(memory.record), SPACE);
     let settings = Settings::from(memory.record.settings);
     let begin = Made::Begin { settings, capacity: 8, budget: 2 };
+    let runs = [0, 2].map(|budget| Made::Run { budget });
+    let reports = [Report::Listing, Report::Path].map(Made::Report);
     let mut judge = |changed: Lent| {
-        for made in [begin, Made::Run { budget: 0 }, Made::Run { budget: 2 }, Made::Listing] {
+        for made in [begin].into_iter().chain(runs).chain(reports) {
             answers.add(label(made, compare(&mut changed.clone(), made).number));
         }
     };
 
     let extremes = [255, 256, 257, 32_767, -32_768, -32_769, TOP, TOP + 1, i32::MAX, i32::MIN];
+    let extremes = extremes.into_iter().chain([65_534, 65_535, 65_536]);
     for value in (-3..=12).chain(extremes) {
         for place in 0..within(&underway.table).len() {
             let mut changed = underway.clone();
@@ -352,34 +382,33 @@ fn every_word_and_field_is_judged_alike() {
             judge(changed);
         }
     }
-    let wanted = ["run 0", "run 14", "run 21", "run 22", "run 23", "listing 0", "listing 14"];
-    let wanted = wanted.into_iter().chain(["listing 21", "begin 0"]).map(String::from);
-    answers.assert_exactly(&wanted.collect::<Vec<_>>(), 1);
 }
 
 /// The walk program by the library's calls: what each accepted case and example prints.
 #[test]
-fn every_listing_is_the_one_expected() {
-    let mut listings = 0;
-    for worked in cases().into_iter().chain(examples()) {
-        if !worked.output.starts_with(b"walk\t") {
-            continue;
-        }
+fn every_listing_and_path_is_the_one_expected() {
+    let (mut listings, mut paths) = (0, 0);
+    for worked in cases().into_iter().chain(examples()).chain(example_paths()) {
+        let (call, count) = match &worked.output {
+            output if output.starts_with(b"walk\t") => (LIBRARY.listing, &mut listings),
+            output if output.starts_with(b"path\t") => (LIBRARY.path, &mut paths),
+            _ => continue,
+        };
         let (go, _) = read_go_line(&worked.input).expect("it is accepted");
         let mut chart = [0; MAX_WORDS];
         assert_eq!((LIBRARY.read)(chart_part(&worked.input), &mut chart).number, 0);
-        let (mut table, mut list) = ([0; 256 * 9], [0; 256]);
+        let (mut table, mut list) = ([0; 256 * 11], [0; 256]);
         let settings = Settings::from(go.settings);
         let (capacity, budget) = (go.capacity as i32, go.budget as i32);
         let Called { reply, record } =
             (LIBRARY.begin)(&chart, settings, capacity, budget, NO_RECORD, &mut table, &mut list);
         assert_eq!(reply, Reply { number: 0, line: 0, length: 0 }, "{}", worked.name);
         let mut space = [0; SPACE];
-        let reply = (LIBRARY.listing)(&chart, record, &table, &list, &mut space);
+        let reply = call(&chart, record, &table, &list, &mut space);
         assert_eq!(reply, Reply { number: 0, line: 0, length: worked.output.len() });
         assert!(space[..reply.length] == worked.output, "{}", worked.name);
-        listings += 1;
+        *count += 1;
     }
-    println!("{listings} listings");
-    assert!(listings > 40);
+    println!("{listings} listings, {paths} paths");
+    assert!(listings > 40 && paths > 15);
 }

@@ -98,7 +98,7 @@ fn every_case_and_example_is_read_alike() {
 fn printed_reply(output: &str) -> Option<Reply> {
     let mut fields = output.trim_end().split('\t');
     match fields.next() {
-        Some("walk") => Some(Reply { number: 0, line: 0, length: 0 }),
+        Some("walk" | "path") => Some(Reply { number: 0, line: 0, length: 0 }),
         _ => {
             let mut numbers = fields.map(|field| field.parse().expect("a number"));
             let (number, line) = (numbers.next()?, numbers.next()?);

@@ -12,7 +12,7 @@ use reference::reader;
 /// Whether the reference walker would begin on these words; it refuses a chart out of form by 20.
 fn begins(words: &[i32]) -> bool {
     let chart = reader::read(files::case_a()).expect("case A is accepted");
-    let Memory { mut table, mut waitlist, mut record, .. } = Memory::new(&chart, 9, 1);
+    let Memory { mut table, mut waitlist, mut record, .. } = Memory::new(&chart, 11, 1);
     let settings = permitted_settings()[0];
     match calls::begin(words, settings, 1, 0, &mut table, &mut waitlist, &mut record).number {
         0 => true,

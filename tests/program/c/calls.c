@@ -1,10 +1,11 @@
-/* read on standard input and write on standard output, as a system may answer them: for LD_PRELOAD. The variables say
-   how often each call that moves bytes is interrupted before, how many bytes a call moves at most, and after how many
+/* read on standard input, write on standard output and isatty, as a system may answer them: for LD_PRELOAD. The variables
+   say whether standard input is a terminal, how often each call that moves bytes is interrupted before, how many bytes a call moves at most, and after how many
    bytes in all each further call fails with which errno; with errno 0 it answers 0. Unset: as the system does. */
 #define _GNU_SOURCE
 #include <errno.h>
 #include <stdlib.h>
 #include <sys/syscall.h>
+#include <termios.h>
 #include <unistd.h>
 
 struct calls {
@@ -43,4 +44,10 @@ ssize_t read(int fd, void *buffer, size_t count) {
 ssize_t write(int fd, const void *buffer, size_t count) {
     static struct calls writes = { "WRITE_INTERRUPTED", "WRITE_MOST", "WRITE_SOUND", "WRITE_ERRNO", 0, 0 };
     return fd == 1 ? call(&writes, SYS_write, fd, (void *)buffer, count) : syscall(SYS_write, fd, buffer, count);
+}
+
+int isatty(int fd) {
+    struct termios attributes;
+    if (fd == 0 && number("TERMINAL", 0)) return 1;
+    return tcgetattr(fd, &attributes) == 0;
 }

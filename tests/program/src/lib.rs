@@ -1,8 +1,9 @@
-//! The built walk program, started on an input.
+//! The built walk program, started with arguments on an input.
 
 pub mod system;
 
 use std::env;
+use std::ffi::OsStr;
 use std::io::{ErrorKind, Write};
 use std::os::fd::AsFd;
 use std::path::{Path, PathBuf};
@@ -31,14 +32,14 @@ pub fn command() -> Command {
 }
 
 /// What the program prints on an input that arrives whole.
-pub fn output(input: &[u8]) -> Vec<u8> {
-    output_of_pieces(&[input])
+pub fn output(arguments: &[impl AsRef<OsStr>], input: &[u8]) -> Vec<u8> {
+    output_of_pieces(arguments, &[input])
 }
 
 /// What the program prints on an input that arrives piece by piece, each read before the next is
 /// sent. It must end well and say nothing on standard error.
-pub fn output_of_pieces(pieces: &[&[u8]]) -> Vec<u8> {
-    let ended = ended(&mut command(), pieces);
+pub fn output_of_pieces(arguments: &[impl AsRef<OsStr>], pieces: &[&[u8]]) -> Vec<u8> {
+    let ended = ended(command().args(arguments), pieces);
     assert!(ended.stderr.is_empty(), "it said {}", ended.stderr.escape_ascii());
     ended.stdout
 }
@@ -71,12 +72,22 @@ pub fn said(running: Child) -> Output {
 
 /// Waits until the program has read all that was written to it; false where it ended before.
 pub fn has_read(stdin: &impl AsFd, running: &mut Child) -> bool {
+    is_seen(|| system::unread(stdin) == 0, running)
+}
+
+/// Waits until the program has said something on this stream, which nobody reads meanwhile; false
+/// where it ended before.
+pub fn has_said(stream: &impl AsFd, running: &mut Child) -> bool {
+    is_seen(|| system::unread(stream) > 0, running)
+}
+
+fn is_seen(is_so: impl Fn() -> bool, running: &mut Child) -> bool {
     let began = Instant::now();
-    while system::unread(stdin) > 0 {
+    while !is_so() {
         if running.try_wait().expect("the program can be looked at").is_some() {
-            return false;
+            return is_so();
         }
-        assert!(began.elapsed() < PATIENCE, "the program does not read on");
+        assert!(began.elapsed() < PATIENCE, "the program does not go on");
         thread::sleep(PAUSE);
     }
     true
@@ -85,13 +96,28 @@ pub fn has_read(stdin: &impl AsFd, running: &mut Child) -> bool {
 /// An input with a listing of more than 20,000 bytes: 256 slots of 8 variables, every field as long
 /// as it may be.
 pub fn longest() -> Vec<u8> {
-    let mut input = b"go\tsep\tsep\told\t256\t60000\n".to_vec();
-    for index in 0..8 {
-        input.extend(format!("V\tv{index}\t-32768\t-10000\t-10000\n").bytes());
-    }
-    input.extend(b"L\tsixteen-letters1\to\n");
+    let mut input = one_location(-32_768);
     for index in 0..8 {
         input.extend(format!("E\t0\t0\tsub\t${index}\t${index}\t1\n").bytes());
     }
+    input
+}
+
+/// An input with a path through such slots, all 256 of them: the last of 256 edges counts down, and
+/// overruns in the end.
+pub fn longest_path() -> Vec<u8> {
+    let mut input = one_location(-10_255);
+    input.extend(b"E\t0\t0\tif\t$0\tgt\t0\n".repeat(255));
+    input.extend(b"E\t0\t0\tsub\t$7\t$7\t1\n");
+    input
+}
+
+/// With room for all slots, and variables that go down from -10,000.
+fn one_location(low: i32) -> Vec<u8> {
+    let mut input = b"go\tsep\tsep\told\t256\t60000\n".to_vec();
+    for index in 0..8 {
+        input.extend(format!("V\tv{index}\t{low}\t-10000\t-10000\n").bytes());
+    }
+    input.extend(b"L\tsixteen-letters1\to\n");
     input
 }

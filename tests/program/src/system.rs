@@ -1,8 +1,11 @@
 //! What of Linux the standard library does not offer.
 
-use std::ffi::{c_int, c_ulong};
+use std::ffi::{c_char, c_int, c_ulong, CStr, OsStr};
+use std::fs::File;
 use std::io;
 use std::os::fd::{AsFd, AsRawFd};
+use std::os::unix::ffi::OsStrExt;
+use std::os::unix::fs::OpenOptionsExt;
 use std::os::unix::process::CommandExt;
 use std::process::Command;
 
@@ -10,12 +13,16 @@ extern "C" {
     fn close(fd: c_int) -> c_int;
     fn fcntl(fd: c_int, command: c_int, ...) -> c_int;
     fn ioctl(fd: c_int, request: c_ulong, ...) -> c_int;
+    fn grantpt(terminal: c_int) -> c_int;
+    fn unlockpt(terminal: c_int) -> c_int;
+    fn ptsname_r(terminal: c_int, name: *mut c_char, length: usize) -> c_int;
 }
 
 const F_GETFL: c_int = 3;
 const F_SETFL: c_int = 4;
 const F_SETPIPE_SZ: c_int = 1031;
 const O_NONBLOCK: c_int = 0o4000;
+const O_NOCTTY: c_int = 0o400;
 const FIONREAD: c_ulong = 0x541b;
 
 /// The answer of a call, where it is no failure.
@@ -58,4 +65,26 @@ pub fn start_without(command: &mut Command, fd: c_int) {
             _ => Err(io::Error::last_os_error()),
         })
     };
+}
+
+/// A terminal: the end that types, and the end that a program reads what is typed from.
+pub fn terminal() -> (File, File) {
+    let open = |path: &OsStr| {
+        let mut options = File::options();
+        options.read(true).write(true).custom_flags(O_NOCTTY);
+        options.open(path).expect("a terminal can be opened")
+    };
+    let typing = open(OsStr::new("/dev/ptmx"));
+    let fd = typing.as_raw_fd();
+    let mut name: [c_char; 64] = [0; 64];
+    // SAFETY: the descriptor is open, and the name is written into as many bytes as are told.
+    unsafe {
+        checked(grantpt(fd));
+        checked(unlockpt(fd));
+        assert_eq!(ptsname_r(fd, name.as_mut_ptr(), name.len()), 0);
+    }
+    // SAFETY: the call has ended the name within its bytes.
+    let name = unsafe { CStr::from_ptr(name.as_ptr()) };
+    let reading = open(OsStr::from_bytes(name.to_bytes()));
+    (typing, reading)
 }

@@ -2,15 +2,17 @@
 //! on standard error. `c/calls.c` stands in for a system whose calls are interrupted, move few
 //! bytes or fail.
 
+mod calls;
+
 use std::fs::File;
 use std::io::{self, Write};
-use std::path::{Path, PathBuf};
-use std::process::{Command, Output, Stdio};
-use std::sync::OnceLock;
+use std::process::{Output, Stdio};
 use std::thread;
 use std::time::Duration;
 
+use calls::with_calls;
 use program::{command, ended, has_read, longest, said, system};
+use reference::listing::Report;
 use reference::program::respond;
 
 /// Safe as it stands; with `LAST_LINE` an alarm.
@@ -19,8 +21,15 @@ const LAST_LINE: &[u8] = b"E\t0\t1\tskip\n";
 /// The most interruptions in a row of which a call is made again.
 const INTERRUPTIONS: u32 = 1_000_000;
 
+/// What to start the program with, and what it then prints.
+const REPORTS: [(&[&str], Report); 2] = [(&[], Report::Listing), (&["path"], Report::Path)];
+
 fn whole() -> Vec<u8> {
     [FIRST_LINES, LAST_LINE].concat()
+}
+
+fn listed(input: &[u8]) -> Vec<u8> {
+    respond(Report::Listing, input)
 }
 
 /// It printed this, and said this of the failure.
@@ -32,33 +41,12 @@ fn assert_said(ended: &Output, stdout: &[u8], stderr: &str) {
     );
 }
 
-/// The program with the calls of `c/calls.c`, as these variables set them.
-fn with_calls(set: &[(&str, u32)]) -> Command {
-    static LIBRARY: OnceLock<PathBuf> = OnceLock::new();
-    let library = LIBRARY.get_or_init(|| {
-        let library = Path::new(env!("CARGO_TARGET_TMPDIR")).join("calls.so");
-        let status = Command::new("cc")
-            .args(["-std=c11", "-O2", "-Wall", "-Wextra", "-Werror", "-shared", "-fPIC"])
-            .arg(Path::new(env!("CARGO_MANIFEST_DIR")).join("c/calls.c"))
-            .arg("-o")
-            .arg(&library)
-            .status()
-            .expect("cc runs, as it does to link Rust");
-        assert!(status.success());
-        library
-    });
-    let mut command = command();
-    command.env("LD_PRELOAD", library);
-    command.envs(set.iter().map(|(name, value)| (name, value.to_string())));
-    command
-}
-
 /// Half of an input is there and the rest comes later: a program that takes a failed read for the
 /// end says safe.
 #[test]
 fn a_read_that_would_wait_is_no_end_of_input() {
-    assert!(String::from_utf8_lossy(&respond(FIRST_LINES)).contains("safe"));
-    assert!(String::from_utf8_lossy(&respond(&whole())).contains("alarm"));
+    assert!(String::from_utf8_lossy(&listed(FIRST_LINES)).contains("safe"));
+    assert!(String::from_utf8_lossy(&listed(&whole())).contains("alarm"));
     let (reader, mut writer) = io::pipe().expect("a pipe");
     system::never_wait(&reader);
     writer.write_all(FIRST_LINES).expect("the pipe holds it");
@@ -78,7 +66,7 @@ fn a_pipe_whose_end_is_there_is_read_without_waiting() {
     writer.write_all(&whole()).expect("the pipe holds it");
     drop(writer);
     let running = command().stdin(reader).spawn().expect("the program can be started");
-    assert_said(&said(running), &respond(&whole()), "");
+    assert_said(&said(running), &listed(&whole()), "");
 }
 
 #[test]
@@ -121,7 +109,7 @@ fn an_output_cut_short_is_told() {
     assert_said(&ended, b"", "walk: standard output: Resource temporarily unavailable\n");
     let mut printed = Vec::new();
     io::Read::read_to_end(&mut reader, &mut printed).expect("the pipe can be read");
-    assert!(size < 20_000 && printed == respond(&longest())[..size]);
+    assert!(size < 20_000 && printed == listed(&longest())[..size]);
 }
 
 /// Some interruptions before each read and write, which then move a few bytes; and as many as are borne before whole ones.
@@ -129,9 +117,9 @@ fn an_output_cut_short_is_told() {
 fn interrupted_calls_are_made_again() {
     let set =
         [("READ_INTERRUPTED", 3), ("READ_MOST", 1), ("WRITE_INTERRUPTED", 3), ("WRITE_MOST", 1)];
-    assert_said(&ended(&mut with_calls(&set), &[&longest()]), &respond(&longest()), "");
+    assert_said(&ended(&mut with_calls(&set), &[&longest()]), &listed(&longest()), "");
     let set = [("READ_INTERRUPTED", INTERRUPTIONS), ("WRITE_INTERRUPTED", INTERRUPTIONS)];
-    assert_said(&ended(&mut with_calls(&set), &[&whole()]), &respond(&whole()), "");
+    assert_said(&ended(&mut with_calls(&set), &[&whole()]), &listed(&whole()), "");
 }
 
 #[test]
@@ -153,8 +141,10 @@ fn a_failed_read_is_no_end_of_input() {
     for sound in 0..=whole().len() {
         for (errno, name) in ERRORS {
             let set = [("READ_SOUND", sound as u32), ("READ_ERRNO", errno)];
-            let ended = ended(&mut with_calls(&set), &[&whole()]);
-            assert_said(&ended, b"", &format!("walk: standard input: {name}\n"));
+            for (arguments, _) in REPORTS {
+                let ended = ended(with_calls(&set).args(arguments), &[&whole()]);
+                assert_said(&ended, b"", &format!("walk: standard input: {name}\n"));
+            }
         }
     }
 }
@@ -166,7 +156,7 @@ fn a_full_buffer_is_the_end_of_input() {
     let mut input = whole();
     input.resize(BUFFER, b'\n');
     let full = [("READ_SOUND", BUFFER as u32), ("READ_MOST", 1_000)];
-    assert_said(&ended(&mut with_calls(&full), &[&input]), &respond(&input), "");
+    assert_said(&ended(&mut with_calls(&full), &[&input]), &listed(&input), "");
     let short = [("READ_SOUND", BUFFER as u32 - 1), ("READ_MOST", 1_000)];
     assert_said(
         &ended(&mut with_calls(&short), &[&input]),
@@ -177,14 +167,17 @@ fn a_full_buffer_is_the_end_of_input() {
 
 #[test]
 fn a_failed_write_is_told() {
-    let expected = respond(&whole());
-    for sound in 0..expected.len() {
-        for (errno, line) in [
-            (5, "walk: standard output: Input/output error\n"),
-            (0, "walk: standard output takes no more\n"),
-        ] {
-            let set = [("WRITE_SOUND", sound as u32), ("WRITE_ERRNO", errno)];
-            assert_said(&ended(&mut with_calls(&set), &[&whole()]), &expected[..sound], line);
+    for (arguments, report) in REPORTS {
+        let expected = respond(report, &whole());
+        for sound in 0..expected.len() {
+            for (errno, line) in [
+                (5, "walk: standard output: Input/output error\n"),
+                (0, "walk: standard output takes no more\n"),
+            ] {
+                let set = [("WRITE_SOUND", sound as u32), ("WRITE_ERRNO", errno)];
+                let ended = ended(with_calls(&set).args(arguments), &[&whole()]);
+                assert_said(&ended, &expected[..sound], line);
+            }
         }
     }
 }

@@ -1,20 +1,26 @@
-//! The walk program against the reference walker, byte for byte: the worked cases, the examples,
-//! random inputs, inputs in pieces and inputs of every size.
+//! The walk program against the reference walker, byte for byte, its listing and its path: the worked
+//! cases, the examples, random inputs, inputs in pieces and inputs of every size.
 
 use std::fs;
 use std::path::Path;
 use std::thread;
 
-use program::{longest, output, output_of_pieces};
-use reference::coverage::{corner_labels, corner_labels_of, program_label, program_labels, Met};
+use program::{longest, longest_path, output, output_of_pieces};
+use reference::coverage::{
+    corner_labels, corner_labels_of, path_labels, program_label, program_labels, Met,
+};
+use reference::listing::Report;
+use reference::paths::{alarm_corners, alarm_corners_of};
 use reference::program::{printed, respond, walk};
 use reference::random::{count_at_least, inputs, seed, Random};
-use reference::worked::{cases, examples, Worked};
+use reference::worked::{cases, example_paths, examples, Worked};
 
 const INPUTS: usize = 4_000;
 /// Of each verdict and refusal, so that another seed finds it too.
 const FEWEST: usize = 5;
 const PIECED_INPUTS: usize = 150;
+/// What to start the program with, and what it then prints.
+const REPORTS: [(&[&str], Report); 2] = [(&[], Report::Listing), (&["path"], Report::Path)];
 
 /// Fails where the program does not print `expected`; the input is then left in a file.
 fn assert_prints(name: &str, printed: &[u8], input: &[u8], expected: &[u8]) {
@@ -32,12 +38,16 @@ fn assert_prints(name: &str, printed: &[u8], input: &[u8], expected: &[u8]) {
 
 fn assert_prints_each(all: &[Worked]) {
     for worked in all {
-        assert_prints(&worked.name, &output(&worked.input), &worked.input, &worked.output);
+        let printed = output(&worked.arguments, &worked.input);
+        assert_prints(&worked.name, &printed, &worked.input, &worked.output);
     }
 }
 
+/// The listing and the path.
 fn assert_alike(name: &str, input: &[u8]) {
-    assert_prints(name, &output(input), input, &respond(input));
+    for (arguments, report) in REPORTS {
+        assert_prints(name, &output(arguments, input), input, &respond(report, input));
+    }
 }
 
 #[test]
@@ -48,6 +58,7 @@ fn every_case_prints_what_is_expected() {
 #[test]
 fn every_example_prints_what_is_expected() {
     assert_prints_each(&examples());
+    assert_prints_each(&example_paths());
 }
 
 #[test]
@@ -56,14 +67,19 @@ fn random_inputs_print_alike() {
     let all: Vec<Vec<u8>> =
         (0..count_at_least(INPUTS)).map(|_| inputs::program_input(&mut random)).collect();
     let (mut met, mut corners) = (Met::new(), Met::new());
+    let (mut met_by_path, mut paths) = (Met::new(), Met::new());
     for walked in all.iter().map(|input| walk(input)) {
-        met.add(program_label(&printed(&walked)));
-        if let Ok((_, analysis)) = walked {
+        met.add(program_label(&printed(Report::Listing, &walked)));
+        met_by_path.add(program_label(&printed(Report::Path, &walked)));
+        if let Ok((chart, analysis)) = walked {
             corners.add_all(corner_labels_of(&analysis));
+            paths.add_all(alarm_corners_of(&chart, &analysis));
         }
     }
     met.assert_exactly(&program_labels(), FEWEST);
     corners.assert_exactly(&corner_labels(), FEWEST);
+    met_by_path.assert_exactly(&path_labels(), FEWEST);
+    paths.assert_exactly(&alarm_corners(), FEWEST);
 
     let threads = thread::available_parallelism().map_or(1, usize::from);
     thread::scope(|scope| {
@@ -88,16 +104,15 @@ fn inputs_in_pieces_print_alike() {
         cuts.extend([0, input.len()]);
         cuts.sort();
         let pieces: Vec<&[u8]> = cuts.windows(2).map(|cut| &input[cut[0]..cut[1]]).collect();
-        assert_prints(
-            &format!("pieces-{place}"),
-            &output_of_pieces(&pieces),
-            &input,
-            &respond(&input),
-        );
+        for (arguments, report) in REPORTS {
+            let printed = output_of_pieces(arguments, &pieces);
+            assert_prints(&format!("pieces-{place}"), &printed, &input, &respond(report, &input));
+        }
     }
-    for example in examples() {
+    for example in examples().into_iter().chain(example_paths()) {
         let bytes: Vec<&[u8]> = example.input.chunks(1).collect();
-        assert_prints(&example.name, &output_of_pieces(&bytes), &example.input, &example.output);
+        let printed = output_of_pieces(&example.arguments, &bytes);
+        assert_prints(&example.name, &printed, &example.input, &example.output);
     }
 }
 
@@ -126,7 +141,9 @@ fn inputs_of_every_size_print_alike() {
 }
 
 #[test]
-fn the_longest_listing_prints_alike() {
+fn the_longest_texts_print_alike() {
     assert_alike("longest-listing", &longest());
-    assert!(respond(&longest()).len() > 20_000);
+    assert!(respond(Report::Listing, &longest()).len() > 20_000);
+    assert_alike("longest-path", &longest_path());
+    assert!(respond(Report::Path, &longest_path()).len() > 21_000);
 }

@@ -13,6 +13,7 @@ use reference::chart::{
     Chart, Edge, Location, LocationId, Name, Operand, Operation, Relation, Variable,
 };
 use reference::explorer::Explorer;
+use reference::listing::Report;
 use reference::program::respond;
 use reference::random::Random;
 use reference::renderer::render;
@@ -51,7 +52,7 @@ fn verdict(walk: &str, merge: Merge, file: &[u8]) -> String {
     let go_line = format!("go\t{}\tsep\told\t256\t60000\n", merge.word());
     let input = [go_line.as_bytes(), file].concat();
     let output = match walk {
-        "--reference" => respond(&input),
+        "--reference" => respond(Report::Listing, &input),
         program => output(program, &input),
     };
     let listing = String::from_utf8(output).expect("a listing is text");

@@ -242,6 +242,42 @@ pub fn gates(random: &mut Random) -> Chart {
     Chart { variables, locations, edges }
 }
 
+/// With `sep` a long way to an alarm: a count goes round a ring of locations, at times with a way off that
+/// ends nowhere, until an error location opens at its end or the count overruns.
+pub fn chain(random: &mut Random) -> Chart {
+    let ring = random.pick(&[1, 1, 2, 3, 5]);
+    // From the first slot to the last, 256 of them at times.
+    let steps = random.pick(&[3, 7, 20, 40, 60, 70, 127, 254, 255, 255, 255]);
+    let has_error = random.percent(70);
+    let high = if has_error { steps + random.between(0, 1) } else { steps };
+    let variable = Variable { name: name(random, 0), low: 0, high, init: Some(0) };
+    // The ring, then a way off and the error location.
+    let locations: Vec<Location> = (0..ring + 2)
+        .map(|index| Location { name: name(random, index), is_error: index == ring + 1 })
+        .collect();
+    let lead = |from: usize, to: usize, operation: Operation| Edge {
+        from: LocationId(from),
+        to: LocationId(to),
+        operation,
+    };
+    let (target, left) = (0, Operand::Variable(0));
+    let mut edges = Vec::new();
+    for from in 0..ring {
+        let right = Operand::Number(1);
+        edges.push(lead(from, (from + 1) % ring, Operation::Add { target, left, right }));
+        if steps < 100 && random.percent(30) {
+            edges.push(lead(from, ring, Operation::Skip));
+        }
+        if has_error {
+            let right = Operand::Number(steps);
+            let relation = random.pick(&[Relation::Eq, Relation::Ge]);
+            edges.push(lead(from, ring + 1, Operation::If { target, relation, right }));
+        }
+    }
+    random.shuffle(&mut edges);
+    Chart { variables: vec![variable], locations, edges }
+}
+
 /// Any of those that have few enough states to go through all of them.
 pub fn small(random: &mut Random) -> Chart {
     match random.below(20) {

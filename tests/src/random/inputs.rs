@@ -27,12 +27,13 @@ pub fn program_input(random: &mut Random) -> Vec<u8> {
 }
 
 /// An accepted input for what few others meet: all 256 slots used, a taken slot that waits again
-/// when its iteration ends in an alarm or in a full table, an overrun of each sort, or a comparison
-/// of each sort with one side unspecific.
+/// when its iteration ends in an alarm or in a full table, an overrun of each sort, a comparison
+/// of each sort with one side unspecific, or a long path.
 fn corner_input(random: &mut Random) -> Vec<u8> {
     let (sep, join) = (&permitted_settings()[..2], &permitted_settings()[2..]);
-    let (chart, settings, capacity) = match random.below(14) {
+    let (chart, settings, capacity) = match random.below(16) {
         0 | 1 => (charts::fan(random), random.pick(sep), 256),
+        14 | 15 => long_way(random),
         2..=5 => {
             let (chart, settings) = (charts::hub(random), random.pick(join));
             let capacity = tight_capacity(random, &chart, settings);
@@ -52,6 +53,20 @@ fn corner_input(random: &mut Random) -> Vec<u8> {
     [go_line_of(settings, capacity, budget), render(&chart)].concat()
 }
 
+/// Any chart, with settings and a capacity for it; more often than a chart alone would a long path comes of it.
+pub fn analysis(random: &mut Random) -> (Chart, Settings, i32) {
+    if random.percent(15) {
+        return long_way(random);
+    }
+    let (chart, settings) = (chart(random), random.settings());
+    let capacity = capacity(random, &chart, settings);
+    (chart, settings, capacity)
+}
+
+fn long_way(random: &mut Random) -> (Chart, Settings, i32) {
+    (charts::chain(random), random.pick(&permitted_settings()[..2]), MAX_CAPACITY as i32)
+}
+
 /// A chart of any shape; some have an error location at their start, which few would have by chance.
 pub fn chart(random: &mut Random) -> Chart {
     let mut chart = any_chart(random);
@@ -62,13 +77,14 @@ pub fn chart(random: &mut Random) -> Chart {
 }
 
 fn any_chart(random: &mut Random) -> Chart {
-    let shape = match random.below(22) {
+    let shape = match random.below(26) {
         0..=3 => charts::LARGE,
         4 | 5 => charts::DEEP,
         6..=8 => return charts::hub(random),
         9..=12 => return charts::brink(random),
-        13 | 14 => return charts::gates(random),
-        15..=17 => return charts::fan(random),
+        13..=15 => return charts::gates(random),
+        16..=18 => return charts::fan(random),
+        19..=21 => return charts::chain(random),
         _ => charts::SMALL,
     };
     charts::chart(random, shape)

@@ -4,30 +4,36 @@ use reference::analysis::{Stop, Verdict};
 use reference::domain::TOP;
 use reference::memory::{Memory, JUNK};
 
-use crate::common::settings;
-use crate::support::{case_a_underway, listing_answer, refused, DONE};
+use crate::common::{chart, settings, CASE_A};
+use crate::support::{begun, case_a_underway, listing_answer, refused, DONE, SPACE};
 
 type Disturb = fn(&mut Memory);
 
+/// Where a word of a slot of case A stands: its location, three values, its parent and its edge.
+const fn at(slot: usize, word: usize) -> usize {
+    6 * slot + word
+}
+
 #[test]
 fn form_21() {
-    let out_of_form: [(&str, Disturb); 36] = [
+    let out_of_form: [(&str, Disturb); 38] = [
         ("used above capacity", |m| {
             m.record.used = 9;
-            m.table[32..36].fill(0);
+            m.table.truncate(at(8, 0));
+            m.table.extend([3, 0, 1, TOP, 2, 4]);
         }),
         ("used far above capacity", |m| m.record.used = u32::MAX),
         ("waiting above used", |m| m.record.waiting = 6),
         ("waiting far above used", |m| m.record.waiting = u32::MAX),
-        ("location below 0", |m| m.table[4] = -1),
-        ("location past the last", |m| m.table[4] = 6),
+        ("location below 0", |m| m.table[at(1, 0)] = -1),
+        ("location past the last", |m| m.table[at(1, 0)] = 6),
         ("location unspecific", |m| m.table[0] = TOP),
-        ("location of the last slot in use", |m| m.table[16] = 6),
-        ("value below its range", |m| m.table[1] = -1),
-        ("value above its range", |m| m.table[2] = 2),
-        ("value above another range", |m| m.table[3] = 10),
-        ("value past unspecific", |m| m.table[19] = TOP + 1),
-        ("value that is the least word", |m| m.table[19] = i32::MIN),
+        ("location of the last slot in use", |m| m.table[at(4, 0)] = 6),
+        ("value below its range", |m| m.table[at(0, 1)] = -1),
+        ("value above its range", |m| m.table[at(0, 2)] = 2),
+        ("value above another range", |m| m.table[at(0, 3)] = 10),
+        ("value past unspecific", |m| m.table[at(4, 3)] = TOP + 1),
+        ("value that is the least word", |m| m.table[at(4, 3)] = i32::MIN),
         ("waiting slot not in use", |m| m.waitlist[0] = 5),
         ("waiting slot past the capacity", |m| m.waitlist[1] = 8),
         ("waiting slot below 0", |m| m.waitlist[0] = -1),
@@ -39,8 +45,11 @@ fn form_21() {
             m.waitlist[1] = 0;
         }),
         ("waiting slot no longer counted", |m| m.record.waiting = 1),
-        ("first unused table word", |m| m.table[20] = 1),
-        ("last unused table word", |m| m.table[31] = -1),
+        // Nothing brings a slot of zero words: its edge is none.
+        ("a zero slot counted in", |m| m.record.used = 6),
+        ("all slots counted in", |m| m.record.used = 8),
+        ("first unused table word", |m| m.table[at(5, 0)] = 1),
+        ("last unused table word", |m| m.table[at(7, 5)] = -1),
         ("first unused list word", |m| m.waitlist[2] = 1),
         ("last unused list word", |m| m.waitlist[7] = 2),
         ("iterations above 60,000", |m| m.record.iterations = 60_001),
@@ -65,8 +74,8 @@ fn form_21() {
         ("room without a list", |m| no_list(m, Verdict::Full)),
         ("capacity that 11 refuses", |m| {
             m.record.capacity = 257;
-            m.table.resize(257 * 4, 0);
-            m.table[32..37].fill(0);
+            m.table.resize(257 * 6, 0);
+            m.table[at(8, 0)..at(9, 0)].fill(0);
             m.waitlist.resize(257, 0);
             m.waitlist[8..11].fill(0);
         }),
@@ -74,10 +83,88 @@ fn form_21() {
     for (clause, disturb) in out_of_form {
         let mut memory = case_a_underway();
         disturb(&mut memory);
-        assert_eq!(memory.run(1), refused(21), "{clause}");
-        assert_eq!(memory.run(0), refused(21), "{clause}");
-        assert_eq!(listing_answer(&memory), refused(21), "{clause}");
-        assert_begins_anew(&memory, clause);
+        assert_out_of_form(&mut memory, clause);
+    }
+}
+
+fn assert_out_of_form(memory: &mut Memory, clause: &str) {
+    assert_eq!(memory.run(1), refused(21), "{clause}");
+    assert_eq!(memory.run(0), refused(21), "{clause}");
+    assert_eq!(listing_answer(memory), refused(21), "{clause}");
+    assert_eq!(memory.path(SPACE).0, refused(21), "{clause}");
+    assert_begins_anew(memory, clause);
+}
+
+/// Of a slot that no other is brought by, the location alone.
+#[test]
+fn a_location_not_of_the_chart() {
+    for location in [-1, 6, TOP, i32::MIN] {
+        let mut memory = begun(&chart(CASE_A), "sep sep old", 8);
+        memory.table[0] = location;
+        assert_out_of_form(&mut memory, &format!("location {location}"));
+    }
+}
+
+/// Each word that says what brought a slot, in slot 0 and after it.
+#[test]
+fn origins_out_of_form() {
+    let origin_of = |slot: usize, parent: i32, edge: i32| {
+        let mut memory = case_a_underway();
+        memory.table[at(slot, 4)..at(slot, 6)].copy_from_slice(&[parent, edge]);
+        (memory, format!("slot {slot} from {parent} by edge {edge}"))
+    };
+    for (slot, parent, edge) in [
+        (0, 0, 0),
+        (0, 65_534, 0),
+        (0, 65_536, 0),
+        (0, -1, 0),
+        (0, 65_535, 1),
+        (0, 65_535, -1),
+        (0, 0, 1),
+        // As slot 0 has it.
+        (1, 65_535, 0),
+        (1, 65_535, 1),
+        (1, -1, 1),
+        (1, i32::MIN, 1),
+        (1, i32::MAX, 1),
+        (1, 0, 0),
+        (1, 0, -1),
+        (1, 0, 7),
+        (1, 0, i32::MIN),
+        (1, 0, i32::MAX),
+        // From left to meet, but the parent is at right, or at meet.
+        (3, 2, 3),
+        (4, 3, 3),
+        // From its parent's location, but to another than its own.
+        (3, 0, 1),
+        (2, 0, 1),
+        (3, 2, 2),
+        // Slots 5 and 9 are not in use.
+        (4, 5, 4),
+        (4, 9, 4),
+    ] {
+        let (mut memory, clause) = origin_of(slot, parent, edge);
+        assert_out_of_form(&mut memory, &clause);
+    }
+}
+
+/// A parent of the same location, which its edge joins, must still be an earlier slot.
+#[test]
+fn a_parent_stands_below_its_slot() {
+    let mut underway = begun(&chart("V x 0 9 0\nL only o\nE 0 0 add $0 $0 1"), "sep sep new", 8);
+    assert_eq!(underway.run(4), DONE);
+    assert_eq!(underway.record.used, 5);
+    for slot in 1..5 {
+        for parent in -2..8 {
+            let mut memory = underway.clone();
+            memory.table[4 * slot + 2] = parent;
+            if (0..slot as i32).contains(&parent) {
+                assert_eq!(listing_answer(&memory), DONE, "slot {slot} from {parent}");
+                assert_eq!(memory.run(0), DONE, "slot {slot} from {parent}");
+            } else {
+                assert_out_of_form(&mut memory, &format!("slot {slot} from {parent}"));
+            }
+        }
     }
 }
 
@@ -89,6 +176,12 @@ fn assert_begins_anew(memory: &Memory, case: &str) {
     }
 }
 
+/// Slot 4 at `sum`, which brought slot 5 at `bad`.
+fn error_location(memory: &mut Memory) {
+    memory.table[at(4, 0)..at(6, 0)].copy_from_slice(&[4, 1, 0, 1, 3, 5, 5, 1, 0, 1, 4, 6]);
+    memory.record.used = 6;
+}
+
 fn no_list(memory: &mut Memory, verdict: Verdict) {
     memory.record.verdict = verdict;
     memory.record.waiting = 0;
@@ -98,31 +191,43 @@ fn no_list(memory: &mut Memory, verdict: Verdict) {
 /// 21 is given in the stated cases and no other.
 #[test]
 fn form_21_leaves_unusual_walks_alone() {
-    let in_form: [(&str, u32, Disturb); 15] = [
+    let in_form: [(&str, u32, Disturb); 16] = [
         ("no slot in use", 22, |m| {
             no_list(m, Verdict::Safe);
             m.record.used = 0;
-            m.table[..20].fill(0);
+            m.table[..at(5, 0)].fill(0);
         }),
         ("several slots of a location with join", 0, |m| {
             m.record.settings = settings("join join new")
         }),
-        ("a waiting slot at an error location", 0, |m| m.table[12] = 5),
-        ("an error location, not waiting", 0, |m| m.table[4] = 5),
+        ("a waiting slot at an error location", 0, |m| {
+            error_location(m);
+            m.waitlist[1] = 5;
+        }),
+        ("an error location, not waiting", 0, error_location),
         ("an alarm without an edge", 22, |m| m.record.verdict = Verdict::Alarm),
         ("an alarm edge that leads elsewhere", 22, |m| {
             m.record.verdict = Verdict::Alarm;
             m.record.edge = 1;
         }),
         ("room with slots left", 22, |m| m.record.verdict = Verdict::Full),
-        ("a zero slot counted in", 0, |m| m.record.used = 6),
-        ("all slots counted in", 0, |m| m.record.used = 8),
-        ("two equal slots", 0, |m| m.table.copy_within(0..4, 4)),
+        ("two equal slots", 0, |m| m.table.copy_within(at(3, 0)..at(4, 0), at(4, 0))),
+        ("another slot and edge that join the locations", 0, |m| {
+            m.table[at(4, 4)..at(5, 0)].copy_from_slice(&[1, 3]);
+        }),
+        ("values that no edge brings", 0, |m| m.table[at(1, 1)..at(1, 3)].fill(1)),
+        ("a start elsewhere", 0, |m| {
+            m.table[at(1, 0)..].fill(0);
+            m.table[0] = 3;
+            m.record.used = 1;
+            m.record.waiting = 1;
+            m.waitlist[..2].fill(0);
+        }),
         ("a list in another order", 0, |m| m.waitlist.swap(0, 1)),
         ("any other slot in use waiting", 0, |m| m.waitlist[0] = 0),
         ("iterations at 0", 0, |m| m.record.iterations = 0),
         ("other words past the capacity", 0, |m| {
-            m.table[32..].fill(5);
+            m.table[at(8, 0)..].fill(5);
             m.waitlist[8..].fill(5);
         }),
         ("safe", 22, |m| no_list(m, Verdict::Safe)),

@@ -5,6 +5,7 @@ mod common;
 mod form;
 mod moves;
 mod order;
+mod paths;
 mod reading;
 mod support;
 mod waitlist;

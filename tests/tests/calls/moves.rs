@@ -17,13 +17,15 @@ fn step(lines: &str, values: [i32; 2]) -> Result<[i32; 2], Verdict> {
     let mut memory = begun(&chart(lines), "sep sep old", 2);
     memory.table[1..3].copy_from_slice(&values);
     assert_eq!(memory.run(1), DONE);
-    assert_eq!(memory.table[..3], [0, values[0], values[1]], "the slot taken stays as it is");
+    let taken = [0, values[0], values[1], 65_535, 0];
+    assert_eq!(memory.table[..5], taken, "the slot taken stays as it is");
     let Record { used, waiting, verdict, edge, .. } = memory.record;
     if used == 2 {
-        assert_eq!((memory.table[3], waiting, verdict, edge), (1, 1, Verdict::Open, 0));
-        return Ok([memory.table[4], memory.table[5]]);
+        assert_eq!((memory.table[5], waiting, verdict, edge), (1, 1, Verdict::Open, 0));
+        assert_eq!(memory.table[8..10], [0, 1], "from slot 0 by edge 1");
+        return Ok([memory.table[6], memory.table[7]]);
     }
-    assert_eq!((used, memory.table[3..6].to_vec()), (1, vec![0; 3]));
+    assert_eq!((used, memory.table[5..10].to_vec()), (1, vec![0; 5]));
     let is_alarm = u32::from(verdict == Verdict::Alarm);
     assert_eq!((waiting, edge), (is_alarm, is_alarm), "the slot waits again, for the one edge");
     Err(verdict)
@@ -43,17 +45,17 @@ fn initial_entries() {
          E 0 1 in $1 0 9",
     );
     let mut memory = begun(&chart, "sep sep old", 4);
-    assert_eq!(memory.table[..5], [0, TOP, TOP, -3, 5]);
+    assert_eq!(memory.table[..7], [0, TOP, TOP, -3, 5, 65_535, 0]);
     assert_eq!(memory.run(9), DONE);
     #[rustfmt::skip]
     assert_eq!(
-        memory.table[..20],
+        memory.table[..28],
         [
-            0, TOP, TOP, -3, 5,
-            1, 5, TOP, -3, 5,
-            // Not under the slot before: 5 is known there, and is not here.
-            1, TOP, TOP, -3, 5,
-            0, 0, 0, 0, 0,
+            0, TOP, TOP, -3, 5, 65_535, 0,
+            1, 5, TOP, -3, 5, 0, 1,
+            // Not under the slot before: 5 is known there, and is not here. Edge 3 brings it again.
+            1, TOP, TOP, -3, 5, 0, 2,
+            0, 0, 0, 0, 0, 0, 0,
         ]
     );
     assert_eq!((memory.record.verdict, memory.record.used), (Verdict::Safe, 3));

@@ -12,7 +12,7 @@ fn run_order() {
     // Everything wrong at once, then put right one by one.
     let mut memory = underway.clone();
     memory.chart[0] = 9;
-    memory.table.truncate(31);
+    memory.table.truncate(47);
     memory.record.verdict = Verdict::Alarm;
     memory.record.iterations = 60_001;
     for budget in [-1, 60_001, i32::MIN, i32::MAX] {
@@ -43,7 +43,7 @@ fn run_order() {
 fn too_few_words_by_the_capacity_as_it_stands() {
     let underway = case_a_underway();
     let mut memory = underway.clone();
-    memory.table.truncate(32);
+    memory.table.truncate(48);
     memory.waitlist.truncate(8);
     assert_eq!(memory.clone().run(1), DONE, "just enough");
     memory.waitlist.truncate(7);
@@ -53,13 +53,13 @@ fn too_few_words_by_the_capacity_as_it_stands() {
     let mut memory = underway.clone();
     memory.record.capacity = 300;
     assert_eq!(memory.run(1), refused(14));
-    memory.table.resize(1_200, 0);
+    memory.table.resize(1_800, 0);
     memory.waitlist.resize(300, 0);
     assert_eq!(memory.run(1), refused(21));
 
     // The table words that this takes do not fit 32 bits.
     let mut memory = underway.clone();
-    for capacity in [0x4000_0000, u32::MAX] {
+    for capacity in [0x2AAA_AAAB, 0x4000_0000, u32::MAX] {
         memory.record.capacity = capacity;
         assert_eq!(memory.run(1), refused(14));
         assert_eq!(listing_answer(&memory), refused(14));
@@ -81,12 +81,12 @@ fn begin_order() {
         let applies = |number: u32| all().any(|(_, each)| each == number);
         let mut memory = case_a_underway();
         // As no begin leaves slot 0, so that one that has written it is seen.
-        memory.table[..4].copy_from_slice(&[3, 1, 1, 5]);
+        memory.table[..6].copy_from_slice(&[3, 1, 1, 5, 1, 1]);
         if applies(20) {
             memory.chart[3] = 2;
         }
         if applies(14) {
-            memory.table.truncate(31);
+            memory.table.truncate(47);
         }
         let settings = settings(if applies(12) { "sep join old" } else { "sep sep old" });
         let capacities = if applies(11) { &[0, 257, -1, i32::MIN, i32::MAX][..] } else { &[8] };
@@ -107,7 +107,7 @@ fn begin_takes_just_its_words() {
     let chart = chart(CASE_A);
     let sound = settings("sep sep old");
     for budget in [0, 2, 60_000] {
-        let mut memory = Memory::new(&chart, 31, 8);
+        let mut memory = Memory::new(&chart, 47, 8);
         assert_eq!(memory.begin(sound, 8, budget), refused(14), "one table word is missing");
         assert_eq!(memory.begin(sound, 7, budget), DONE);
         memory.table.push(JUNK);

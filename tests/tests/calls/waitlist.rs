@@ -6,7 +6,7 @@ use reference::domain::TOP;
 use reference::memory::JUNK;
 
 use crate::common::{chart, settings, CASE_A};
-use crate::support::{begun, list, refused, DONE};
+use crate::support::{begun, list, origins, refused, states, DONE, START};
 
 #[test]
 fn keeps_its_place() {
@@ -23,7 +23,8 @@ fn keeps_its_place() {
         let mut memory = begun(&chart, &format!("join sep {order}"), 4);
         memory.run(1);
         // Edge 3 widened slot 1, which was waiting before slot 2 and still is.
-        assert_eq!(memory.table[..8], [0, 0, 1, TOP, 2, 1, 0, 0]);
+        assert_eq!(states(&memory), [[0, 0], [1, TOP], [2, 1]]);
+        assert_eq!(origins(&memory), [START, [0, 1], [0, 2]]);
         assert_eq!(list(&memory), [1, 2, 0, 0]);
         memory.run(1);
         assert_eq!(list(&memory), [left, 0, 0, 0]);
@@ -48,7 +49,8 @@ fn a_widened_slot_waits_again_at_the_end() {
     assert_eq!(list(&memory), [2, 0, 0, 0]);
     memory.run(1);
     assert_eq!(list(&memory), [3, 1, 0, 0], "behind slot 3, which joined in the same iteration");
-    assert_eq!(memory.table[..8], [0, 0, 1, TOP, 2, 0, 3, 0]);
+    assert_eq!(states(&memory), [[0, 0], [1, TOP], [2, 0], [3, 0]]);
+    assert_eq!(origins(&memory), [START, [0, 1], [0, 2], [2, 3]]);
     memory.run(9);
     assert_eq!((memory.record.verdict, memory.record.iterations), (Verdict::Safe, 5));
 }
@@ -62,7 +64,8 @@ fn a_self_loop_returns_the_taken_slot_to_the_list() {
         let chart = chart(&format!("V x 0 9 0\nL only o\nE 0 0 {operation}"));
         let mut memory = begun(&chart, "join sep new", 2);
         memory.run(1);
-        assert_eq!((memory.table[..4].to_vec(), list(&memory)), (vec![0, TOP, 0, 0], &[0, 0][..]));
+        assert_eq!(memory.table[..8], [0, TOP, 65_535, 0, 0, 0, 0, 0]);
+        assert_eq!(list(&memory), [0, 0]);
         assert_eq!((memory.record.waiting, memory.record.verdict), (1, Verdict::Open));
         memory.run(1);
         assert_eq!((memory.record.waiting, memory.record.verdict), (waiting, verdict));
@@ -80,8 +83,9 @@ fn moved_to_the_place_taken_next() {
     let (alarm, full) = ("E 0 2 skip", "E 0 3 skip");
     // From the copy, where x is 0: the least past its range, to a location without a slot.
     let overrun = "E 0 3 sub $0 $0 1";
-    let joined = [0, TOP, 1, 0];
-    for (edges, last, merge, capacity, words, old, new) in [
+    let joined = [[0, TOP], [1, 0]];
+    let apart = [[0, 0], [1, 0], [0, 1]];
+    for (edges, last, merge, capacity, slots, old, new) in [
         // Moved: the self-loop had put the slot back behind slot 1, or before it.
         (loop_last, alarm, "join", 8, &joined[..], &[0, 1][..], &[1, 0][..]),
         (loop_first, alarm, "join", 8, &joined, &[0, 1], &[1, 0]),
@@ -92,17 +96,17 @@ fn moved_to_the_place_taken_next() {
         // In a full table too: its capacity is not judged.
         (loop_last, overrun, "join", 2, &joined, &[0, 1], &[1, 0]),
         // Gone back: with sep the slot was not on the list.
-        (loop_last, alarm, "sep", 8, &[0, 0, 1, 0, 0, 1], &[0, 1, 2], &[1, 2, 0]),
-        (loop_last, full, "sep", 3, &[0, 0, 1, 0, 0, 1], &[0, 1, 2], &[1, 2, 0]),
-        (loop_last, full, "sep", 2, &[0, 0, 1, 0], &[0, 1], &[1, 0]),
-        (loop_last, overrun, "sep", 8, &[0, 0, 1, 0, 0, 1], &[0, 1, 2], &[1, 2, 0]),
-        (loop_last, overrun, "sep", 3, &[0, 0, 1, 0, 0, 1], &[0, 1, 2], &[1, 2, 0]),
+        (loop_last, alarm, "sep", 8, &apart, &[0, 1, 2], &[1, 2, 0]),
+        (loop_last, full, "sep", 3, &apart, &[0, 1, 2], &[1, 2, 0]),
+        (loop_last, full, "sep", 2, &apart[..2], &[0, 1], &[1, 0]),
+        (loop_last, overrun, "sep", 8, &apart, &[0, 1, 2], &[1, 2, 0]),
+        (loop_last, overrun, "sep", 3, &apart, &[0, 1, 2], &[1, 2, 0]),
     ] {
         for (order, expected) in [("old", old), ("new", new)] {
             let chart = lines(&format!("{edges}{last}"));
             let mut memory = begun(&chart, &format!("{merge} sep {order}"), capacity);
             assert_eq!(memory.run(9), DONE);
-            assert_eq!(memory.table[..words.len()], *words);
+            assert_eq!(states(&memory), slots);
             assert_eq!(list(&memory)[..expected.len()], *expected);
             let (verdict, edge) = match last == full {
                 true => (Verdict::Full, 0),
@@ -112,7 +116,7 @@ fn moved_to_the_place_taken_next() {
                 settings: memory.record.settings,
                 capacity: capacity as u32,
                 iterations: 1,
-                used: words.len() as u32 / 2,
+                used: slots.len() as u32,
                 waiting: expected.len() as u32,
                 verdict,
                 edge,
@@ -128,15 +132,20 @@ fn moved_to_the_place_taken_next() {
 fn an_overrun_stores_and_merges_nothing() {
     let edges = "E 0 1 skip\nE 0 1 set $0 2\nE 0 2 set $0 1\nE 0 2 add $0 $1 7\nE 0 3 skip";
     let chart = chart(&format!("V x 0 9 0\nV y 0 3 *\nL a o\nL b o\nL c o\nL d o\n{edges}"));
-    let (widened, kept) = ([1, TOP, TOP], [1, 0, TOP, 1, 2, TOP]);
-    for (merge, capacity, from_b, used) in
-        [("join", 8, &widened[..], 3), ("join", 3, &widened, 3), ("sep", 8, &kept, 4)]
-    {
-        let table = [&[0, 0, TOP], from_b, &[2, 1, TOP]].concat();
+    let joined = [[0, 0, TOP], [1, TOP, TOP], [2, 1, TOP]];
+    let apart = [[0, 0, TOP], [1, 0, TOP], [1, 2, TOP], [2, 1, TOP]];
+    for (merge, capacity, slots, edges) in [
+        ("join", 8, &joined[..], &[1, 3][..]),
+        ("join", 3, &joined, &[1, 3]),
+        ("sep", 8, &apart, &[1, 2, 3]),
+    ] {
+        let used = slots.len() as i32;
         for order in ["old", "new"] {
             let mut memory = begun(&chart, &format!("{merge} sep {order}"), capacity);
             assert_eq!(memory.run(9), DONE);
-            assert_eq!(memory.table[..table.len()], table);
+            assert_eq!(states(&memory), slots);
+            let brought: Vec<[i32; 2]> = edges.iter().map(|&edge| [0, edge]).collect();
+            assert_eq!(origins(&memory), [&[START], &brought[..]].concat());
             let others = 1..used;
             let expected: Vec<i32> = match order {
                 "old" => [0].into_iter().chain(others).collect(),
@@ -166,8 +175,8 @@ fn an_overrun_comes_before_the_capacity() {
         let mut memory = begun(&chart, "sep sep old", 1);
         assert_eq!(memory.run(9), DONE);
         assert_eq!((memory.record.verdict, memory.record.edge), (verdict, edge));
-        assert_eq!((memory.record.used, memory.table[..2].to_vec()), (1, vec![0, 0]));
-        assert_eq!(list(&memory), [0]);
+        assert_eq!(memory.table[..4], [0, 0, 65_535, 0]);
+        assert_eq!((memory.record.used, list(&memory)), (1, &[0][..]));
     }
 }
 
@@ -177,11 +186,11 @@ fn an_overrun_is_judged_by_the_copy() {
     let chart = chart("V x 0 9 5\nL a o\nL b o\nE 0 0 set $0 6\nE 0 1 sub $0 $0 1");
     let mut memory = begun(&chart, "join join old", 4);
     assert_eq!(memory.run(1), DONE);
-    assert_eq!(memory.table[..4], [0, TOP, 1, 4]);
+    assert_eq!(states(&memory), [[0, TOP], [1, 4]]);
     assert_eq!((memory.record.verdict, memory.record.waiting), (Verdict::Open, 2));
     assert_eq!(memory.run(1), DONE);
     assert_eq!((memory.record.verdict, memory.record.edge), (Verdict::Alarm, 2));
-    assert_eq!(memory.table[..4], [0, TOP, 1, 4], "nothing is joined");
+    assert_eq!(states(&memory), [[0, TOP], [1, 4]], "nothing is joined");
 }
 
 #[test]
@@ -192,12 +201,12 @@ fn a_room_6_list() {
     assert_eq!(
         memory.table,
         [
-            0, 0, 0, TOP,
-            1, 0, 0, 1,
-            2, 0, 0, TOP,
-            3, 1, 0, 1,
-            3, 0, 1, TOP,
-            4, 1, 0, 1,
+            0, 0, 0, TOP, 65_535, 0,
+            1, 0, 0, 1, 0, 1,
+            2, 0, 0, TOP, 0, 2,
+            3, 1, 0, 1, 1, 3,
+            3, 0, 1, TOP, 2, 4,
+            4, 1, 0, 1, 3, 5,
             JUNK, JUNK, JUNK, JUNK, JUNK,
         ]
     );
@@ -223,7 +232,7 @@ fn a_taken_error_location_raises_no_alarm() {
     memory.table[0] = 1;
     assert_eq!(memory.run(5), DONE);
     assert_eq!((memory.record.verdict, memory.record.iterations), (Verdict::Safe, 2));
-    assert_eq!(memory.table[..3], [1, 2, 0]);
+    assert_eq!(memory.table[..9], [1, 65_535, 0, 2, 0, 1, 0, 0, 0]);
 }
 
 /// With several slots of a location, join widens each and lists them in slot order.
@@ -232,7 +241,8 @@ fn merge_goes_through_all_slots_in_order() {
     let chart = chart("V x 0 9 0\nL start o\nL twin o\nE 0 1 set $0 2");
     for (words, expected) in [("join sep old", [2, 1, 3]), ("join join new", [2, 1, 3])] {
         let mut memory = begun(&chart, words, 5);
-        memory.table[..10].copy_from_slice(&[0, 0, 1, 5, 1, 6, 1, 7, 1, 2]);
+        let slots = [[0, 0, 65_535, 0], [1, 5, 0, 1], [1, 6, 0, 1], [1, 7, 0, 1], [1, 2, 0, 1]];
+        memory.table[..20].copy_from_slice(&slots.concat());
         memory.waitlist[..5].copy_from_slice(match memory.record.settings.order {
             Order::Old => &[0, 2, 0, 0, 0],
             Order::New => &[2, 0, 0, 0, 0],
@@ -240,7 +250,7 @@ fn merge_goes_through_all_slots_in_order() {
         memory.record.used = 5;
         memory.record.waiting = 2;
         assert_eq!(memory.run(1), DONE);
-        assert_eq!(memory.table[..10], [0, 0, 1, TOP, 1, TOP, 1, TOP, 1, 2]);
+        assert_eq!(states(&memory), [[0, 0], [1, TOP], [1, TOP], [1, TOP], [1, 2]]);
         assert_eq!(list(&memory)[..3], expected);
     }
 }

@@ -1,12 +1,14 @@
 -- `analysis::arrive` meets its contract. Assumes nothing.
-use Rattle.semantics.proofs.Prelude.{_≡_, sym, _∙_, List, ℕ, _<_, arith, needs, ℤ, length}
+use Rattle.semantics.proofs.Prelude.{_≡_, refl, sym, ap, _∙_, List, [], _∷_, _++_, ℕ, _<_, arith, needs, ℤ, length}
 use Rattle.semantics.proofs.Tidy.{queue-few}
 use Rattle.waitlist.specs.Waits.{waits}
 use Rattle.waitlist.proofs.WaitWords.{waits-are}
+use Rattle.semantics.specs.Algorithm.{Origin, Out, taking, brought}
+use Rattle.state.specs.Rows.{tail-words, rows-of, origins-of}
 use Rattle.reached.proofs.Table.{rows-stored}
-use Rattle.reached.proofs.FormKept.{laid, next-slot-in, kept-stored}
+use Rattle.reached.proofs.FormKept.{laid, next-slot-in, origins-stored, kept-stored}
 use Rattle.analysis.specs.Loaded.{Merged}
-use Rattle.analysis.proofs.Arrival.{arrive-drop, arrive-store, arrive-full}
+use Rattle.analysis.proofs.Arrival.{arrive-drop, arrive-store, arrive-full, noted-none, noted-one, noted-full}
 use Rattle.analysis.proofs.arrive.Statement.{statement}
 use Rattle.analysis.proofs.arrive.Tie as tie
 
@@ -36,18 +38,31 @@ abbrev merged-at : tie.After-covered → tie.After-merge-by
 merged-at v = v .before .before .before .before
 
 covered-requires : tie.Need-covered-requires
-covered-requires c κs = let d = c .before .before .before in laid (after d .kept) _ (start d .pre .row)
+covered-requires c κs = let d = c .before .before .before in laid (after d .kept) _ (start d .pre .0 .row)
+
+-- the origins before it, and how they grow by what arrives
+module _ (d : tie.After-merge-by) where
+  abbrev os : List Origin
+  os = origins-of (start d .args .layout) (start d .args .a .used) (start d .args .table .now)
+
+  abbrev note : Out (List ℤ) → List Origin
+  note o = os ++ brought (start d .args .parent .0) (taking (start d .args .edge .0) (start d .args .a .used) o (λ en wa. []))
 
 returns : tie.Need-returns
 returns c =
     let v = c .before .before in
     let d = merged-at v in
-    rw (c .went-on .ensures) (record { out = arrive-drop (start d .pre) (after d) (sym (v .covered .ensures) ∙ c .before .if1 .taken); kept = after d .kept })
+    let a = start d .args in
+    let out = arrive-drop (start d .pre .0) (after d) (sym (v .covered .ensures) ∙ c .before .if1 .taken) in
+    rw (c .went-on .ensures) (record {
+      progressed = record { out = out; kept = after d .kept };
+      origins = after d .origins ∙ noted-none (os d) (a .parent .0) (a .edge .0) (a .layout) (a .a .used) (table d) (waits (count d) (list d)) ∙ ap (note d) out;
+    })
 
-put-row-requires : tie.Need-put-row-requires
-put-row-requires c κs =
+put-slot-requires : tie.Need-put-slot-requires
+put-slot-requires c κs =
     let d = merged-at (c .before .before .before) in
-    omega (arith, next-slot-in (after d .kept) (c .before .if2 .taken), start d .pre .row, after d .kept .apart)
+    (next-slot-in (after d .kept) (c .before .if2 .taken), omega (arith, start d .pre .0 .row, after d .kept .tailed))
 
 append-requires : tie.Need-append-requires
 append-requires c κs =
@@ -60,19 +75,26 @@ append-requires c κs =
 returns-2 : tie.Need-returns-2
 returns-2 c =
     let app = c .before .before .append in
-    let put = c .before .before .before .before .before .put-row in
+    let put = c .before .before .before .before .before .put-slot in
     let i = c .before .before .before .before .before .before .before in
     let v = i .before .before in
     let d = merged-at v in
     let k = after d .kept in
-    let a = start d .args .a in
-    let e = start d .args .e .now in
-    let u : a .used < length (list d) = i .if2 .taken in
-    let row = start d .pre .row in
-    rw (c .went-on2 .ensures, put .ensures, row) (record {
-      out = rw (rows-stored (start d .args .layout) (a .used) (table d) e (next-slot-in k u) (k .apart) row, waits-are (app .ensures))
-          (arrive-store (start d .pre) (after d) (sym (v .covered .ensures) ∙ i .before .if1 .left) (omega (arith, u, size d)));
-      kept = kept-stored k u e row (app .ensures) (app .kept .0);
+    let s = start d .args in
+    let e = s .e .now in
+    let u : s .a .used < length (list d) = i .if2 .taken in
+    let row = start d .pre .0 .row in
+    let tail = tail-words (s .parent .0) (s .edge .0) in
+    let stored = arrive-store (start d .pre .0) (after d) (sym (v .covered .ensures) ∙ i .before .if1 .left) (omega (arith, u, size d)) in
+    rw (c .went-on2 .ensures, put .ensures) (record {
+      progressed = record {
+        out = rw (rows-stored (s .layout) (s .a .used) (table d) e tail (next-slot-in k u) (k .tailed) row refl, waits-are (app .ensures)) stored;
+        kept = kept-stored k u e row (s .parent .0) (s .edge .0) (start d .pre .1) (start d .pre .2) (app .ensures) (app .kept .0);
+      };
+      origins = origins-stored k u e row (s .parent .0) (s .edge .0) (start d .pre .1) (start d .pre .2)
+          ∙ ap (λ (l : List Origin). l ++ (record { parent = s .parent .0; edge = s .edge .0 } ∷ [])) (after d .origins)
+          ∙ noted-one (os d) (s .parent .0) (s .edge .0) (s .layout) (s .a .used) (table d) e (waits (count d) (list d) ++ (s .a .used ∷ []))
+          ∙ ap (note d) stored;
     })
 
 returns-3 : tie.Need-returns-3
@@ -80,9 +102,11 @@ returns-3 c =
     let i = c .before in
     let v = i .before .before in
     let d = merged-at v in
+    let a = start d .args in
+    let out = arrive-full (start d .pre .0) (after d) (sym (v .covered .ensures) ∙ i .before .if1 .left) (omega (arith, i .if2 .left, size d)) in
     rw (c .table-full .ensures) (record {
-      out = arrive-full (start d .pre) (after d) (sym (v .covered .ensures) ∙ i .before .if1 .left) (omega (arith, i .if2 .left, size d));
-      kept = after d .kept;
+      progressed = record { out = out; kept = after d .kept };
+      origins = after d .origins ∙ noted-full (os d) (a .parent .0) (a .edge .0) (a .a .used) (rows-of (a .layout) (a .a .used) (table d)) (waits (count d) (list d)) ∙ ap (note d) out;
     })
 
 pub arrive-spec : {M : Type 1} → statement M
@@ -93,7 +117,7 @@ arrive-spec =
     covered-requires
     (λ c κs. search needs) (λ c. search needs) (λ c. search needs)
     returns
-    put-row-requires
+    put-slot-requires
     append-requires
     (λ c. search needs) (λ c κs. search needs) (λ c. search needs) (λ c. search needs)
     returns-2

@@ -1,10 +1,11 @@
 -- `analysis::merge_by` meets its contract. Assumes nothing.
-use Rattle.semantics.proofs.Prelude.{_∙_, _+_, _≤_, arith, needs, length}
-use Rattle.state.specs.Rows.{rows-of}
+use Rattle.semantics.proofs.Prelude.{refl, ap, _∙_, map, _+_, _≤_, arith, needs, length}
+use Rattle.state.specs.Rows.{rows-of, tails-of}
+use Rattle.semantics.specs.Memory.{origin-in}
 use Rattle.waitlist.specs.Waits.{waits}
 use Rattle.waitlist.proofs.WaitWords.{waits-are}
-use Rattle.reached.proofs.Table.{rows-length, rows-merged, drop-merged, rewaits-queue}
-use Rattle.reached.proofs.FormKept.{in-table, laid, kept-after}
+use Rattle.reached.proofs.Table.{rows-length, rows-merged, tails-merged, drop-merged, rewaits-queue}
+use Rattle.reached.proofs.FormKept.{apart, in-table, laid, kept-after}
 use Rattle.analysis.proofs.Merges.{rewaits-all}
 use Rattle.analysis.proofs.merge_by.Statement.{statement}
 use Rattle.analysis.proofs.merge_by.Tie as tie
@@ -20,7 +21,7 @@ merge-slots-requires c κs =
     (laid k _ (g .row), (k .slots, k .queue, k .capacity, k .small))
 
 returns : tie.Need-returns
-returns c = let q = c .enum-told .given .1 in record { rows = rw q; waiting = rw q; kept = c .before .before .before .pre .kept }
+returns c = let q = c .enum-told .given .1 in record { rows = rw q; waiting = rw q; origins = refl; kept = c .before .before .before .pre .kept }
 
 returns-2 : tie.Need-returns-2
 returns-2 c =
@@ -37,10 +38,12 @@ returns-2 c =
     let rows = rows-of y (a .used) t in
     let wa = waits (a .waiting) (s .args .list .now) in
     let n : 0 + length rows ≤ a .used = omega (arith, rows-length y (a .used) t) in
+    let tails = ap (tails-of y (a .used)) (h .0) ∙ tails-merged y (apart k) e (a .used) t (in-table k) in
     record {
-      rows = rw (q, h .0) (rows-merged y (k .apart) e (a .used) t (in-table k));
+      rows = rw (q, h .0) (rows-merged y (apart k) e (a .used) t (in-table k));
       waiting = rw q (waits-are (h .1) ∙ rewaits-all e 0 rows wa);
-      kept = kept-after k (m .last .1 .0) (m .kept .1 .0) (rw (h .0) (drop-merged y (k .apart) e (a .used) t (in-table k))) (h .1) (m .kept .1 .1 .1 .1 .0) (rewaits-queue e (a .used) 0 rows wa n (k .queue));
+      origins = ap (map origin-in) tails;
+      kept = kept-after k (m .last .1 .0) (m .kept .1 .0) (rw (h .0) (drop-merged y (apart k) e (a .used) t (in-table k))) tails (h .1) (m .kept .1 .1 .1 .1 .0) (rewaits-queue e (a .used) 0 rows wa n (k .queue));
     }
 
 pub merge-by-spec : {M : Type 1} → statement M

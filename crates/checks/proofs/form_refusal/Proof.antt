@@ -1,8 +1,9 @@
 -- `checks::form_refusal` meets its contract: 21 where 20 and 14 refuse nothing. Assumes nothing.
 use Rattle.semantics.proofs.Prelude.{_≡_, sym, ap, _∙_, Bool, not, List, [], _∷_, needs, not-true, not-false, length}
-use Rattle.semantics.specs.Encoding.{decode}
+use Rattle.semantics.specs.Encoding.{decode, well-formed}
 use Rattle.semantics.specs.Memory.{analysis-ok}
 use Rattle.semantics.specs.Outcomes.{Case, case, refusal, size-of, form-of}
+use Rattle.semantics.proofs.Bools.{passed}
 use Rattle.semantics.proofs.FirstCase.{NoneMet, none-met, enough, refusal-later, sooner}
 use Rattle.checks.specs.Form.{lent}
 use Rattle.state.proofs.Layouts.{is-layout, slots-in}
@@ -37,7 +38,7 @@ analysis-ok-requires : tie.Need-analysis-ok-requires
 analysis-ok-requires c κs =
     let s = start (c .before) .args in
     let h = enough (decode (s .chart .now)) (s .a .capacity) (length (s .table .now)) (length (s .list .now)) (none (c .before) .1 .0) in
-    record { layout = c .layout-of .ensures; table = slots-in (is-layout (s .chart .now) _ (c .layout-of .ensures .0)) (s .a .capacity) (length (s .table .now)) (h .0); list = h .1 }
+    record { chart = passed (well-formed (s .chart .now)) (none (c .before) .0); layout = c .layout-of .ensures; table = slots-in (is-layout (s .chart .now) _ (c .layout-of .ensures .0)) (s .a .capacity) (length (s .table .now)) (h .0); list = h .1 }
 
 returns-2 : tie.Need-returns-2
 returns-2 c = last (c .before .before .before) (sym (c .before .analysis-ok .ensures) ∙ not-true _ (c .if2 .taken))

@@ -1,9 +1,11 @@
 -- `checks::lent_ok` meets its contract: the counts first, then all the rest. Assumes nothing.
-use Rattle.semantics.proofs.Prelude.{_≡_, sym, ap, _∙_, _&&_, and-assoc, and-true, ℕ, _*_, _≤_, mul-le-mul-right, arith, needs, le-leb, lt-leb, length, take, drop, length-take-le}
+use Rattle.semantics.proofs.Prelude.{_≡_, sym, ap, _∙_, ℕ, _*_, _≤_, mul-le-mul-right, arith, needs, le-leb, lt-leb, length, take, drop, length-take-le}
+use Rattle.semantics.specs.Encoding.{decode}
 use Rattle.semantics.specs.Memory.{zeros}
 use Rattle.words.proofs.Rows.{drop-take}
 use Rattle.state.proofs.Layouts.{is-layout}
 use Rattle.state.proofs.Slots.{place-of}
+use Rattle.checks.proofs.FormTests.{lent-passes}
 use Rattle.checks.proofs.lent_ok.Statement.{statement}
 use Rattle.checks.proofs.lent_ok.Tie as tie
 
@@ -30,10 +32,10 @@ module _ (c : tie.Else2) where
   in-list : start .args .a .waiting ≤ length (start .args .list .now)
   in-list = omega (arith, c .if2 .left, c .before .if1 .left, start .pre .list)
 
--- once the rows and the list are tested
+-- once the slots, their origins and the list are tested
 module _ (w : tie.After-waits-ok) where
   abbrev first-unused : tie.After-slot
-  first-unused = w .before .before .before .before
+  first-unused = w .before .before .before .before .before
 
   abbrev counted : tie.Else2
   counted = first-unused .before
@@ -51,7 +53,8 @@ returns-3 : tie.Need-returns-3
 returns-3 c =
     let z = c .before .before in
     let w = z .before .before in
-    let r = w .before .before in
+    let o = w .before .before in
+    let r = o .before in
     let f = r .before .before .before in
     let a = start f .args in
     let n = is-layout (a .chart .now) _ (start f .pre .layout .0) .stride in
@@ -59,7 +62,7 @@ returns-3 c =
     (rw (from w) at (z .all-zero .ensures)) ∙ ap zeros (sym (drop-take (used f * stride f) (capacity f * stride f) (a .table .now)))
     ∙ λ j. zeros (drop (used f * n j) (take (capacity f * n j) (a .table .now))) in
     let list = c .all-zero2 .ensures ∙ ap zeros (sym (drop-take (a .a .waiting) (capacity f) (a .list .now))) in
-    rw (le-leb _ _ (f .before .if1 .left), le-leb _ _ (f .if2 .left)) ((λ j. ((r .rows-ok .ensures j && w .waits-ok .ensures j) && slots j) && list j) ∙ simp (and-assoc, and-true))
+    lent-passes (decode (a .chart .now)) (capacity f) (used f) (a .a .waiting) (a .table .now) (a .list .now) (le-leb _ _ (f .before .if1 .left)) (le-leb _ _ (f .if2 .left)) (r .slots-ok .ensures) (o .origins-ok .ensures) (w .waits-ok .ensures) slots list
 
 pub lent-ok-spec : {M : Type 1} → statement M
 lent-ok-spec =
@@ -71,7 +74,8 @@ lent-ok-spec =
     (λ c κs. omega (arith, below-room c, room c, start c .good))
     (λ c. omega (arith, room (c .before .before), start (c .before .before) .good))
     (λ c κs. let f = c .before .before in (start f .pre .layout, omega (arith, below-room f, room f)))
-    (λ c. let f = c .before .before .before .before in sym (length-take-le _ _ (in-list f)))
+    (λ c κs. let f = c .before .before .before in (start f .pre .chart, start f .pre .layout, omega (arith, below-room f, room f)))
+    (λ c. let f = c .before .before .before .before .before in sym (length-take-le _ _ (in-list f)))
     (λ c κs. search needs)
     (λ c. let f = counted c in omega (arith, from c, below-room f, room f, start f .good))
     (λ c. let f = counted c in omega (arith, from c, below-room f))

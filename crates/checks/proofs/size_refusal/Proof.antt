@@ -2,6 +2,8 @@
 use Rattle.semantics.proofs.Prelude.{_≡_, refl, sym, _∙_, Bool, true, _||_, not, [], _∷_, _*_, arith, ltb, needs, not-true, not-false}
 use Rattle.semantics.specs.Encoding.{decode, well-formed}
 use Rattle.semantics.specs.Outcomes.{case, refusal, too-few, size-of}
+use Rattle.semantics.proofs.Bools.{from-true}
+use Rattle.semantics.proofs.Encoded.{formed-bounds}
 use Rattle.state.proofs.Layouts.{is-layout}
 use Rattle.checks.proofs.size_refusal.Statement.{statement}
 use Rattle.checks.proofs.size_refusal.Tie as tie
@@ -30,8 +32,13 @@ returns-2 c = let f = c .before .before .before in by-tests (f .before .before) 
 returns-3 : tie.Need-returns-3
 returns-3 c = let f = c .before .before .before in by-tests (f .before .before) (formed f) (sym (few (c .before)) ∙ c .if2 .left)
 
+-- a chart in form has few variables
 too-few-requires : tie.Need-too-few-requires
-too-few-requires c κs = let y = is-layout (c .before .before .before .args .chart .now) _ (c .layout-of .ensures .0) in omega (arith, c .layout-of .ensures .1, y .wide, y .stride)
+too-few-requires c κs =
+    let f = c .before in
+    let ws = f .before .before .args .chart .now in
+    let y = is-layout ws _ (c .layout-of .ensures .0) in
+    omega (arith, y .stride, formed-bounds ws (from-true (formed f)) .few-vars)
 
 pub size-refusal-spec : {M : Type 1} → statement M
 size-refusal-spec = tie.close (tie.spec (λ c κs. search needs) returns (λ c κs. search needs) too-few-requires returns-2 returns-3)

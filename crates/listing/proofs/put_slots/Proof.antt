@@ -4,7 +4,7 @@ use Rattle.semantics.proofs.Prelude.{_≡_, refl, sym, ap, _∙_, Bool, false, 
 use Rattle.semantics.specs.Layout.{most-slots}
 use Rattle.semantics.specs.Lists.{some-of}
 use Rattle.semantics.specs.Encoding.{decode}
-use Rattle.semantics.specs.Memory.{width, state-in, states-in}
+use Rattle.semantics.specs.Memory.{state-in, states-in}
 use Rattle.semantics.specs.Listing.{slot-text, slots-text}
 use Rattle.state.specs.declared.Layout.{Layout}
 use Rattle.state.specs.Rows.{Placed}
@@ -17,7 +17,7 @@ use Rattle.listing.proofs.put_slots.Tie as tie
 
 -- the lines of n slots whose words are t, from slot s on
 abbrev lines : List ℤ → List ℤ → ℕ → ℕ → List ℤ → List ℕ
-lines chart list s n t = slots-text (decode chart) (map natAbs list) s (states-in (width (decode chart)) n t)
+lines chart list s n t = slots-text (decode chart) (map natAbs list) s (states-in (decode chart) n t)
 
 abbrev Inv-loop : tie.InvT-loop
 Inv-loop out₀ at chart table list used layout marks place₀ slot₀ out place slot =
@@ -108,8 +108,8 @@ loop-again c =
     let d = decode (chart o) in
     let e = c .after .ensures in
     let n = used-slot p .left in
-    let turn = (λ j. slots-text d (waits o) (s p) (states-in (width d) (n j) (drop (s p * y o .stride) (table o)))) ∙ slots-turn d (waits o) (y o) (layout o) (s p) (used o - (s p + 1)) (table o)
-    ∙ (λ j. slot-text d (s p) (state-in (sym (r .row-of .ensures .0) j)) (sym (mark-of p) j) ++ slots-text d (waits o) (s p + 1) (states-in (width d) (used o - (s p + 1)) (drop ((s p + 1) * y o .stride) (table o)))) in
+    let turn = (λ j. slots-text d (waits o) (s p) (states-in d (n j) (drop (s p * y o .stride) (table o)))) ∙ slots-turn d (waits o) (y o) (layout o) (s p) (used o - (s p + 1)) (table o)
+    ∙ (λ j. slot-text d (s p) (state-in (sym (r .row-of .ensures .0) j)) (sym (mark-of p) j) ++ slots-text d (waits o) (s p + 1) (states-in d (used o - (s p + 1)) (drop ((s p + 1) * y o .stride) (table o)))) in
     (e .1, k .put-slot .kept .0 ∙ l .inv .1, rw (e .0) (one-more (l .inv .2) turn (k .put-slot .ensures)))
 
 returns : tie.Need-returns Inv-loop μ-loop

@@ -1,7 +1,7 @@
 -- `listing::write_listing` meets its contract. Assumes nothing.
 use Rattle.semantics.proofs.Prelude.{sym, _≤_, arith, mul-le-mul-right, needs, length-take-le}
 use Rattle.semantics.specs.Encoding.{decode}
-use Rattle.semantics.specs.Memory.{width}
+use Rattle.semantics.specs.Memory.{stride}
 use Rattle.semantics.proofs.ListingShort.{few-used}
 use Rattle.checks.specs.Form.{lent}
 use Rattle.writer.proofs.Written.{put-then, put-same}
@@ -22,7 +22,7 @@ put-slots-requires : tie.Need-put-slots-requires
 put-slots-requires c κs =
     let s = c .before .before .before .before .before .before .before in
     let o = order s in
-    let w = width (decode (s .args .chart .now)) in
+    let w = stride (decode (s .args .chart .now)) in
     (s .pre .chart, omega (arith, s .pre .table, mul-le-mul-right w (o .0)), few-used (decode (s .args .chart .now)) (lent (s .args .table .now) (s .args .list .now) (s .args .a)) (s .pre .analysis))
 
 returns : tie.Need-returns

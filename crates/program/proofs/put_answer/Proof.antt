@@ -31,12 +31,12 @@ returns c =
     let s = start k in
     let g = asking (s .args .go) in
     let e = refuses k (i .if1 .taken) in
-    let l : length (print-read g (read (chart k))) ≤ length (s .args .out .now)
-    = omega (arith, s .pre .0, read-short g (go-fine (s .pre .1 .input) g (s .pre .1 .is)) (chart k)) in
+    let l : length (print-read (s .args .view) g (read (chart k))) ≤ length (s .args .out .now)
+    = omega (arith, s .pre .0, read-short (s .args .view) g (go-fine (s .pre .1 .input) g (s .pre .1 .is)) (chart k)) in
     rw e (put-printed (c .before .before .put-refusal .ensures) (rw e at l))
 
-put-listing-requires : tie.Need-put-listing-requires
-put-listing-requires c κs =
+put-view-requires : tie.Need-put-view-requires
+put-view-requires c κs =
     let i = c .before .before in
     let k = i .before .before .before in
     (accepts k (i .if1 .left) .0, start k .pre .0, start k .pre .1)
@@ -44,7 +44,7 @@ put-listing-requires c κs =
 returns-2 : tie.Need-returns-2
 returns-2 c =
     let i = c .before .before .before .before .before in
-    rw (accepts (i .before .before .before) (i .if1 .left) .1) (c .before .before .put-listing .ensures)
+    rw (accepts (i .before .before .before) (i .if1 .left) .1) (c .before .before .put-view .ensures)
 
 pub put-answer-spec : {M : Type 1} → statement M
 put-answer-spec =
@@ -53,6 +53,6 @@ put-answer-spec =
     (λ c. search needs) (λ c κs. search needs) (λ c κs. search needs) (λ c. search needs)
     returns
     (λ c. search needs)
-    put-listing-requires
+    put-view-requires
     (λ c. search needs)
     returns-2)

@@ -28,14 +28,14 @@ returns c =
     let m = c .before .before .before in
     let s = m .before .before .before .before in
     let input = now (s .args .input) in
-    let e = refused-output input (subst (λ (x : GoLine). GoRead input x) (m .n .given .1) (m .before .before .read .ensures)) in
+    let e = refused-output (s .args .view) input (subst (λ (x : GoLine). GoRead input x) (m .n .given .1) (m .before .before .read .ensures)) in
     let h : length (now (s .args .out)) ≡ listing-bytes = search needs in
-    printed-is e (put-printed (c .put-refusal .ensures) (omega (arith, h, rw e at (output-short input))))
+    printed-is e (put-printed (c .put-refusal .ensures) (omega (arith, h, rw e at (output-short (s .args .view) input))))
 
 returns-2 : tie.Need-returns-2
 returns-2 c =
     let m = c .before .before .before .before in
-    printed-is (charted-output (now (m .before .before .before .before .args .input)) (m .go .given .0 .0) (m .go .given .0 .1 .0) (asks m)) (c .put-answer .ensures)
+    printed-is (charted-output (m .before .before .before .before .args .view) (now (m .before .before .before .before .args .input)) (m .go .given .0 .0) (m .go .given .0 .1 .0) (asks m)) (c .put-answer .ensures)
 
 pub respond-spec : {M : Type 1} → statement M
 respond-spec =

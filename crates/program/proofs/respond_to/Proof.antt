@@ -17,7 +17,7 @@ returns c input b =
     let buffer = now (s .args .buffer) in
     let h : length buffer ≡ input-bytes = search needs in
     let n = c .before .before .before .least .ensures in
-    let e : output input ≡ output (take (c .before .before .before .least .result) buffer) = rw n (buffer-enough input buffer (s .args .count) h b) in
+    let e : output (s .args .view) input ≡ output (s .args .view) (take (c .before .before .before .least .result) buffer) = rw n (buffer-enough (s .args .view) input buffer (s .args .count) h b) in
     rw e (record { long = c .respond .ensures .0; bytes = c .respond .ensures .1 })
 
 pub respond-to-spec : {M : Type 1} → statement M

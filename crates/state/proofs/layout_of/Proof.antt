@@ -7,4 +7,4 @@ returns : tie.Need-returns
 returns c = (rw (c .variable-count .ensures .0), omega (arith, c .variable-count .ensures .1))
 
 pub layout-of-spec : {M : Type 1} → statement M
-layout-of-spec = tie.close (tie.spec (λ c κs. search needs) (λ c. search needs) (λ c. search needs) returns)
+layout-of-spec = tie.close (tie.spec (λ c κs. search needs) (λ c. search needs) (λ c. search needs) (λ c. search needs) returns)

@@ -3,7 +3,7 @@
 use std::hint::black_box;
 
 use library::files::{self, Ring};
-use library::{Calls, Record, Settings, LIBRARY};
+use library::{Calls, Record, Report, Settings, LIBRARY};
 use reference::encoding::MAX_WORDS;
 
 const MOST_ITERATIONS: i32 = 60_000;
@@ -45,13 +45,9 @@ pub const BEGIN_JOIN: Call =
     Call { name: "begin join", make: |lent, calls| lent.begin(calls, JOIN, lent.budget) };
 pub const BEGIN_SEP: Call =
     Call { name: "begin sep", make: |lent, calls| lent.begin(calls, SEP, lent.budget) };
-pub const LISTING: Call = Call {
-    name: "listing",
-    make: |lent, calls| {
-        let Lent { chart, record, table, list, space, .. } = lent;
-        lent.length = (calls.listing)(black_box(chart), *record, table, list, space).length;
-    },
-};
+pub const LISTING: Call = Call { name: "listing", make: |lent, calls| lent.report(calls.listing) };
+/// Of an analysis with an alarm.
+pub const PATH: Call = Call { name: "path", make: |lent, calls| lent.report(calls.path) };
 
 /// A chart with the calls to make on it, in this order.
 pub struct Subject {
@@ -59,6 +55,8 @@ pub struct Subject {
     pub file: Vec<u8>,
     pub capacity: usize,
     pub budget: i32,
+    /// What the listing and the path are of.
+    begin: Call,
     pub calls: &'static [Call],
 }
 
@@ -73,14 +71,14 @@ pub struct Lent {
     table: Vec<i32>,
     list: Vec<i32>,
     space: Vec<u8>,
-    /// Of the last listing.
+    /// Of the last listing or path.
     pub length: usize,
 }
 
 impl Subject {
     fn new(name: &str, file: &[u8], capacity: usize, calls: &'static [Call]) -> Self {
         let (name, file) = (name.to_string(), file.to_vec());
-        Subject { name, file, capacity, budget: MOST_ITERATIONS, calls }
+        Subject { name, file, capacity, budget: MOST_ITERATIONS, begin: BEGIN_SEP, calls }
     }
 
     /// With the chart read and an analysis made, so that each call can be made alone.
@@ -92,12 +90,12 @@ impl Subject {
             capacity: self.capacity as i32,
             budget: self.budget,
             record,
-            table: vec![0; self.capacity * 9],
+            table: vec![0; self.capacity * 11],
             list: vec![0; self.capacity],
             space: vec![0; 24_576],
             length: 0,
         };
-        for call in [READ, BEGIN_SEP, LISTING] {
+        for call in [READ, self.begin, LISTING] {
             (call.make)(&mut lent, LIBRARY);
         }
         lent
@@ -110,22 +108,32 @@ impl Lent {
         let chart = black_box(chart);
         *record = (calls.begin)(chart, settings, *capacity, budget, *record, table, list).record;
     }
+
+    fn report(&mut self, call: Report) {
+        let Lent { chart, record, table, list, space, .. } = self;
+        self.length = call(black_box(chart), *record, table, list, space).length;
+    }
 }
 
 /// From small to large.
 pub fn charts() -> Vec<Subject> {
     const ALL: &[Call] = &[READ, BEGIN_ZERO, BEGIN_JOIN, BEGIN_SEP, LISTING];
     const WITHOUT_JOIN: &[Call] = &[READ, BEGIN_ZERO, BEGIN_SEP, LISTING];
+    const ALARM: &[Call] = &[READ, BEGIN_ZERO, BEGIN_SEP, LISTING, PATH];
     vec![
         Subject::new("case A", files::case_a(), 16, ALL),
-        Subject::new("middle", &files::ring(MIDDLE), 64, WITHOUT_JOIN),
+        Subject {
+            begin: BEGIN_JOIN,
+            ..Subject::new("case A, join", files::case_a(), 16, &[LISTING, PATH])
+        },
+        Subject::new("middle", &files::ring(MIDDLE), 64, ALARM),
         Subject::new(
             "middle",
             &files::ring(Ring { is_counted: false, ..MIDDLE }),
             64,
             &[BEGIN_JOIN],
         ),
-        Subject::new("largest", &files::ring(LARGEST), 256, WITHOUT_JOIN),
+        Subject::new("largest", &files::ring(LARGEST), 256, ALARM),
         Subject::new(
             "largest",
             &files::ring(Ring { is_counted: false, ..LARGEST }),

@@ -7,7 +7,7 @@ use std::time::{Duration, Instant};
 use library::walker::WALKER;
 use library::{Calls, Record, LIBRARY};
 
-use crate::subjects::{charts, costliest, growth, Call, Lent, BEGIN_ZERO, LISTING, READ};
+use crate::subjects::{charts, costliest, growth, Call, Lent, BEGIN_ZERO, LISTING, PATH, READ};
 
 /// For one row; the fewest rounds even where that takes longer.
 const TIME: Duration = Duration::from_secs(2);
@@ -26,7 +26,9 @@ pub fn print() {
             let Times { library, walker, ratio } = measure(&mut lent, call);
             let (does, rate) = match call.name {
                 name if name == READ.name => (format!("{} bytes", subject.file.len()), None),
-                name if name == LISTING.name => (format!("{} bytes", lent.length), None),
+                name if [LISTING.name, PATH.name].contains(&name) => {
+                    (format!("{} bytes", lent.length), None)
+                }
                 name if name == BEGIN_ZERO.name => (walked(&lent.record), None),
                 _ => (walked(&lent.record), Some(iterations(&lent) * 1e6 / library.median)),
             };

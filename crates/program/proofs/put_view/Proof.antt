@@ -1,0 +1,43 @@
+-- `program::put_view` meets its contract. Assumes nothing.
+use Rattle.semantics.proofs.Prelude.{needs, now}
+use Rattle.program.proofs.GoThrough.{Shows, view-shown, through-printed, refusal-printed}
+use Rattle.program.proofs.put_view.Statement.{statement}
+use Rattle.program.proofs.put_view.Tie as tie
+
+-- what the view answered and wrote
+module _ (k : tie.After-show) where
+  abbrev explored-at : tie.After-explore
+  explored-at = k .before .before .before .before .before .before
+
+  abbrev start : tie.Start
+  start = explored-at .before .before .before .before
+
+  shows : Shows (now (start .args .chart)) (start .pre .0) (start .args .go) (start .pre .2) (start .args .view) (now (start .args .out)) (k .show .result) (k .show .last .1 .1 .1 .1 .1 .0)
+  shows = view-shown (now (start .args .chart)) (start .pre .0) (start .args .go) (start .pre .2) (start .args .view) _ (explored-at .explore .ensures) (now (start .args .out)) _ (k .show .result) (start .pre .1) (k .show .ensures .0) (k .show .ensures .1)
+
+returns : tie.Need-returns
+returns c =
+    let put = c .before .before .put-refusal in
+    let i = c .before .before .before .before in
+    let k = i .before .before .before .before in
+    let s = start k in
+    refusal-printed (now (s .args .chart)) (s .pre .0) (s .args .go) (s .pre .2) (s .args .view) (now (s .args .out)) (k .show .result) _ (shows k) (i .if1 .taken) (s .pre .1) (put .ensures)
+
+returns-2 : tie.Need-returns-2
+returns-2 c =
+    let k = c .before .before .before .before in
+    let s = start k in
+    through-printed (now (s .args .chart)) (s .pre .0) (s .args .go) (s .pre .2) (s .args .view) (now (s .args .out)) (k .show .result) _ (shows k) (c .if1 .left)
+
+pub put-view-spec : {M : Type 1} → statement M
+put-view-spec =
+    tie.close
+    (tie.spec
+    (λ c. search needs) (λ c. search needs)
+    (λ c κs. search needs)
+    (λ c. search needs) (λ c. search needs)
+    (λ c κs. search needs) (λ c κs. search needs)
+    (λ c. search needs)
+    returns
+    (λ c. search needs)
+    returns-2)
