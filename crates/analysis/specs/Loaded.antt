@@ -57,8 +57,8 @@ pub record Progressed (y : Layout) (t l : List ℤ) (p : Progress) (o : Out (Lis
   pub out : out-of y t l p ≡ o
   pub kept : Kept y t l (p .used) (p .waiting)
 
--- the same of one edge n, at slot k: where by it a slot was taken, since there were n₀ in t₀, that one has them for its
--- origin
+-- the same of one edge n followed from slot k, over the n₀ slots of t₀: their origins stay, and where the edge took a slot
+-- k and n follow
 pub record Noted (y : Layout) (n₀ : ℕ) (t₀ : List ℤ) (k n : ℕ) (t l : List ℤ) (p : Progress) (o : Out (List ℤ)) : Type 0 where
   pub progressed : Progressed y t l p o
   pub origins : origins-of y (p .used) t ≡ origins-of y n₀ t₀ ++ brought k (taking n n₀ o (λ en wa. []))

@@ -65,7 +65,7 @@ fn arrive(
         return progress::went_on(used, count);
     }
     if used < list.len() {
-        reached::put_slot(layout, table, SlotId(used), e, parent, edge);
+        reached::store_slot(layout, table, SlotId(used), e, parent, edge);
         let more = waitlist::append(list, count, SlotId(used));
         return progress::went_on(used + 1, more);
     }
@@ -282,7 +282,7 @@ pub fn start_core(
 {
     words::fill_zero(table);
     words::fill_zero(list);
-    reached::put_slot(
+    reached::store_slot(
         layout,
         table,
         SlotId(0),

@@ -104,8 +104,8 @@ fn origin_ok(chart: &[i32], layout: Layout, table: &[i32], slot: SlotRow, used: 
     ensures { λ r. ⌜ r ≡ origin-ok (decode (now (chart .entry))) (locations (states-in (decode (now (chart .entry))) «used» (now (table .entry)))) (slot .id .0) (origin-in (tail-of layout (slot .id .0) (now (table .entry)))) ⌝ }
 {
     let tail = state::tail_of(layout, table, slot);
-    let parent = state::parent_of(tail);
-    let edge = state::edge_of(tail);
+    let parent = state::origin_parent(tail);
+    let edge = state::origin_edge(tail);
     let id = slot.id;
     if id.0 == 0 {
         return (parent.0 == semantics::NO_SLOT) & edge.is_none();

@@ -2,7 +2,6 @@
 use mathlib.Core.Bool.{Bool, true, not}
 use mathlib.Core.List.{List, [], _∷_, _++_}
 use Prim.Native.Nat.{ℕ, _*_, _≤_, _<_}
-use lib.Dec.{ltb}
 use lib.IntN.{ℤ}
 use lib.ListN.{length}
 use Rattle.semantics.specs.declared.View.{View}
@@ -11,7 +10,7 @@ use Rattle.semantics.specs.declared.Verdict.{Verdict}
 use Rattle.semantics.specs.Chart.{Chart}
 use Rattle.semantics.specs.Memory.{Memory, is-alarm}
 use Rattle.semantics.specs.Path.{parent-of}
-use Rattle.semantics.specs.Outcomes.{Outcome, Case, case, text-of, path-of, listing-outcome, path-outcome}
+use Rattle.semantics.specs.Outcomes.{Outcome, Case, case, listing-cases, listing-of, path-of, listing-outcome, path-outcome}
 use Rattle.state.specs.declared.Layout.{Layout}
 use Rattle.state.specs.Rows.{width-of, origins-of}
 
@@ -22,12 +21,12 @@ has-text Path v = is-alarm v
 
 -- the text
 abbrev pub view-text : View → Chart → Memory → List ℕ
-view-text Listing c m = text-of c m
+view-text Listing c m = listing-of c m
 view-text Path c m = path-of c m
 
 -- its cases, where form has 20, 14 and 21: those of a listing never meet 24
 abbrev pub view-cases : View → List Case → Verdict → ℕ → List ℕ → List Case
-view-cases view form v space-lent text = form ++ (case 24 (not (has-text view v)) ∷ case 15 (ltb space-lent (length text)) ∷ [])
+view-cases view form v space-lent text = listing-cases (form ++ (case 24 (not (has-text view v)) ∷ [])) space-lent text
 
 -- what the call does
 abbrev pub view-outcome : View → List ℤ → Memory → List ℕ → Outcome

@@ -24,7 +24,7 @@ ghost use Rattle.semantics.specs.Encoding.{val, decode, well-formed};
 ghost use Rattle.semantics.specs.Memory.{stride, state-in, states-in, origin-in, load, is-alarm};
 ghost use Rattle.semantics.specs.Listing.{mode-text, order-text, verdict-text, loc-text, val-text, mark, slot-text, slots-text, header-text};
 ghost use Rattle.semantics.specs.Path.{way-to, path-header, path-line};
-ghost use Rattle.semantics.specs.Outcomes.{refusal, form-of, text-of, path-of, listing-outcome, path-outcome};
+ghost use Rattle.semantics.specs.Outcomes.{refusal, form-of, listing-of, path-of, listing-outcome, path-outcome};
 ghost use Rattle.state.specs.Rows.{width-of, row-of, tail-of, origins-of};
 ghost use Rattle.checks.specs.Form.{lent, InForm};
 ghost use Rattle.writer.specs.Writing.{Put, limit};
@@ -256,7 +256,7 @@ fn trace_back(layout: Layout, table: &[i32], used: usize, to: SlotId, way: &mut 
     let mut slot = to;
     way[at] = to.0;
     while slot.0 != 0 {
-        slot = state::parent_of(state::tail_of(layout, table, layout.slot(slot)));
+        slot = state::origin_parent(state::tail_of(layout, table, layout.slot(slot)));
         at -= 1;
         way[at] = slot.0;
     }
@@ -277,7 +277,7 @@ fn put_step(
     ensures { λ r. ⌜ Put at (decimal (origin-in (tail-of layout (slot .0) (now (table .entry))) .edge) ++ tabbed (slot-text (decode (now (chart .entry))) (slot .0) (state-in (row-of layout (slot .0) (now (table .entry)))) waiting)) (now (out .entry)) (now (out .exit)) r ⌝ }
 {
     let row = layout.slot(slot);
-    let edge = state::edge_of(state::tail_of(layout, table, row));
+    let edge = state::origin_edge(state::tail_of(layout, table, row));
     let tab = writer::put_decimal(out, at, edge.0);
     let line = writer::put_byte(out, tab, semantics::TAB);
     put_slot(
@@ -339,7 +339,7 @@ fn write_path(chart: &[i32], table: &[i32], list: &[i32], a: Analysis, out: &mut
 // Writes the listing as far as it fits, and answers how long it is.
 fn write_listing(chart: &[i32], table: &[i32], list: &[i32], a: Analysis, out: &mut [u8]) -> usize
     requires { ⌜ InForm (now chart) (lent (now table) (now list) a) ⌝ }
-    ensures { λ r. ⌜ Put 0 (text-of (decode (now (chart .entry))) (lent (now (table .entry)) (now (list .entry)) a)) (now (out .entry)) (now (out .exit)) r ⌝ }
+    ensures { λ r. ⌜ Put 0 (listing-of (decode (now (chart .entry))) (lent (now (table .entry)) (now (list .entry)) a)) (now (out .entry)) (now (out .exit)) r ⌝ }
 {
     let used = a.used;
     let waiting = a.waiting;

@@ -21,10 +21,6 @@ use Rattle.semantics.specs.declared.Verdict.the-variants.{Open}
 use Rattle.program.specs.declared.go_line.Go.{Go}
 use Rattle.program.specs.Asked.{asking}
 
--- the bytes of the first argument that are looked at
-abbrev pub argument-bytes : ℕ
-argument-bytes = 8
-
 -- the record before the first call, which a beginning that goes through does not look at
 abbrev pub no-analysis : Settings → Analysis
 no-analysis z = record { settings = z; capacity = 0; iterations = 0; used = 0; waiting = 0; verdict = Open; edge = record { 0 = 0 } }
@@ -50,10 +46,11 @@ pub record Printed (text out out′ : List ℕ) (r : ℕ) : Type 0 where
   pub long : r ≡ length text
   pub bytes : out′ ≡ text ++ drop (length text) out
 
--- the arguments as they are handed on: how many there are, and the first; one of more bytes than its buffer has as none
-pub record Arguments (args : List (List ℕ)) (count : ℕ) (first : List ℕ) : Type 0 where
+-- the arguments as they are handed on: how many there are, and of the first, if there is one, the buffer that it was read
+-- into and its length, which is 0 where the argument is longer than the buffer
+pub record Arguments (args : List (List ℕ)) (count : ℕ) (buffer : List ℕ) (n : ℕ) : Type 0 where
   pub many : length args ≡ count
-  pub is : (nth args 0 ≡ first) ⊎ ((first ≡ []) × (argument-bytes < length (nth args 0)))
+  pub first : 0 < count → (nth args 0 ≡ take n buffer) ⊎ ((n ≡ 0) × (length buffer < length (nth args 0)))
 
 -- the input begins with the first count bytes of the buffer, and ends there where the buffer is not full: of this input
 -- a buffer can have been read so. A count above the buffer's size says that it is full

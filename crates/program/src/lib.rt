@@ -135,10 +135,10 @@ pub fn respond_to(
 // The bytes of the first argument that are looked at: more than any word of a command has.
 pub const ARGUMENT: usize = 8;
 
-// What the program's arguments ask: how many there are, and the first of them. One that is longer than its buffer is read
-// as none, which says as little.
-pub fn command(count: usize, first: &[u8]) -> Command
-    ensures { λ r. ⌜ ((args : List (List ℕ)) → Arguments args count (now (first .entry)) → r ≡ command args) ⌝ }
+// What the program's arguments ask: how many there are, and the first of them, by the buffer that it was read into and its
+// length. One that is longer than the buffer is handed on as an empty one, which is no command either.
+pub fn command(count: usize, buffer: &[u8; ARGUMENT], length: usize) -> Command
+    ensures { λ r. ⌜ ((args : List (List ℕ)) → Arguments args count (now (buffer .entry)) length → r ≡ command args) ⌝ }
 {
     if count == 0 {
         return Command::Show(View::Listing);
@@ -146,10 +146,13 @@ pub fn command(count: usize, first: &[u8]) -> Command
     if count != 1 {
         return Command::Unknown;
     }
-    if text::same_bytes(first, b"path") {
+    let bytes: &[u8] = buffer;
+    let n = least(length, bytes.len());
+    let word = &bytes[..n];
+    if text::same_bytes(word, b"path") {
         return Command::Show(View::Path);
     }
-    if text::same_bytes(first, b"help") {
+    if text::same_bytes(word, b"help") {
         return Command::Help;
     }
     Command::Unknown

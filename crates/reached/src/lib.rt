@@ -57,7 +57,7 @@ pub fn covered(layout: Layout, table: &[i32], used: usize, e: &[i32]) -> bool
 }
 
 // The row e takes a slot, brought by a slot and an edge.
-pub fn put_slot(
+pub fn store_slot(
     layout: Layout,
     table: &mut [i32],
     slot: SlotId,

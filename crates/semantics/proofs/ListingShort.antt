@@ -9,7 +9,7 @@ use Rattle.semantics.specs.Algorithm.{Mode, Sep, Order, Old, New, Verdic
 use Rattle.semantics.specs.Constants.{AbstractState}
 use Rattle.semantics.specs.Encoding.{var-ok}
 use Rattle.semantics.specs.Memory.{Memory, load, analysis-ok}
-use Rattle.semantics.specs.Outcomes.{text-of}
+use Rattle.semantics.specs.Outcomes.{listing-of}
 use Rattle.semantics.specs.Listing.{mode-text, order-text, verdict-text, loc-text, val-text, mark, slot-text, slots-text, listing-text}
 use Rattle.semantics.specs.Tidy.{Every}
 use Rattle.semantics.proofs.Integers.{leZ-trans}
@@ -114,7 +114,7 @@ module _ (c : Chart) (b : Bounds c) where
   listing-short w g = listing-fits w (omega (arith, g .tidy .within, counted (pos (w .capacity)) (g .capacity) .few)) (g .iterations) (g .tidy .edge-in) (g .tidy .every)
 
   -- and of any analysis in form, whoever made it
-  pub text-short : (m : Memory) → T (analysis-ok c m) → length (text-of c m) ≤ listing-bytes
+  pub text-short : (m : Memory) → T (analysis-ok c m) → length (listing-of c m) ≤ listing-bytes
   unfolding load
   text-short m t =
       let r = m .analysis in

@@ -1,6 +1,6 @@
 -- Each slot keeps its place and has the origin that brought it: an earlier slot, and an edge that joins the places of the
 -- two. Over any domain whose merge leaves a slot at its place and whose moves are along their edges. Assumes nothing.
-use Rattle.semantics.proofs.Prelude.{_≡_, refl, sym, ap, _∙_, subst, inl, inr, Bool, true, false, List, [], _∷_, _++_, append-assoc, append-nil, map, map-append, Option, none, some, ℕ, zero, suc, _+_, _<_, arith, T, ltb, ltb→lt, le-ltb, lt-ltb, lt→ltb, length, length-append, length-map, getD, List·getD-append, getD-at}
+use Rattle.semantics.proofs.Prelude.{_≡_, refl, sym, ap, _∙_, subst, _⊎_, inl, inr, Bool, true, false, List, [], _∷_, _++_, append-assoc, append-nil, map, map-append, Option, none, some, ℕ, zero, suc, _+_, _<_, arith, T, ltb, ltb→lt, le-ltb, lt-ltb, lt→ltb, length, length-append, length-map, getD, List·getD-append, getD-at}
 use Rattle.semantics.proofs.Bools.{and-left, and-right, both-true}
 use Rattle.semantics.specs.Lists.{In, get, pick}
 use Rattle.semantics.specs.Chart.{Chart}
@@ -14,6 +14,103 @@ abbrev pub table-after : {E : Type 0} → Out E → List E
 table-after (on en wa) = en
 table-after (alarmed n en wa) = en
 table-after (full en wa) = en
+
+-- ---- one edge
+
+module _ {E G : Type 0} (D : Domain E G) (s : Settings) (r : ℕ) where
+  merged-length : (m : Mode) (e : E) (en : List E) → length (merged D m e en) ≡ length en
+  merged-length Sep e en = refl
+  merged-length Join e en = length-map en (joined D e)
+
+  -- the table is longer by the successor, which was stored, or has as many slots as before
+  abbrev pub Takes : Step E → List E → Out E → Type 0
+  Takes o en (on en′ wa) = (length en′ ≡ length en) ⊎ ((f : E) × (o ≡ to f) × (en′ ≡ merged D (s .merge) f en ++ (f ∷ [])) × (length en < length en′))
+  Takes o en (alarmed n en′ wa) = length en′ ≡ length en
+  Takes o en (full en′ wa) = length en′ ≡ length en
+
+  -- so that `taking` tells by the lengths whether an edge took a slot
+  pub visit-takes : (n : ℕ) (o : Step E) (en : List E) (wa : List ℕ) → Takes o en (visit D s r n o en wa)
+  visit-takes n blocked en wa = inl refl
+  visit-takes n fault en wa = refl
+  visit-takes n (to f) en wa = by-error (D .error f)
+    where
+      en′ : List E
+      en′ = merged D (s .merge) f en
+
+      wa′ : List ℕ
+      wa′ = rewait D (s .merge) f en wa
+
+      by-room : (b : Bool) → Takes (to f) en (pick b (on (en′ ++ (f ∷ [])) (wa′ ++ (length en′ ∷ []))) (full en′ wa′))
+      by-room true = inr (f, refl, refl, omega (arith, length-append en′ (f ∷ []), merged-length (s .merge) f en))
+      by-room false = merged-length (s .merge) f en
+
+      by-stop : (b : Bool) → Takes (to f) en (pick b (on en′ wa′) (store D r f en′ wa′))
+      by-stop true = inl (merged-length (s .merge) f en)
+      by-stop false = by-room (ltb (length en′) r)
+
+      by-error : (b : Bool) → Takes (to f) en (pick b (alarmed n en wa) (arrive D s r f en wa))
+      by-error true = refl
+      by-error false = by-stop (stopped D (s .stop) f en′)
+
+-- ---- what a slot holds
+
+-- P is kept by a merge: what slot j holds keeps it while edges are followed
+module _ {E G : Type 0} (D : Domain E G) (P : E → Type 0) (stays : (f x : E) → P x → P (joined D f x)) (j : ℕ) where
+  abbrev pub Held : List E → Type 0
+  Held en = (x : E) × (get en j ≡ some x) × P x
+
+  merged-held : (m : Mode) (f : E) (en : List E) → Held en → Held (merged D m f en)
+  merged-held Sep f en h = h
+  merged-held Join f en (x, p, h) = (joined D f x, got en j p, stays f x h)
+    where
+      got : (en : List E) (j : ℕ) → get en j ≡ some x → get (map (joined D f) en) j ≡ some (joined D f x)
+      got [] j p = absurd (none-some refl p)
+      got (y ∷ ys) zero p = let q : y ≡ x = cc in ap (λ (z : E). some (joined D f z)) q
+      got (y ∷ ys) (suc j) p = got ys j p
+
+  longer-held : (en : List E) (f : E) → Held en → Held (en ++ (f ∷ []))
+  longer-held en f (x, p, h) = (x, got en j p, h)
+    where
+      got : (en : List E) (j : ℕ) → get en j ≡ some x → get (en ++ (f ∷ [])) j ≡ some x
+      got [] j p = absurd (none-some refl p)
+      got (y ∷ ys) zero p = p
+      got (y ∷ ys) (suc j) p = got ys j p
+
+  module _ (s : Settings) (r : ℕ) where
+    visit-held : (n : ℕ) (o : Step E) (en : List E) (wa : List ℕ) → Held en → Held (table-after (visit D s r n o en wa))
+    visit-held n blocked en wa h = h
+    visit-held n fault en wa h = h
+    visit-held n (to f) en wa h = by-error (D .error f)
+      where
+        en′ : List E
+        en′ = merged D (s .merge) f en
+
+        wa′ : List ℕ
+        wa′ = rewait D (s .merge) f en wa
+
+        h′ : Held en′
+        h′ = merged-held (s .merge) f en h
+
+        by-room : (b : Bool) → Held (table-after (pick b (on (en′ ++ (f ∷ [])) (wa′ ++ (length en′ ∷ []))) (full en′ wa′)))
+        by-room true = longer-held en′ f h′
+        by-room false = h′
+
+        by-stop : (b : Bool) → Held (table-after (pick b (on en′ wa′) (store D r f en′ wa′)))
+        by-stop true = h′
+        by-stop false = by-room (ltb (length en′) r)
+
+        by-error : (b : Bool) → Held (table-after (pick b (alarmed n en wa) (arrive D s r f en wa)))
+        by-error true = h
+        by-error false = by-stop (stopped D (s .stop) f en′)
+
+    pub visit-all-held : (e : E) (gs : List G) (en : List E) (wa : List ℕ) → Held en → Held (table-after (visit-all D s r e gs en wa))
+    visit-all-held e [] en wa h = h
+    visit-all-held e (g ∷ gs) en wa h = go (visit D s r (D .number g) (D .post g e) en wa) (visit-held (D .number g) (D .post g e) en wa h) (λ en wa h. visit-all-held e gs en wa h)
+      where
+        go : (o : Out E) → Held (table-after o) → ((en : List E) (wa : List ℕ) → Held en → Held (table-after (visit-all D s r e gs en wa))) → Held (table-after (then o (λ en wa. visit-all D s r e gs en wa)))
+        go (on en wa) h ih = ih en wa h
+        go (alarmed n en wa) h ih = h
+        go (full en wa) h ih = h
 
 -- ---- the places that edges bring
 

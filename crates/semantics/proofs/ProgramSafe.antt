@@ -14,7 +14,7 @@ use Rattle.semantics.specs.Memory.{analysis-of}
 use Rattle.semantics.specs.Listing.{mode-text, order-text, verdict-text, slots-text, listing-text, refused-text}
 use Rattle.semantics.specs.Rendering.{fields-text}
 use Rattle.semantics.specs.Program.{first-line, past-line, Listing, Go, go-line, explored, print-read, print-go, output}
-use Rattle.semantics.specs.ProgramSafe.{verdict-field, ChartSafe, ProgramSafe}
+use Rattle.semantics.specs.ProgramSafe.{ProgramPath, verdict-field, ChartSafe, ProgramSafe}
 use Rattle.semantics.proofs.Bools.{and-left, and-right}
 use Rattle.semantics.proofs.Covering.{covering}
 use Rattle.semantics.proofs.ConstantsSound.{laws}
@@ -22,6 +22,7 @@ use Rattle.semantics.proofs.Numbers.{plain}
 use Rattle.semantics.proofs.Texts.{Plain, inner, inner-not-10, tabbed-inner, fields-back}
 use Rattle.semantics.proofs.Rendered.{dec-plain}
 use Rattle.semantics.proofs.ReadInBounds.{in-bounds}
+use Rattle.semantics.proofs.PathHolds.{path-holds}
 use Rattle.semantics.proofs.Program.{GoOk, explored-good}
 use Rattle.semantics.proofs.InputCut.{go-fine}
 
@@ -128,3 +129,6 @@ program-safe input = by-go (go-line input) refl
     by-go : (r : Res Go) → go-line input ≡ r → verdict-field (print-go Listing r text) ≡ bytes "safe" → ChartSafe text
     by-go (fail n) e v = absurd (refused-none n 0 v)
     by-go (ok g) e v = by-read g (go-fine input g e) (read text) refl v
+
+pub program-path : ProgramPath
+program-path input g c e r = path-holds c (explored c g) (explored-good c (in-bounds (past-line input) c r) g (go-fine input g e) .path)

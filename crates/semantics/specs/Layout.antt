@@ -89,7 +89,7 @@ chart-size = counts-size + variable-size * most-variables + location-size * most
 abbrev pub table-words : ℕ
 table-words = most-slots * (suc most-variables + origin-size)
 
--- no listing has more bytes (`listing-short`)
+-- no listing or path has more bytes (`listing-short`, `path-short`)
 abbrev pub listing-bytes : ℕ
 listing-bytes = 24576
 

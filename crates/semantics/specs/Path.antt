@@ -17,8 +17,8 @@ parent-of os s = map-or (get os s) 0 (λ o. o .parent)
 abbrev pub edge-of : List Origin → ℕ → ℕ
 edge-of os s = map-or (get os s) 0 (λ o. o .edge)
 
--- "from slot 0 to" slot s: s after the way to its parent, n parents at most. A parent is below its slot, so that s of
--- them always end at slot 0 (`path-holds`)
+-- "from slot 0 to" slot s: s after the way to its parent, n parents at most. In form a parent is below its slot, so that s
+-- of them end at slot 0 (`way-ends`)
 abbrev pub way-to : List Origin → ℕ → ℕ → List ℕ
 way-to os zero s = s ∷ []
 way-to os (suc n) s = pick (eqb s 0) (s ∷ []) (way-to os n (parent-of os s) ++ (s ∷ []))

@@ -1,15 +1,16 @@
--- What the word `safe` in the program's output promises of the chart in its input: bytes in, bytes out. Document 01, "The
--- walk program and its listing" (the header) and "Runs"; document 02, 2.1: "safe" now speaks of overruns too. Assumes
--- nothing.
+-- What the word `safe` in the program's output promises of the chart in its input: bytes in, bytes out; and what its path
+-- does. Document 01, "The walk program and its listing" (the header) and "Runs"; document 02, 2.1: "safe" now speaks of
+-- overruns too; 2.2. Assumes nothing.
 use mathlib.Core.Path.{_≡_}
 use mathlib.Core.List.{List}
 use Prim.Native.Nat.{ℕ}
 use Rattle.semantics.specs.Lists.{At, In}
 use Rattle.semantics.specs.Text.{bytes, fields}
 use Rattle.semantics.specs.Chart.{Chart, Edge, State, Overruns, Error}
-use Rattle.semantics.specs.Reading.{nth, accepted, read}
+use Rattle.semantics.specs.Reading.{ok, nth, accepted, read}
 use Rattle.semantics.specs.Coverage.{system, Execution}
-use Rattle.semantics.specs.Program.{Listing, first-line, past-line, output}
+use Rattle.semantics.specs.PathHolds.{PathHolds}
+use Rattle.semantics.specs.Program.{Listing, first-line, past-line, Go, go-line, explored, output}
 
 -- "Header: merge, stop, order, verdict ...", after the word `walk`: the fifth field of the first line; a refusal has three
 abbrev pub verdict-field : List ℕ → List ℕ
@@ -25,3 +26,7 @@ pub record ChartSafe (text : List ℕ) : Type 0 where
 -- for every input of the program without arguments; its chart is what stands after the go line
 abbrev pub ProgramSafe : Type 0
 ProgramSafe = (input : List ℕ) → verdict-field (output Listing input) ≡ bytes "safe" → ChartSafe (past-line input)
+
+-- of every input whose go line and chart are accepted, what holds of a path holds of the one that the program shows
+abbrev pub ProgramPath : Type 0
+ProgramPath = (input : List ℕ) (g : Go) (c : Chart) → go-line input ≡ ok g → read (past-line input) ≡ accepted c → PathHolds c (explored c g)

@@ -191,7 +191,7 @@ const PARENT_PLACE: usize = 0;
 const EDGE_PLACE: usize = 1;
 
 // The slot that first brought it.
-pub fn parent_of(tail: &[i32]) -> SlotId
+pub fn origin_parent(tail: &[i32]) -> SlotId
     ensures parent { λ r. ⌜ r .0 ≡ origin-in (now (tail .entry)) .parent ⌝ }
     ensures small { λ r. ⌜ r .0 < index-limit ⌝ }
 {
@@ -199,7 +199,7 @@ pub fn parent_of(tail: &[i32]) -> SlotId
 }
 
 // The edge that did.
-pub fn edge_of(tail: &[i32]) -> EdgeId
+pub fn origin_edge(tail: &[i32]) -> EdgeId
     ensures edge { λ r. ⌜ r .0 ≡ origin-in (now (tail .entry)) .edge ⌝ }
     ensures small { λ r. ⌜ r .0 < index-limit ⌝ }
 {

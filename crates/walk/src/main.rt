@@ -67,7 +67,7 @@ fn main() {
     let length = os::arg(1, &mut first);
     let count = os::arg_count();
     let given = if count == 0 { 0 } else { count - 1 };
-    match program::command(given, &first[..length]) {
+    match program::command(given, &first, length) {
         Command::Show(view) => show(view),
         Command::Help => help(),
         Command::Unknown => {

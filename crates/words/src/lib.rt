@@ -116,16 +116,22 @@ pub fn contains(s: &[i32], x: i32) -> bool
     false
 }
 
+fn is_zero(x: i32) -> bool
+    ensures { λ r. ⌜ r ≡ eqZ (pos 0) x ⌝ }
+{
+    0 == x
+}
+
+// No branch on a word, so that several are looked at at once: unused words are many and nearly always all 0.
 pub fn all_zero(s: &[i32]) -> bool
     ensures { λ r. ⌜ r ≡ zeros (now (s .entry)) ⌝ }
 {
+    let mut ok = true;
     let mut i = 0;
     while i < s.len() {
         let x = s[i];
-        if x != 0 {
-            return false;
-        }
+        ok = ok & is_zero(x);
         i += 1;
     }
-    true
+    ok
 }

@@ -59,8 +59,8 @@ returns c =
       origins = after d .origins ∙ noted-none (os d) (a .parent .0) (a .edge .0) (a .layout) (a .a .used) (table d) (waits (count d) (list d)) ∙ ap (note d) out;
     })
 
-put-slot-requires : tie.Need-put-slot-requires
-put-slot-requires c κs =
+store-slot-requires : tie.Need-store-slot-requires
+store-slot-requires c κs =
     let d = merged-at (c .before .before .before) in
     (next-slot-in (after d .kept) (c .before .if2 .taken), omega (arith, start d .pre .0 .row, after d .kept .tailed))
 
@@ -75,7 +75,7 @@ append-requires c κs =
 returns-2 : tie.Need-returns-2
 returns-2 c =
     let app = c .before .before .append in
-    let put = c .before .before .before .before .before .put-slot in
+    let put = c .before .before .before .before .before .store-slot in
     let i = c .before .before .before .before .before .before .before in
     let v = i .before .before in
     let d = merged-at v in
@@ -117,7 +117,7 @@ arrive-spec =
     covered-requires
     (λ c κs. search needs) (λ c. search needs) (λ c. search needs)
     returns
-    put-slot-requires
+    store-slot-requires
     append-requires
     (λ c. search needs) (λ c κs. search needs) (λ c. search needs) (λ c. search needs)
     returns-2

@@ -32,11 +32,11 @@ module _ (c : tie.After-list) where
   some : 0 < length list
   some = omega (arith, size, at-start .pre .3)
 
-put-slot-requires : tie.Need-put-slot-requires
-put-slot-requires c κs = let d = c .before in (next-slot-in (form d) (some d), omega (arith, at-start d .pre .1, at-start d .pre .2))
+store-slot-requires : tie.Need-store-slot-requires
+store-slot-requires c κs = let d = c .before in (next-slot-in (form d) (some d), omega (arith, at-start d .pre .1, at-start d .pre .2))
 
 -- the zeros, seen from the row that is put into them
-abbrev zeros-at : tie.After-put-slot → tie.After-list
+abbrev zeros-at : tie.After-store-slot → tie.After-list
 zeros-at p = p .before .before
 
 append-requires : tie.Need-append-requires
@@ -47,7 +47,7 @@ returns c =
     let p = c .before .before .before .before .before .before in
     let d = zeros-at p in
     let s = at-start d in
-    let put = p .put-slot in
+    let put = p .store-slot in
     let app = c .before .before .before .append in
     let v = ap first-verdict (c .before .is-error .ensures) in
     λ last. rw (c .first-record .ensures, put .ensures) (start-loaded (s .args .layout) (table d) (list d) (form d) (some d) (s .args .row .now) (s .pre .1) last (s .args .chart .now) _ (app .last .0) (app .ensures) (app .kept .0) (s .pre .7) (size d) refl refl refl v)
@@ -57,7 +57,7 @@ start-core-spec =
     tie.close
     (tie.spec
     (λ c κs. search needs) (λ c κs. search needs)
-    put-slot-requires
+    store-slot-requires
     append-requires
     (λ c κs. search needs) (λ c κs. search needs) (λ c. search needs) (λ c. search needs)
     returns)

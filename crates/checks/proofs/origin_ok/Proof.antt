@@ -51,15 +51,15 @@ tail-of-requires : tie.Need-tail-of-requires
 tail-of-requires c κs = (c .pre .2, apart c, omega (arith, fits c (s c) (c .pre .3), c .pre .2))
 
 -- its parent and edge
-module _ (c : tie.After-edge-of) where
+module _ (c : tie.After-origin-edge) where
   abbrev start : tie.Start
   start = c .before .before .before
 
-  parent : c .before .parent-of .result .0 ≡ origin start .parent
-  parent = c .before .parent-of .ensures .0 ∙ ap (λ (ws : List ℤ). origin-in ws .parent) (c .before .before .tail-of .ensures .0)
+  parent : c .before .origin-parent .result .0 ≡ origin start .parent
+  parent = c .before .origin-parent .ensures .0 ∙ ap (λ (ws : List ℤ). origin-in ws .parent) (c .before .before .tail-of .ensures .0)
 
-  edge : c .edge-of .result .0 ≡ origin start .edge
-  edge = c .edge-of .ensures .0 ∙ ap (λ (ws : List ℤ). origin-in ws .edge) (c .before .before .tail-of .ensures .0)
+  edge : c .origin-edge .result .0 ≡ origin start .edge
+  edge = c .origin-edge .ensures .0 ∙ ap (λ (ws : List ℤ). origin-in ws .edge) (c .before .before .tail-of .ensures .0)
 
 returns : tie.Need-returns
 returns c =
@@ -70,7 +70,7 @@ returns c =
 
 -- a slot after the first: whether its parent is below it
 module _ (c : tie.After-is-below) where
-  abbrev read : tie.After-edge-of
+  abbrev read : tie.After-origin-edge
   read = c .before .before .before .before
 
   later : (b : Bool) → c .is-below .result ≡ b →
@@ -86,14 +86,14 @@ returns-2 c = sym (later (c .before) false (not-true _ (c .if2 .taken)))
 
 -- the parent is below
 module _ (c : tie.Else2) where
-  abbrev known : tie.After-edge-of
+  abbrev known : tie.After-origin-edge
   known = read (c .before)
 
   abbrev from-start : tie.Start
   from-start = start known
 
   abbrev p : ℕ
-  p = known .before .parent-of .result .0
+  p = known .before .origin-parent .result .0
 
   in-use : p < used from-start
   in-use = omega (arith, ltb-true p (s from-start) (sym (c .before .is-below .ensures) ∙ not-false _ (c .if2 .left)), from-start .pre .3)

@@ -35,7 +35,7 @@ returns c =
     let row = tail .before in
     let a = row .before .before .args in
     let id = row .slot .ensures .0 in
-    let e = edge .edge-of .ensures .0 ∙ ap (λ (ws : List ℤ). origin-in ws .edge) (tail .tail-of .ensures .0 ∙ ap (λ (s : ℕ). tail-of (a .layout) s (a .table .now)) id) in
+    let e = edge .origin-edge .ensures .0 ∙ ap (λ (ws : List ℤ). origin-in ws .edge) (tail .tail-of .ensures .0 ∙ ap (λ (s : ℕ). tail-of (a .layout) s (a .table .now)) id) in
     let words = line .before .row-of .ensures .0 ∙ ap (λ (s : ℕ). row-of (a .layout) s (a .table .now)) id in
     let text = ap (λ (ws : List ℤ). slot-text (decode (a .chart .now)) (a .slot .0) (state-in ws) (a .waiting)) words in
     put-then (put-same (ap decimal e) (number .put-decimal .ensures)) (put-then (tab .put-byte .ensures) (put-same text (line .put-slot .ensures)))

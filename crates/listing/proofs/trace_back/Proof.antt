@@ -83,19 +83,19 @@ tail-of-requires c κs =
     (e .1, start p .pre .0 .apart, omega (arith, place-of (y p) (c .slot .result) (e .1) (s p) (e .0), in-table p))
 
 -- the slot that was read is the parent
-is-parent : (c : tie.After-parent-of Inv-loop μ-loop) → let p = c .before .before .before in c .parent-of .result .0 ≡ parent-of (origins-of (y p) (used p) (table p)) (s p)
+is-parent : (c : tie.After-origin-parent Inv-loop μ-loop) → let p = c .before .before .before in c .origin-parent .result .0 ≡ parent-of (origins-of (y p) (used p) (table p)) (s p)
 is-parent c =
     let p = c .before .before .before in
-    c .parent-of .ensures .0
+    c .origin-parent .ensures .0
     ∙ ap (λ (ws : List ℤ). origin-in ws .parent) (c .before .tail-of .ensures .0 ∙ ap (λ (k : ℕ). tail-of (y p) k (table p)) (c .before .before .slot .ensures .0))
     ∙ sym (parent-get (y p) (used p) (s p) (table p) (loop p .loop .inv .3))
 
 -- and there is a place for it
-module _ (c : tie.After-parent-of Inv-loop μ-loop) where
+module _ (c : tie.After-origin-parent Inv-loop μ-loop) where
   abbrev turn : tie.Then1 Inv-loop μ-loop
   turn = c .before .before .before
 
-  below : c .parent-of .result .0 < s turn
+  below : c .origin-parent .result .0 < s turn
   below = omega (arith, is-parent c, falls turn)
 
   place : 1 ≤ loop turn .loop .at
@@ -105,7 +105,7 @@ loop-again : tie.Need-loop-again Inv-loop μ-loop
 loop-again c =
     let p = turn c in
     let l = loop p .loop in
-    let parent = c .parent-of .result .0 in
+    let parent = c .origin-parent .result .0 in
     let long = length-set (l .way) (l .at - 1) parent in
     let whole = way-of (y p) (used p) (table p) (start p .args .to .0) in (
       long ∙ l .inv .0,

@@ -45,6 +45,8 @@ pub const BEGIN_JOIN: Call =
     Call { name: "begin join", make: |lent, calls| lent.begin(calls, JOIN, lent.budget) };
 pub const BEGIN_SEP: Call =
     Call { name: "begin sep", make: |lent, calls| lent.begin(calls, SEP, lent.budget) };
+/// Carried on to the end, from what the subject has begun.
+pub const RUN: Call = Call { name: "run", make: |lent, calls| lent.run(calls) };
 pub const LISTING: Call = Call { name: "listing", make: |lent, calls| lent.report(calls.listing) };
 /// Of an analysis with an alarm.
 pub const PATH: Call = Call { name: "path", make: |lent, calls| lent.report(calls.path) };
@@ -109,6 +111,12 @@ impl Lent {
         *record = (calls.begin)(chart, settings, *capacity, budget, *record, table, list).record;
     }
 
+    fn run(&mut self, calls: Calls) {
+        let Lent { chart, record, table, list, .. } = self;
+        let chart = black_box(chart);
+        *record = (calls.run)(chart, MOST_ITERATIONS, *record, table, list).record;
+    }
+
     fn report(&mut self, call: Report) {
         let Lent { chart, record, table, list, space, .. } = self;
         self.length = call(black_box(chart), *record, table, list, space).length;
@@ -147,6 +155,19 @@ pub fn charts() -> Vec<Subject> {
         },
         Subject::new("longest fields", &files::largest(), 256, WITHOUT_JOIN),
         Subject::new("refused on its last line", &files::drawn_out(), 1, &[READ]),
+    ]
+}
+
+/// Of these a run is counted and not timed, since it can be made but once.
+pub fn runs() -> Vec<Subject> {
+    let played =
+        |name, file: &[u8], budget| Subject { budget, ..Subject::new(name, file, 256, &[RUN]) };
+    vec![
+        played("case A, not played", files::case_a(), 0),
+        played("largest, not played", &files::ring(LARGEST), 0),
+        played("largest, half played", &files::ring(LARGEST), 128),
+        played("fan, not played", &files::fan(), 0),
+        played("fan, one iteration played", &files::fan(), 1),
     ]
 }
 

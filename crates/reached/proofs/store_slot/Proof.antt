@@ -1,10 +1,10 @@
--- `reached::put_slot` meets its contract. Assumes nothing.
+-- `reached::store_slot` meets its contract. Assumes nothing.
 use Rattle.semantics.proofs.Prelude.{_≡_, refl, sym, ap, _∙_, List, _++_, append-assoc, ℕ, _+_, _-_, _*_, _≤_, arith, needs, ℤ, length, take, drop, drop-drop, length-take, length-drop, length-append}
 use Rattle.semantics.specs.Layout.{origin-size}
 use Rattle.words.proofs.Rows.{span, take-put, drop-put, length-put}
 use Rattle.state.proofs.Slots.{place-of}
-use Rattle.reached.proofs.put_slot.Statement.{statement}
-use Rattle.reached.proofs.put_slot.Tie as tie
+use Rattle.reached.proofs.store_slot.Statement.{statement}
+use Rattle.reached.proofs.store_slot.Tie as tie
 
 -- the words ws put at a, then p after them, up to the end of a slot of d words
 module _ (t ws : List ℤ) (a w d : ℕ) (len : length ws ≡ w) (fits : a + d ≤ length t) (tailed : d ≡ w + origin-size) where
@@ -82,8 +82,8 @@ returns c =
     twice-is (a .table .now) (copied h) (s h .slot .result .at) (length (a .e .now)) (a .layout .stride) (len h) (fits (s h)) (s h .before .pre .1) (o .last .0) (ap length (o .ensures))
     ∙ (λ i. take (place (s h) i) (a .table .now) ++ ((h .before .copy-words .ensures i ++ o .ensures i) ++ drop (a .layout .stride) (drop (place (s h) i) (a .table .now))))
 
-pub put-slot-spec : {M : Type 1} → statement M
-put-slot-spec =
+pub store-slot-spec : {M : Type 1} → statement M
+store-slot-spec =
     tie.close
     (tie.spec
     (λ c κs. search needs)
