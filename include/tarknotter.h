@@ -103,8 +103,9 @@ struct tarknotter_reply tarknotter_listing(const int32_t *chart, size_t chart_le
                                            const int32_t *list, size_t list_length,
                                            uint8_t *space, size_t space_length);
 
-/* The path to an alarm into the bytes lent, and its length: a line with the merge and the alarm edge, then from slot 0 to
-   the slot that the alarm was raised from a line each, the edge that first brought it and its line of the listing.
+/* The path to an alarm into the bytes lent, and its length: a line `path`, merge, alarm edge, then from slot 0 to the slot
+   that is taken next (list[0] with order old, list[waiting - 1] with new), which is the one that the alarm was raised
+   from, a line each: the edge that first brought it, and its line of the listing.
    Refused with 20, 14, 21, 24 (the verdict is not alarm), 15, in this order; a code in the record other than those above
    is 21. */
 struct tarknotter_reply tarknotter_path(const int32_t *chart, size_t chart_length,

@@ -98,7 +98,7 @@ fn edge_joins(chart: &[i32], edge: EdgeId, from: LocationId, to: LocationId) -> 
     leaves.equals(from) & comes.equals(to)
 }
 
-// The origin of a slot in use: slot 0 has none, any other a parent below it and an edge that joins their locations.
+// The origin of a slot in use: slot 0 has 65,535 and 0, any other a parent below it and an edge that joins their locations.
 fn origin_ok(chart: &[i32], layout: Layout, table: &[i32], slot: SlotRow, used: usize) -> bool
     requires { ⌜ T (well-formed (now chart)) × ChartLayout (now chart) layout × Placed layout slot × (slot .id .0 < «used») × («used» * layout .stride ≤ length (now table)) ⌝ }
     ensures { λ r. ⌜ r ≡ origin-ok (decode (now (chart .entry))) (locations (states-in (decode (now (chart .entry))) «used» (now (table .entry)))) (slot .id .0) (origin-in (tail-of layout (slot .id .0) (now (table .entry)))) ⌝ }

@@ -14,7 +14,7 @@ ghost use Rattle.tarknotter.specs.Replies.{as-reply};
 ghost use Rattle.tarknotter.specs.Records.{mode-code, order-code, verdict-code, record-of, mode-in, order-in, verdict-in, settings-in, settings-named, codes-named, analysis-in};
 ghost use Rattle.tarknotter.specs.Calls.{begin-by-codes, record-after, Ends-by-codes};
 
-// `semantics::Answer` with the layout of C: 0 and line 0 with a listing's length, or the refusal's number and line.
+// `semantics::Answer` with the layout of C: 0 and line 0 with the length of a listing or path, or the refusal's number and line.
 #[repr(C)]
 pub struct Reply {
     pub number: u32,

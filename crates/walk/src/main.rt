@@ -57,7 +57,7 @@ fn help() {
           0\t0\tfeeder\t60\t-\n\
           1\t1\tfeeder\t80\tw\n\
           \n\
-          README.md says how to write charts and how to read what is printed.\n",
+          README.md says how to write charts, how to read what is printed, and what a refusal's number means.\n",
     );
 }
 
