@@ -23,7 +23,7 @@ extern "C" {
 #define TARKNOTTER_TABLE_WORDS 2816
 #define TARKNOTTER_LIST_WORDS 256
 
-/* Bytes that hold the listing of every analysis in form, and the path of every alarm. */
+/* Bytes that hold the listing of every analysis in form, the path of every alarm, and every run. */
 #define TARKNOTTER_LISTING_BYTES 24576
 
 /* Ways to merge and to stop, and the order in which waiting slots are taken. */
@@ -38,8 +38,8 @@ extern "C" {
 #define TARKNOTTER_ALARM 2
 #define TARKNOTTER_FULL 3
 
-/* 0 and line 0 from a call that goes through, with the length in bytes of a listing or path; else the
-   refusal's number and line, which is 0 unless it is a line of a file. The length is 0 where there is neither. A
+/* 0 and line 0 from a call that goes through, with the length in bytes of a listing, path or run; else the
+   refusal's number and line, which is 0 unless it is a line of a file. The length is 0 where none is written. A
    refused call has written nothing. */
 struct tarknotter_reply {
     uint32_t number;
@@ -113,6 +113,17 @@ struct tarknotter_reply tarknotter_path(const int32_t *chart, size_t chart_lengt
                                         const int32_t *table, size_t table_length,
                                         const int32_t *list, size_t list_length,
                                         uint8_t *space, size_t space_length);
+
+/* A shortest real run, of at most k moves, to an error location or an overrun, into the bytes lent, and its length: a line
+   `run` and its count of moves, an overrunning one counted, then from the start on a line for each state: the edge that
+   brought it (0 at the start), its location's name and its values; an overrunning move is a line of its edge alone. Of the
+   shortest it is the first by starting values ascending, variable 0 first, then move by move by edge and input value. Where
+   there is none, a line `none` and k. It needs no analysis. The time can grow exponentially with k.
+   Refused with 30 (k not 0 to 8), 20, 31 (an `in` of more than 16 values, or more than 4,096 starting states), 15, in
+   this order. */
+struct tarknotter_reply tarknotter_search(const int32_t *chart, size_t chart_length,
+                                          int32_t k,
+                                          uint8_t *space, size_t space_length);
 
 #ifdef __cplusplus
 }

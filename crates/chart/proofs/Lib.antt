@@ -7,3 +7,4 @@ pub mod Rows
 pub mod RowTests
 pub mod WellFormed
 pub mod NameBytes
+pub mod Places

@@ -113,17 +113,17 @@ guarded true false p q h = refl
 guarded false l p q h = refl
 
 -- P of the first n numbers
-abbrev First : (ℕ → Type 0) → ℕ → Type 0
+abbrev pub First : (ℕ → Type 0) → ℕ → Type 0
 First P zero = Unit {0}
 First P (suc n) = P zero × First (λ k. P (suc k)) n
 
 -- k more than n, in the form that a look-up computes by
-abbrev beyond : ℕ → ℕ → ℕ
+abbrev pub beyond : ℕ → ℕ → ℕ
 beyond zero k = k
 beyond (suc n) k = suc (beyond n k)
 
 -- P of every number, the first n of them looked up
-looked-up : (P : ℕ → Type 0) (n : ℕ) → First P n → ((k : ℕ) → P (beyond n k)) → (m : ℕ) → P m
+pub looked-up : (P : ℕ → Type 0) (n : ℕ) → First P n → ((k : ℕ) → P (beyond n k)) → (m : ℕ) → P m
 looked-up P zero h more m = more m
 looked-up P (suc n) h more zero = h .0
 looked-up P (suc n) h more (suc m) = looked-up (λ k. P (suc k)) n (h .1) more m

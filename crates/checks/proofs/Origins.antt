@@ -10,7 +10,7 @@ use Rattle.semantics.specs.Memory.{width, state-in, states-in, origin-in, origi
 use Rattle.semantics.proofs.Decoded.{vars-count, locs-count, edges-count}
 use Rattle.semantics.proofs.Encoded.{formed-bounds}
 use Rattle.chart.specs.Encoded.{edges-at}
-use Rattle.chart.proofs.WellFormed.{edges-by-place}
+use Rattle.chart.proofs.Places.{edge-got, edge-past}
 use Rattle.state.specs.declared.Layout.{Layout}
 use Rattle.state.specs.Rows.{location-in, row-of, tail-of}
 use Rattle.state.proofs.Layouts.{LayoutOf}
@@ -18,43 +18,16 @@ use Rattle.state.proofs.Slots.{drop-slot}
 
 -- ---- the edges
 
-module _ {A : Type 0} (f : List ℤ → A) (k : ℕ) where
-  several-get : (n i : ℕ) (ws : List ℤ) → i < n → get (several f k n ws) i ≡ some (f (drop (k * i) ws))
-  several-get zero i ws h = absurd (omega arith)
-  several-get (suc n) zero ws h = rw (mul-zero k)
-  several-get (suc n) (suc i) ws h =
-      let e : k + k * i ≡ k * suc i = omega (arith, mul-suc k i) in
-      several-get n i (drop k ws) (omega arith) ∙ rw (drop-drop (k * i) k ws, e)
-
-  several-none : (n i : ℕ) (ws : List ℤ) → n ≤ i → get (several f k n ws) i ≡ none
-  several-none zero i ws h = refl
-  several-none (suc n) zero ws h = absurd (omega arith)
-  several-none (suc n) (suc i) ws h = several-none n i (drop k ws) (omega arith)
-
 module _ (ws : List ℤ) where
-  -- the words of the edges of a chart in form
-  pub edges-near : T (well-formed ws) → edges-at ws + edge-size * edge-count ws < index-limit
-  edges-near t =
-      let b = formed-bounds ws t in
-      omega (arith, b .few-vars, b .few-locs, b .few-edges, vars-count ws, locs-count ws, edges-count ws)
-
   -- an edge of the chart, by the place of its words
   pub joins-at : (e at x y : ℕ) → 1 ≤ e → e ≤ edge-count ws → at ≡ edges-at ws + edge-size * (e - 1) → joins (decode ws) e x y ≡ eqb (count ws at) x && eqb (count ws (at + to-place)) y
   joins-at zero at x y l h p = absurd (omega arith)
-  joins-at (suc n) at x y l h p =
-      let rows = drop (edges-at ws) ws in
-      let q : edges-at ws + edge-size * n ≡ at = omega (arith, p) in
-      let here : drop (edge-size * n) rows ≡ drop at ws = drop-drop (edge-size * n) (edges-at ws) ws ∙ ap (λ (i : ℕ). drop i ws) q in
-      let g : get (decode ws .edges) n ≡ some (edge-in (drop at ws)) =
-      ap (λ l. get l n) (edges-by-place ws) ∙ several-get edge-in edge-size (edge-count ws) n rows (omega arith) ∙ ap (λ (r : List ℤ). some (edge-in r)) here in
-      rw (g, getD-drop at ws 0 (pos 0), getD-drop at ws 1 (pos 0), add-zero at)
+  joins-at (suc n) at x y l h p = rw (edge-got ws n at (omega arith) (omega (arith, p)), getD-drop at ws 0 (pos 0), getD-drop at ws 1 (pos 0), add-zero at)
 
   -- past the last edge
   pub joins-past : (e x y : ℕ) → edge-count ws < e → joins (decode ws) e x y ≡ false
   joins-past zero x y h = absurd (omega arith)
-  joins-past (suc n) x y h =
-      let g : get (decode ws .edges) n ≡ none = ap (λ l. get l n) (edges-by-place ws) ∙ several-none edge-in edge-size (edge-count ws) n (drop (edges-at ws) ws) (omega arith) in
-      rw g
+  joins-past (suc n) x y h = rw (edge-past ws n (omega arith))
 
 -- ---- the slots
 

@@ -70,7 +70,7 @@ fn put_verdict(out: &mut [u8], at: usize, v: Verdict) -> usize
     }
 }
 
-fn put_number(out: &mut [u8], at: usize, n: usize) -> usize
+pub fn put_number(out: &mut [u8], at: usize, n: usize) -> usize
     ensures { λ r. ⌜ Put at (tabbed (decimal n)) (now (out .entry)) (now (out .exit)) r ⌝ }
 {
     let place = writer::put_byte(out, at, semantics::TAB);
@@ -116,7 +116,7 @@ fn put_header(out: &mut [u8], a: Analysis) -> usize
 // ---- a slot's line
 
 // The name of a location, after its tab.
-fn put_name(out: &mut [u8], at: usize, chart: &[i32], l: LocationId) -> usize
+pub fn put_name(out: &mut [u8], at: usize, chart: &[i32], l: LocationId) -> usize
     requires { ⌜ T (well-formed (now chart)) ⌝ }
     ensures { λ r. ⌜ Put at (tabbed (loc-text (decode (now (chart .entry)) .locs) (l .0))) (now (out .entry)) (now (out .exit)) r ⌝ }
 {
@@ -143,7 +143,7 @@ fn put_value(out: &mut [u8], at: usize, w: i32) -> usize
 }
 
 // The values of a row.
-fn put_values(out: &mut [u8], at: usize, values: &[i32]) -> usize
+pub fn put_values(out: &mut [u8], at: usize, values: &[i32]) -> usize
     ensures { λ r. ⌜ Put at (values-text (now (values .entry))) (now (out .entry)) (now (out .exit)) r ⌝ }
 {
     let mut place = at;

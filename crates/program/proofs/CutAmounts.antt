@@ -1,12 +1,15 @@
--- The sizes of capacity and budget are judged alike of a number and of the number cut. Assumes nothing.
-use Rattle.semantics.proofs.Prelude.{_≡_, refl, sym, _∙_, Bool, true, false, not, [], _∷_, Option, none, some, ℕ, suc, _<_, arith, leb, ℤ, pos, negsuc, lt-leb, and-false}
-use Rattle.semantics.specs.Layout.{most-slots, most-iterations}
+-- The sizes of capacity and budget, and a count of moves, are judged alike of a number and of the number cut. Assumes nothing.
+use Rattle.semantics.proofs.Prelude.{_≡_, refl, sym, ap, _∙_, Bool, true, false, not, [], _∷_, List, Option, none, some, ℕ, suc, _<_, arith, leb, ℤ, pos, negsuc, lt-leb, and-false}
+use Rattle.semantics.specs.Layout.{most-slots, most-iterations, most-moves}
+use Rattle.semantics.specs.Text.{number-of}
+use Rattle.semantics.specs.Listing.{refused-text}
 use Rattle.semantics.specs.Reading.{Res, fail, ok, if-ok}
 use Rattle.semantics.specs.Algorithm.{allowed}
 use Rattle.semantics.specs.Memory.{capacity-ok}
 use Rattle.semantics.specs.Outcomes.{case, refusal}
-use Rattle.semantics.specs.Program.{Go, unless, sized, amounts}
+use Rattle.semantics.specs.Program.{Go, unless, sized, amounts, print-search, search-output}
 use Rattle.semantics.specs.declared.Settings.{Settings}
+use Rattle.text.specs.declared.NumberRead.{NumberRead}
 use Rattle.text.specs.Fields.{number-cut, clamp, number-read, number-said}
 use Rattle.text.proofs.Digits.{by-size}
 
@@ -35,3 +38,12 @@ unfolding number-said number-read if-ok
 amounts-cut s none q = refl
 amounts-cut s (some r) none = refl
 amounts-cut s (some r) (some a) = sized-cut s r a
+
+-- what is printed of a search, by its number as it was read
+pub search-said : (k chart : List ℕ) {r : NumberRead} → r ≡ number-read (number-of k) → search-output k chart ≡ print-search (number-said r) chart
+unfolding search-output number-said number-read
+search-said k chart e = go (number-of k) ∙ ap (λ (n : NumberRead). print-search (number-said n) chart) (sym e)
+  where
+    go : (o : Option ℤ) → print-search o chart ≡ print-search (number-said (number-read o)) chart
+    go none = refl
+    go (some z) = sym (cut most-moves (omega arith) (λ z. print-search (some z) chart) (refused-text 30 0) (λ n. refl) (λ n h. rw (h, and-false)) z)

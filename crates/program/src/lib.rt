@@ -7,16 +7,19 @@ use semantics::EdgeId;
 use semantics::Settings;
 use semantics::Verdict;
 use semantics::View;
+use text::NumberRead;
 ghost use mathlib.Core.Path.{_≡_};
 ghost use mathlib.Core.List.{List, _++_};
 ghost use Prim.Native.Nat.{ℕ, min};
 ghost use lib.Dec.{T};
-ghost use lib.ListN.{length, drop};
+ghost use lib.IntN.{natAbs};
+ghost use lib.ListN.{length, take, drop};
 ghost use Rattle.semantics.specs.Layout.{listing-bytes};
 ghost use Rattle.semantics.specs.Encoding.{decode, well-formed};
 ghost use Rattle.semantics.specs.Listing.{refused-text};
-ghost use Rattle.semantics.specs.Reading.{read};
-ghost use Rattle.semantics.specs.Program.{explored, shown, print-read, output, command};
+ghost use Rattle.semantics.specs.Reading.{accepted, read};
+ghost use Rattle.semantics.specs.RunListing.{moves-ok};
+ghost use Rattle.semantics.specs.Program.{explored, shown, print-read, output, print-run, search-output, command-word, command-with, command};
 ghost use Rattle.checks.specs.Form.{lent};
 ghost use Rattle.writer.specs.Writing.{Put};
 ghost use Rattle.program.specs.Asked.{asking};
@@ -111,10 +114,61 @@ pub fn respond(view: View, input: &[u8], out: &mut [u8; semantics::LISTING_BYTES
     }
 }
 
+// ---- a search
+
+// A run of an accepted chart, or 31, the only refusal that is left: the moves were judged, and the bytes lent are enough.
+fn put_run(chart: &[i32], k: i32, out: &mut [u8]) -> usize
+    requires { ⌜ T (well-formed (now chart)) × (length (now out) ≡ listing-bytes) × T (moves-ok k) ⌝ }
+    ensures { λ r. ⌜ Printed (print-run (natAbs k) (accepted (decode (now (chart .entry))))) (now (out .entry)) (now (out .exit)) r ⌝ }
+{
+    let found = search::search(chart, k, out);
+    if found.number != 0 {
+        return put_refusal(out, found.number, 0);
+    }
+    found.length
+}
+
+// The chart's refusal, or what its search prints.
+fn put_search(chart: &[u8], k: i32, out: &mut [u8]) -> usize
+    requires { ⌜ (length (now out) ≡ listing-bytes) × T (moves-ok k) ⌝ }
+    ensures { λ r. ⌜ Printed (print-run (natAbs k) (read (now (chart .entry)))) (now (out .entry)) (now (out .exit)) r ⌝ }
+{
+    let mut words = [0i32; CHART_SIZE];
+    let held = reader::read(chart, &mut words);
+    if held.number != 0 {
+        return put_refusal(out, held.number, held.line);
+    }
+    put_run(&words, k, out)
+}
+
+// What the program prints for a chart without a go line, asked for a run of at most k moves, k a text.
+pub fn respond_search(k: &[u8], chart: &[u8], out: &mut [u8; semantics::LISTING_BYTES]) -> usize
+    ensures count { λ r. ⌜ r ≡ length (search-output (now (k .entry)) (now (chart .entry))) ⌝ }
+    ensures bytes { λ _. ⌜ now (out .exit) ≡ search-output (now (k .entry)) (now (chart .entry)) ++ drop (length (search-output (now (k .entry)) (now (chart .entry)))) (now (out .entry)) ⌝ }
+{
+    let NumberRead::Is(moves) = text::number(k) else {
+        return put_refusal(out, 6, 0);
+    };
+    if !search::moves_ok(moves) {
+        return put_refusal(out, 30, 0);
+    }
+    put_search(chart, moves, out)
+}
+
+// ---- by what the system was asked to read
+
 fn least(a: usize, b: usize) -> usize
     ensures { λ r. ⌜ r ≡ min a b ⌝ }
 {
     if a < b { a } else { b }
+}
+
+// The bytes of a buffer that were read, by their count; one above the buffer's size says that it is full.
+fn front(bytes: &[u8], count: usize) -> &[u8]
+    ensures { λ r. ⌜ now r ≡ take (min count (length (now (bytes .entry)))) (now (bytes .entry)) ⌝ }
+{
+    let n = least(count, bytes.len());
+    &bytes[..n]
 }
 
 // What the program prints, by the buffer that it read into and the count of bytes read: a count below the size says that
@@ -127,28 +181,30 @@ pub fn respond_to(
 ) -> usize
     ensures { λ r. ⌜ ((input : List ℕ) → Buffered input (now (buffer .entry)) count → Printed (output view input) (now (out .entry)) (now (out .exit)) r) ⌝ }
 {
-    let bytes: &[u8] = buffer;
-    let n = least(count, bytes.len());
-    respond(view, &bytes[..n], out)
+    respond(view, front(buffer, count), out)
 }
+
+// The same of a search, whose buffer has the chart alone.
+pub fn respond_search_to(
+    k: &[u8],
+    buffer: &[u8; INPUT],
+    count: usize,
+    out: &mut [u8; semantics::LISTING_BYTES],
+) -> usize
+    ensures { λ r. ⌜ ((chart : List ℕ) → Buffered chart (now (buffer .entry)) count → Printed (search-output (now (k .entry)) chart) (now (out .entry)) (now (out .exit)) r) ⌝ }
+{
+    respond_search(k, front(buffer, count), out)
+}
+
+// ---- the arguments
 
 // The bytes of the first argument that are looked at: more than any word of a command has.
 pub const ARGUMENT: usize = 8;
 
-// What the program's arguments ask: how many there are, and the first of them, by the buffer that it was read into and its
-// length. One that is longer than the buffer is handed on as an empty one, which is no command either.
-pub fn command(count: usize, buffer: &[u8; ARGUMENT], length: usize) -> Command
-    ensures { λ r. ⌜ ((args : List (List ℕ)) → Arguments args count (now (buffer .entry)) length → r ≡ command args) ⌝ }
+// An argument alone.
+fn command_word(word: &[u8]) -> Command
+    ensures { λ r. ⌜ r ≡ command-word (now (word .entry)) ⌝ }
 {
-    if count == 0 {
-        return Command::Show(View::Listing);
-    }
-    if count != 1 {
-        return Command::Unknown;
-    }
-    let bytes: &[u8] = buffer;
-    let n = least(length, bytes.len());
-    let word = &bytes[..n];
     if text::same_bytes(word, b"path") {
         return Command::Show(View::Path);
     }
@@ -156,4 +212,27 @@ pub fn command(count: usize, buffer: &[u8; ARGUMENT], length: usize) -> Command
         return Command::Help;
     }
     Command::Unknown
+}
+
+// The first of two.
+fn command_with(word: &[u8]) -> Command
+    ensures { λ r. ⌜ r ≡ command-with (now (word .entry)) ⌝ }
+{
+    if text::same_bytes(word, b"search") {
+        return Command::Search;
+    }
+    Command::Unknown
+}
+
+// What the program's arguments ask: how many there are, and the first of them, by the buffer that it was read into and its
+// length. One that is longer than the buffer is handed on as an empty one, which is no command either.
+pub fn command(count: usize, buffer: &[u8; ARGUMENT], length: usize) -> Command
+    ensures { λ r. ⌜ ((args : List (List ℕ)) → Arguments args count (now (buffer .entry)) length → r ≡ command args) ⌝ }
+{
+    match count {
+        0 => Command::Show(View::Listing),
+        1 => command_word(front(buffer, length)),
+        2 => command_with(front(buffer, length)),
+        _ => Command::Unknown,
+    }
 }

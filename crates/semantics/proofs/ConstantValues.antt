@@ -131,7 +131,7 @@ range-in vars k z h = go (get vars k) h
     go (some v) h = both-true (leZ (v .lo) z) (leZ z (v .hi)) (h .0) (h .1)
 
 -- a number between two of the range is of it
-between : (vars : List Var) (k : ℕ) (low z high : ℤ) → T (leZ low z) → T (leZ z high) → T (in-range vars k low) → T (in-range vars k high) → T (in-range vars k z)
+pub between : (vars : List Var) (k : ℕ) (low z high : ℤ) → T (leZ low z) → T (leZ z high) → T (in-range vars k low) → T (in-range vars k high) → T (in-range vars k z)
 between vars k low z high p q s t = go (get vars k) s t
   where
     go : (o : Option Var) → T (map-or o true (λ v. within (v .lo) (v .hi) low)) → T (map-or o true (λ v. within (v .lo) (v .hi) high)) → T (map-or o true (λ v. within (v .lo) (v .hi) z))

@@ -1,9 +1,10 @@
 -- The program's input: what an accepted go line says, and how much of the input matters. Assumes nothing.
-use Rattle.semantics.proofs.Prelude.{_≡_, refl, sym, ap, _∙_, subst, Bool, true, false, _||_, List, [], _∷_, _++_, ℕ, zero, suc, _+_, _≤_, _<_, arith, T, eqb, length, take, drop, take-append-drop, length-append, take-all, take-append-le, length-take-le, lt-ltb, decLe, ℤ}
+use Rattle.semantics.proofs.Prelude.{_≡_, refl, sym, ap, _∙_, subst, Bool, true, false, _||_, Option, none, some, List, [], _∷_, _++_, ℕ, zero, suc, _+_, _≤_, _<_, arith, T, eqb, length, take, drop, take-append-drop, length-append, take-all, take-append-le, length-take-le, lt-ltb, decLe, ℤ}
 use Rattle.semantics.specs.Lists.{pick}
 use Rattle.semantics.specs.Layout.{most-bytes, go-line-bytes, input-bytes}
 use Rattle.semantics.specs.Reading.{Res, fail, ok, check, refused, read}
-use Rattle.semantics.specs.Program.{has-lf, first-line, past-line, View, Go, sized, go-line, print-read, print-go, output}
+use Rattle.semantics.specs.Text.{number-of}
+use Rattle.semantics.specs.Program.{has-lf, first-line, past-line, View, Go, sized, go-line, print-read, print-go, output, print-search, search-output}
 use Rattle.semantics.specs.Algorithm.{Settings, allowed}
 use Rattle.semantics.specs.Memory.{capacity-ok}
 use Rattle.semantics.specs.Outcomes.{refusal, budget-ok, asked-cases}
@@ -102,10 +103,23 @@ cut v p q l = go (has-lf (take go-line-bytes p)) refl
         rw (same-line p q (omega arith) t, r .rest)
         (same-print v (go-line p) (past-line p) (past-line p ++ q) (too-long (past-line p) (omega (arith, h .1)) ∙ sym (too-long (past-line p ++ q) (omega (arith, h .1, length-append (past-line p) q)))))
 
+-- an output that goes by the first 32,833 bytes of what is longer
+by-the-first : (f : List ℕ → List ℕ) → ((p q : List ℕ) → length p ≡ input-bytes → f p ≡ f (p ++ q)) → (input : List ℕ) → f (take input-bytes input) ≡ f input
+by-the-first f same input = go (decLe (length input) input-bytes)
+  where
+    go : Dec (length input ≤ input-bytes) → f (take input-bytes input) ≡ f input
+    go (yes h) = ap f (take-all input-bytes input h)
+    go (no h) = same (take input-bytes input) (drop input-bytes input) (length-take-le input-bytes input (omega arith)) ∙ ap f (take-append-drop input-bytes input)
+
 -- what stands past them changes nothing: the program need not read it
 pub cut-same : (v : View) (input : List ℕ) → output v (take input-bytes input) ≡ output v input
-cut-same v input = go (decLe (length input) input-bytes)
+cut-same v = by-the-first (output v) (cut v)
+
+-- the same of a search's chart, which has no go line before it
+pub search-cut-same : (k chart : List ℕ) → search-output k (take input-bytes chart) ≡ search-output k chart
+unfolding search-output
+search-cut-same k = by-the-first (search-output k) (λ p q l. same-search (number-of k) p (p ++ q) (too-long p (omega (arith, l)) ∙ sym (too-long (p ++ q) (omega (arith, l, length-append p q)))))
   where
-    go : Dec (length input ≤ input-bytes) → output v (take input-bytes input) ≡ output v input
-    go (yes h) = ap (output v) (take-all input-bytes input h)
-    go (no h) = cut v (take input-bytes input) (drop input-bytes input) (length-take-le input-bytes input (omega arith)) ∙ ap (output v) (take-append-drop input-bytes input)
+    same-search : (o : Option ℤ) (x y : List ℕ) → read x ≡ read y → print-search o x ≡ print-search o y
+    same-search none x y e = refl
+    same-search (some k) x y e = rw e

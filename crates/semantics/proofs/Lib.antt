@@ -1,7 +1,7 @@
--- Names and laws of the logic (Prelude, Bools, Integers). Then what holds of the definitions: over any domain (to Origins), of the constants (to Executions), of words (MemoryOf,
+-- Names and laws of the logic (Prelude, Bools, Integers). Then what holds of the definitions: over any domain (to Origins), of the constants (to Executions), of the search (to RealRuns), of words (MemoryOf,
 -- MemoryInForm), of a chart's text and its words (to Exactness), of the calls (to MemoryPut), of the program (to
--- ProgramSafe). The claims are in Verdicts, PathHolds, Overruns, Comparisons, Executions, Exactness, WholeWalks, ProgramSafe,
--- StartThenRun and MarkedCases.
+-- ProgramSearch). The claims are in Verdicts, PathHolds, Overruns, Comparisons, Executions, RealRuns, Exactness, WholeWalks,
+-- ProgramSafe, ProgramSearch, StartThenRun and MarkedCases.
 pub mod Prelude
 pub mod Bools
 pub mod Integers
@@ -21,6 +21,9 @@ pub mod PathHolds
 pub mod Overruns
 pub mod Comparisons
 pub mod Executions
+pub mod Searching
+pub mod ChartChoices
+pub mod RealRuns
 pub mod MemoryOf
 pub mod MemoryInForm
 pub mod Numbers
@@ -38,10 +41,12 @@ pub mod Realisable
 pub mod MemoryPut
 pub mod ListingShort
 pub mod PathShort
+pub mod RunShort
 pub mod Program
 pub mod InputCut
 pub mod ProgramCalls
 pub mod OutputShort
 pub mod ProgramSafe
+pub mod ProgramSearch
 pub mod StartThenRun
 pub mod MarkedCases

@@ -26,7 +26,7 @@ unfolding line-of
 line-size f [] = length-append f (10 ∷ [])
 line-size f (g ∷ gs) = omega (arith, length-append f (9 ∷ line-of g gs), line-size g gs)
 
-val-short : (v : Var) (x : Value) → T (var-ok v) → ValOk v x → length (val-text x) ≤ 6
+pub val-short : (v : Var) (x : Value) → T (var-ok v) → ValOk v x → length (val-text x) ≤ 6
 val-short v (known z) t h =
     let a : T (leZ least-number (v .lo)) = search (and-left, and-right) depth 8 in
     let b : T (leZ (v .hi) most-number) = search (and-left, and-right) depth 8 in
@@ -41,7 +41,7 @@ vals-short [] (x ∷ xs) m t h = absurd h
 vals-short (v ∷ vs) [] m t h = absurd h
 vals-short (v ∷ vs) (x ∷ xs) m t h = omega (arith, val-short v x (and-left (var-ok v) (all var-ok vs) t) (h .0), vals-short vs xs m (and-right (var-ok v) (all var-ok vs) t) (h .1))
 
-loc-short : (ls : List Loc) (n : ℕ) → T (all (λ l. name-ok (l .name)) ls) → length (loc-text ls n) ≤ name-size
+pub loc-short : (ls : List Loc) (n : ℕ) → T (all (λ l. name-ok (l .name)) ls) → length (loc-text ls n) ≤ name-size
 loc-short [] n t = omega arith
 loc-short (l ∷ ls) zero t = name-short (l .name) (and-left (name-ok (l .name)) (all (λ l. name-ok (l .name)) ls) t)
 loc-short (l ∷ ls) (suc n) t = loc-short ls n (and-right (name-ok (l .name)) (all (λ l. name-ok (l .name)) ls) t)

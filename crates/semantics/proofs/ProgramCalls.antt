@@ -1,5 +1,5 @@
--- The program's calls go through one after the other on the words that it lends: 14 and 15 never come up, and a path is
--- refused by 24 alone. Assumes nothing.
+-- The program's calls go through one after the other on the words that it lends: 14 and 15 never come up, a path is
+-- refused by 24 alone, and a search by 31. Assumes nothing.
 use Rattle.semantics.proofs.Prelude.{_≡_, true, false, List, [], _++_, ℕ, arith, T, length, drop, ℤ, natAbs, le-ltb}
 use Rattle.semantics.proofs.Bools.{to-true}
 use Rattle.semantics.specs.Layout.{most-slots, chart-size, listing-bytes, table-words}
@@ -11,15 +11,17 @@ use Rattle.semantics.specs.Encoding.{encode, decode, well-formed}
 use Rattle.semantics.specs.Memory.{Memory, is-alarm, capacity-ok}
 use Rattle.semantics.specs.Listing.{listing-text}
 use Rattle.semantics.specs.Path.{path-text}
-use Rattle.semantics.specs.Outcomes.{fine, refused-by, budget-ok, put-in, showing, read-outcome, begin-outcome, listing-outcome, path-outcome}
+use Rattle.semantics.specs.RunListing.{run-text, moves-ok, too-wide}
+use Rattle.semantics.specs.Outcomes.{fine, refused-by, budget-ok, put-in, showing, read-outcome, begin-outcome, listing-outcome, path-outcome, search-outcome}
 use Rattle.semantics.specs.Program.{Go, explored}
 use Rattle.semantics.proofs.StatesOk.{Bounds}
 use Rattle.semantics.proofs.MemoryOf.{counted, Proper}
 use Rattle.semantics.proofs.MemoryPut.{enough-held, load-held, held-ok}
-use Rattle.semantics.proofs.Encoded.{encode-short, formed-bounds}
+use Rattle.semantics.proofs.Encoded.{encode-short, formed-bounds, well-formed-split}
 use Rattle.semantics.proofs.ReadInBounds.{in-bounds}
 use Rattle.semantics.proofs.ListingShort.{listing-short}
 use Rattle.semantics.proofs.PathShort.{path-short}
+use Rattle.semantics.proofs.RunShort.{moves-few, run-short}
 use Rattle.semantics.proofs.Program.{GoOk, never-too-few}
 
 -- 3,163 words hold every chart
@@ -59,3 +61,14 @@ module _ (words : List ℤ) (formed : T (well-formed words)) where
     pub path-refused : is-alarm (w .verdict) ≡ false → path-outcome words (put-in chart w m) sp ≡ record { answer = refused-by 24 0; memory = put-in chart w m; space = sp }
     unfolding path-outcome
     path-refused e = rw (to-true (well-formed words) formed, enough-held chart b w good m, held-ok chart b w good m, e)
+
+  -- and a search, by whether the chart is too wide
+  module _ (k : ℤ) (t : T (moves-ok k)) (sp : List ℕ) (s : length sp ≡ listing-bytes) where
+    pub search-goes : too-wide chart ≡ false → let text = run-text chart (natAbs k) in search-outcome words k sp ≡ record { answer = fine (length text); space = text ++ drop (length text) sp }
+    unfolding search-outcome
+    search-goes e =
+        rw (to-true (moves-ok k) t, to-true (well-formed words) formed, e, le-ltb (length sp) (length (run-text chart (natAbs k))) (omega (arith, run-short chart (well-formed-split words formed .1) (natAbs k) (moves-few k t))))
+
+    pub search-refused : too-wide chart ≡ true → search-outcome words k sp ≡ record { answer = refused-by 31 0; space = sp }
+    unfolding search-outcome
+    search-refused e = rw (to-true (moves-ok k) t, to-true (well-formed words) formed, e)

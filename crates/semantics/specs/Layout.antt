@@ -28,6 +28,17 @@ most-slots = 256
 abbrev pub most-iterations : ℕ
 most-iterations = 60000
 
+-- 30: the most moves of a search
+abbrev pub most-moves : ℕ
+most-moves = 8
+
+-- 31: the most values of an `in`, and the most starting states, that are searched
+abbrev pub most-inputs : ℕ
+most-inputs = 16
+
+abbrev pub most-starts : ℕ
+most-starts = 4096
+
 -- 1: the most bytes of the go line, "input above 64 bytes with no LF in its first 64"
 abbrev pub go-line-bytes : ℕ
 go-line-bytes = 64
@@ -89,7 +100,7 @@ chart-size = counts-size + variable-size * most-variables + location-size * most
 abbrev pub table-words : ℕ
 table-words = most-slots * (suc most-variables + origin-size)
 
--- no listing or path has more bytes (`listing-short`, `path-short`)
+-- no listing, path or run has more bytes (`listing-short`, `path-short`, `run-short`)
 abbrev pub listing-bytes : ℕ
 listing-bytes = 24576
 

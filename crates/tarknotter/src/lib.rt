@@ -8,13 +8,14 @@ use semantics::Settings;
 use semantics::Verdict;
 ghost use mathlib.Core.Path.{_≡_};
 ghost use Rattle.semantics.specs.Encoding.{well-formed};
-ghost use Rattle.semantics.specs.Outcomes.{read-outcome, run-outcome, listing-outcome, path-outcome};
+ghost use Rattle.semantics.specs.Outcomes.{read-outcome, run-outcome, listing-outcome, path-outcome, search-outcome};
 ghost use Rattle.checks.specs.Form.{lent};
 ghost use Rattle.tarknotter.specs.Replies.{as-reply};
 ghost use Rattle.tarknotter.specs.Records.{mode-code, order-code, verdict-code, record-of, mode-in, order-in, verdict-in, settings-in, settings-named, codes-named, analysis-in};
 ghost use Rattle.tarknotter.specs.Calls.{begin-by-codes, record-after, Ends-by-codes};
 
-// `semantics::Answer` with the layout of C: 0 and line 0 with the length of a listing or path, or the refusal's number and line.
+// `semantics::Answer` with the layout of C: 0 and line 0 with the length of a listing, path or run, or the refusal's number
+// and line.
 #[repr(C)]
 pub struct Reply {
     pub number: u32,
@@ -307,4 +308,14 @@ pub extern "C" fn tarknotter_path(
     ensures space { λ _. ⌜ now (space .exit) ≡ path-outcome (now (chart .entry)) (lent (now (table .entry)) (now (list .entry)) (analysis-in «record»)) (now (space .entry)) .space ⌝ }
 {
     replied(listing::path(chart, analysis_in(record), table, list, space))
+}
+
+// Writes a shortest run of at most k moves into an error location or an overrun, or that there is none, and answers its
+// length.
+#[no_mangle]
+pub extern "C" fn tarknotter_search(chart: &[i32], k: i32, space: &mut [u8]) -> Reply
+    ensures reply { λ r. ⌜ r ≡ as-reply (search-outcome (now (chart .entry)) k (now (space .entry)) .answer) ⌝ }
+    ensures space { λ _. ⌜ now (space .exit) ≡ search-outcome (now (chart .entry)) k (now (space .entry)) .space ⌝ }
+{
+    replied(search::search(chart, k, space))
 }

@@ -1,10 +1,14 @@
-// The walk program: reads a go line and a chart, and prints the listing, the path or the refusal. What an input prints is
-// the contract of `program::respond_to`, and what arguments ask that of `program::command`; no contract can speak of what
-// the system reads and writes.
+// The walk program: reads a go line and a chart and prints the listing or the path, or a chart alone and prints a run; or
+// the refusal. What an input prints is the contract of `program::respond_to` and `program::respond_search_to`, and what
+// arguments ask that of `program::command`; no contract can speak of what the system reads and writes.
 use libc::STDERR_FILENO;
 use libc::STDIN_FILENO;
 use semantics::Command;
 use semantics::View;
+use streams::StreamEnd;
+
+// Linux hands over no longer argument: MAX_ARG_STRLEN, which counts the 0 at its end.
+const LONGEST_ARGUMENT: usize = 131072;
 
 // Writes it to standard output, or says why not. A program has no exit status to say so.
 fn print(bytes: &[u8]) {
@@ -16,18 +20,27 @@ fn print(bytes: &[u8]) {
     }
 }
 
-// A failed read is no end of the input: there is then no answer.
-fn show(view: View) {
+// On a terminal it first says what it waits for. A failed read is no end of the input: there is then no answer.
+fn read_input(awaited: &[u8], input: &mut [u8; program::INPUT]) -> StreamEnd {
     if libc::isatty(STDIN_FILENO) == 1 {
+        io::write_all(STDERR_FILENO, b"walk: type ");
+        io::write_all(STDERR_FILENO, awaited);
         io::write_all(
             STDERR_FILENO,
-            b"walk: type a go line and a chart, then Ctrl-D on a line of its own; `walk help` has an example\n",
+            b", then Ctrl-D on a line of its own; `walk help` has an example\n",
         );
     }
-    let mut input = [0u8; program::INPUT];
-    let read = streams::read_all(&mut input);
+    let read = streams::read_all(input);
     if read.last < 0 {
         os::fail(b"walk: standard input");
+    }
+    read
+}
+
+fn show(view: View) {
+    let mut input = [0u8; program::INPUT];
+    let read = read_input(b"a go line and a chart", &mut input);
+    if read.last < 0 {
         return;
     }
     let mut out = [0u8; semantics::LISTING_BYTES];
@@ -35,12 +48,27 @@ fn show(view: View) {
     print(&out[..length]);
 }
 
+// The second argument is the count of moves, which is judged before the chart, but after both were read.
+fn search() {
+    let mut argument = [0u8; LONGEST_ARGUMENT];
+    let end = os::arg(2, &mut argument);
+    let mut input = [0u8; program::INPUT];
+    let read = read_input(b"a chart without a go line", &mut input);
+    if read.last < 0 {
+        return;
+    }
+    let mut out = [0u8; semantics::LISTING_BYTES];
+    let length = program::respond_search_to(&argument[..end], &input, read.count, &mut out);
+    print(&out[..length]);
+}
+
 // Its example is tried by tests/program/tests/arguments.rs.
 fn help() {
     print(
-        b"walk        reads a go line and a chart, and prints every entry that is reached\n\
-          walk path   reads the same, and prints the path to the alarm\n\
-          walk help   prints this\n\
+        b"walk            reads a go line and a chart, and prints every entry that is reached\n\
+          walk path       reads the same, and prints the path to the alarm\n\
+          walk search K   reads a chart without a go line, and prints a shortest run of at most K moves (0 to 8) into a bad location or an overrun\n\
+          walk help       prints this\n\
           \n\
           Fields are parted by tabs, and each line ends with a line end.\n\
           \n\
@@ -69,6 +97,7 @@ fn main() {
     let given = if count == 0 { 0 } else { count - 1 };
     match program::command(given, &first, length) {
         Command::Show(view) => show(view),
+        Command::Search => search(),
         Command::Help => help(),
         Command::Unknown => {
             io::write_all(

@@ -3,7 +3,8 @@ use Rattle.semantics.proofs.Prelude.{_≡_, sym, _∙_, _&&_, List, ℕ, _+_, _
 use Rattle.semantics.specs.Layout.{edge-size, index-limit}
 use Rattle.semantics.specs.Encoding.{edge-count}
 use Rattle.chart.specs.Encoded.{edges-at}
-use Rattle.checks.proofs.Origins.{edges-near, joins-at, joins-past}
+use Rattle.chart.proofs.Places.{edges-near}
+use Rattle.checks.proofs.Origins.{joins-at, joins-past}
 use Rattle.checks.proofs.edge_joins.Statement.{statement}
 use Rattle.checks.proofs.edge_joins.Tie as tie
 
