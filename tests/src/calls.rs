@@ -14,6 +14,7 @@ use crate::form::is_readable;
 use crate::listing::Report;
 use crate::reader;
 use crate::refusal::{Reason, Refusal};
+use crate::search::{self, check_bound};
 
 /// 0 and line 0 from a call that goes through, else the refusal's number and line.
 #[derive(Clone, Copy, Debug, PartialEq, Eq)]
@@ -147,11 +148,31 @@ fn write_report(
     let written = (|| {
         let chart = held_chart(chart)?;
         let analysis = held_analysis(&chart, table, waitlist, record)?;
-        let text = report.text(&chart, &analysis)?;
-        space.get_mut(..text.len()).ok_or(Reason::ListingSpace)?.copy_from_slice(&text);
-        Ok(text.len())
+        write_text(&report.text(&chart, &analysis)?, space)
     })();
-    (Answer::from(written.map(|_| ())), written.unwrap_or(0))
+    answered(written)
+}
+
+/// Writes the shortest counterexample, or that there is none of at most so many moves, to the beginning
+/// of `space`; answers also the length.
+pub fn search(chart: &[i32], bound: i32, space: &mut [u8]) -> (Answer, usize) {
+    let written = (|| {
+        let bound = check_bound(i64::from(bound))?;
+        let chart = held_chart(chart)?;
+        write_text(&search::search(&chart, bound)?, space)
+    })();
+    answered(written)
+}
+
+/// 15, or how long the text is.
+fn write_text(text: &[u8], space: &mut [u8]) -> Result<usize, Reason> {
+    space.get_mut(..text.len()).ok_or(Reason::ListingSpace)?.copy_from_slice(text);
+    Ok(text.len())
+}
+
+fn answered(written: Result<usize, Reason>) -> (Answer, usize) {
+    let answer = written.map(|_| ()).map_err(Refusal::from);
+    (Answer::from(answer), written.unwrap_or(0))
 }
 
 /// The chart whose encoding begins `words`: 20 unless some file reads to it. Words that no chart

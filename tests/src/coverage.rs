@@ -7,6 +7,7 @@ use crate::analysis::{Analysis, Merge, Order, Settings, Verdict, MAX_CAPACITY};
 use crate::chart::Relation;
 use crate::corner::{Corner, End, KnownSide, Rest};
 use crate::random::permitted_settings;
+use crate::search::MAX_BOUND;
 
 /// How often each label was met.
 #[derive(Clone, Debug)]
@@ -46,8 +47,8 @@ impl<L: Ord + Debug> Default for Met<L> {
     }
 }
 
-/// Of what the program printed: the settings and the verdict of a listing, the merge of a path, or the
-/// refusal's number and whether it has a line.
+/// Of what the program printed: the settings and the verdict of a listing, the merge of a path, the moves of
+/// a search, or the refusal's number and whether it has a line.
 pub fn program_label(output: &[u8]) -> String {
     let header = String::from_utf8_lossy(output.split(|&byte| byte == b'\n').next().unwrap_or(b""));
     let fields: Vec<&str> = header.split('\t').collect();
@@ -56,32 +57,42 @@ pub fn program_label(output: &[u8]) -> String {
         ["refused", number, _] => format!("refused {number}"),
         ["walk", merge, stop, order, verdict, ..] => format!("{merge} {stop} {order} {verdict}"),
         ["path", merge, _] => format!("path {merge}"),
-        _ => format!("no listing, path or refusal: {header}"),
+        [word @ ("run" | "none"), moves] => format!("{word} {moves}"),
+        _ => format!("no listing, path, run or refusal: {header}"),
     }
 }
 
 /// Every label that an output of the program can have, started without an argument.
 pub fn program_labels() -> Vec<String> {
-    let mut labels = refusal_labels();
+    let mut labels = refusal_labels(&GO_LINE_REFUSALS);
     labels.extend(analysis_labels());
+    labels
+}
+
+/// Every label that an output of the program can have, started with `search`.
+pub fn search_labels() -> Vec<String> {
+    let mut labels = refusal_labels(&[1, 6, 8, 30, 31]);
+    labels.extend(
+        (0..=MAX_BOUND).flat_map(|moves| ["run", "none"].map(|word| format!("{word} {moves}"))),
+    );
     labels
 }
 
 /// Every label that an output of the program can have, started with `path`.
 pub fn path_labels() -> Vec<String> {
-    let mut labels = refusal_labels();
+    let mut labels = refusal_labels(&GO_LINE_REFUSALS);
     labels.push("refused 24, line 0".to_string());
     labels.extend(Merge::ALL.map(|merge| format!("path {}", merge.word())));
     labels
 }
 
-/// Of a go line or a chart.
-fn refusal_labels() -> Vec<String> {
-    let mut labels: Vec<String> = (2..=10).map(|number| format!("refused {number}")).collect();
-    for number in [1, 2, 3, 5, 6, 8, 11, 12, 13] {
-        labels.push(format!("refused {number}, line 0"));
-    }
-    labels
+/// Of a go line, or of a chart and no line of it.
+const GO_LINE_REFUSALS: [u32; 9] = [1, 2, 3, 5, 6, 8, 11, 12, 13];
+
+/// Of the lines of a chart, and these of none.
+fn refusal_labels(of_line_0: &[u32]) -> Vec<String> {
+    let lines = (2..=10).map(|number| format!("refused {number}"));
+    lines.chain(of_line_0.iter().map(|number| format!("refused {number}, line 0"))).collect()
 }
 
 pub fn analysis_label(settings: Settings, verdict: Verdict) -> String {

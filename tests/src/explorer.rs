@@ -3,11 +3,9 @@
 use std::ops::ControlFlow;
 
 use crate::analysis::{location_of, Analysis, Verdict};
-use crate::chart::{Chart, Edge, EdgeId, Operand, Operation};
+use crate::chart::{Chart, EdgeId};
+use crate::concrete::{for_each_move, initial_states, outgoing, overruns, State};
 use crate::domain::covers;
-
-/// A location and one value for each variable, in a row of words.
-pub type State = Vec<i32>;
 
 /// What an analysis has wrong about a chart, with the state that shows it.
 #[derive(Clone, Debug, PartialEq, Eq)]
@@ -46,10 +44,7 @@ impl<'a> Explorer<'a> {
             .iter()
             .try_fold(chart.locations.len(), |size, &span| size.checked_mul(span))
             .filter(|&size| size <= max_states)?;
-        let mut outgoing = vec![Vec::new(); chart.locations.len()];
-        for id in (1..=chart.edges.len()).map(EdgeId) {
-            outgoing[chart.edge(id).from.0].push(id);
-        }
+        let outgoing = outgoing(chart);
         let mut explorer = Explorer { chart, outgoing, spans, size, reachable: Vec::new() };
         let mut reachable = Vec::new();
         let _ = explorer.explore(|state| {
@@ -130,12 +125,8 @@ impl<'a> Explorer<'a> {
     }
 
     fn overrun_from(&self, state: &[i32]) -> Option<EdgeId> {
-        let overruns = |edge: &Edge| {
-            assigned(edge.operation, state)
-                .is_some_and(|(target, value)| !self.chart.variables[target].contains(value))
-        };
         let mut leaving = self.outgoing[location_of(state).0].iter().copied();
-        leaving.find(|&id| overruns(self.chart.edge(id)))
+        leaving.find(|&id| overruns(self.chart, self.chart.edge(id), state))
     }
 
     /// Visits states breadth-first, each once. `visit` says whether to move on
@@ -149,7 +140,7 @@ impl<'a> Explorer<'a> {
                 queue.extend_from_slice(state);
             }
         };
-        for_each_initial(self.chart, |state| enqueue(&mut queue, state));
+        initial_states(self.chart).iter().for_each(|state| enqueue(&mut queue, state));
         let mut state = vec![0; width];
         let mut next = 0;
         while next < queue.len() {
@@ -174,64 +165,5 @@ impl<'a> Explorer<'a> {
             .fold(state[0] as usize, |index, ((variable, span), value)| {
                 index * span + (value - variable.low) as usize
             })
-    }
-}
-
-fn for_each_initial(chart: &Chart, mut visit: impl FnMut(&[i32])) {
-    let mut states = vec![vec![Chart::START.0 as i32]];
-    for variable in &chart.variables {
-        let values = variable.init.map_or(variable.low..=variable.high, |init| init..=init);
-        states = states
-            .iter()
-            .flat_map(|state| values.clone().map(move |value| [&state[..], &[value]].concat()))
-            .collect();
-    }
-    states.iter().for_each(|state| visit(state));
-}
-
-/// The concrete moves of one edge to a state after it.
-fn for_each_move(chart: &Chart, edge: &Edge, state: &[i32], mut visit: impl FnMut(&[i32])) {
-    let mut moved = state.to_vec();
-    moved[0] = edge.to.0 as i32;
-    match edge.operation {
-        Operation::In { target, low, high } => {
-            for value in low..=high {
-                moved[target + 1] = value;
-                visit(&moved);
-            }
-        }
-        Operation::If { target, relation, right } => {
-            if relation.holds(state[target + 1], value_of(right, state)) {
-                visit(&moved);
-            }
-        }
-        Operation::Skip => visit(&moved),
-        Operation::Set { .. } | Operation::Add { .. } | Operation::Sub { .. } => {
-            let result = assigned(edge.operation, state);
-            let is_inside =
-                |&(target, value): &(usize, i32)| chart.variables[target].contains(value);
-            if let Some((target, value)) = result.filter(is_inside) {
-                moved[target + 1] = value;
-                visit(&moved);
-            }
-        }
-    }
-}
-
-/// The target of set, add or sub, and the exact result, which may be out of its range.
-fn assigned(operation: Operation, state: &[i32]) -> Option<(usize, i32)> {
-    let value_of = |operand| value_of(operand, state);
-    match operation {
-        Operation::Set { target, value } => Some((target, value_of(value))),
-        Operation::Add { target, left, right } => Some((target, value_of(left) + value_of(right))),
-        Operation::Sub { target, left, right } => Some((target, value_of(left) - value_of(right))),
-        Operation::Skip | Operation::In { .. } | Operation::If { .. } => None,
-    }
-}
-
-fn value_of(operand: Operand, state: &[i32]) -> i32 {
-    match operand {
-        Operand::Number(number) => number,
-        Operand::Variable(variable) => state[variable + 1],
     }
 }

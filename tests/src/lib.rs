@@ -1,5 +1,5 @@
 //! The reference walker: a reachability analyser for flow charts, written a
-//! second time from documents 01 and 02 (requests 2.1, 2.2, 2.6 and 2.9) alone, so that
+//! second time from documents 01 and 02 (requests 2.1, 2.2, 2.3, 2.6 and 2.9) alone, so that
 //! the verified program can be compared with it.
 //!
 //! `program::respond` is the whole walk program, `calls` has the calls on lent
@@ -12,6 +12,7 @@ pub mod analysis;
 pub mod begins;
 pub mod calls;
 pub mod chart;
+pub mod concrete;
 pub mod corner;
 pub mod coverage;
 pub mod domain;
@@ -26,6 +27,8 @@ pub mod random;
 pub mod reader;
 pub mod refusal;
 pub mod renderer;
+pub mod search;
+pub mod searches;
 pub mod text;
 pub mod way;
 pub mod worked;

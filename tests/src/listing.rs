@@ -1,4 +1,4 @@
-//! What the walk program prints: a listing, a path, or one line for a refusal.
+//! What the walk program prints: a listing, a path, a counterexample or that there is none, or one line for a refusal.
 
 use std::io::Write;
 
@@ -6,6 +6,7 @@ use crate::analysis::{location_of, Analysis, Merge, Order, Settings, Stop, Verdi
 use crate::chart::{Chart, EdgeId, SlotId};
 use crate::domain::TOP;
 use crate::refusal::{Reason, Refusal};
+use crate::search::Counterexample;
 
 /// What to print of an analysis.
 #[derive(Clone, Copy, Debug, PartialEq, Eq)]
@@ -38,6 +39,17 @@ pub fn path(chart: &Chart, analysis: &Analysis) -> Vec<u8> {
     text
 }
 
+/// The counterexample that was found, or that there is none of so many moves.
+pub fn search_text(chart: &Chart, bound: usize, found: Option<&Counterexample>) -> Vec<u8> {
+    let mut text = Vec::new();
+    match found {
+        None => writeln!(text, "none\t{bound}"),
+        Some(found) => write_counterexample(&mut text, chart, found),
+    }
+    .expect("a vector takes every write");
+    text
+}
+
 pub fn refusal_line(refusal: Refusal) -> Vec<u8> {
     format!("refused\t{}\t{}\n", refusal.reason as u32, refusal.line).into_bytes()
 }
@@ -67,6 +79,22 @@ fn write_path(text: &mut Vec<u8>, chart: &Chart, analysis: &Analysis) -> std::io
     })
 }
 
+fn write_counterexample(
+    text: &mut Vec<u8>,
+    chart: &Chart,
+    found: &Counterexample,
+) -> std::io::Result<()> {
+    writeln!(text, "run\t{}", found.length())?;
+    let moves = found.moves.iter().map(|(edge, state)| (Some(*edge), state));
+    for (edge, state) in [(None, &found.start)].into_iter().chain(moves) {
+        write!(text, "{}\t", number(edge))?;
+        write_state(text, chart, state)?;
+        writeln!(text)?;
+    }
+    // There is no state after it.
+    found.overrun.map_or(Ok(()), |edge| writeln!(text, "{}", edge.0))
+}
+
 /// Edges count from 1, so that 0 says that there is none.
 fn number(edge: Option<EdgeId>) -> usize {
     edge.map_or(0, |edge| edge.0)
@@ -78,8 +106,13 @@ fn write_slot(
     analysis: &Analysis,
     slot: SlotId,
 ) -> std::io::Result<()> {
-    let row = analysis.reached.row(slot);
     write!(text, "{}\t", slot.0)?;
+    write_state(text, chart, analysis.reached.row(slot))?;
+    text.write_all(if analysis.waitlist.contains(slot) { b"\tw\n" } else { b"\t-\n" })
+}
+
+/// The location's name and the values.
+fn write_state(text: &mut Vec<u8>, chart: &Chart, row: &[i32]) -> std::io::Result<()> {
     text.write_all(chart.location(location_of(row)).name.as_bytes())?;
     for &value in &row[1..] {
         match value {
@@ -87,7 +120,7 @@ fn write_slot(
             value => write!(text, "\t{value}")?,
         }
     }
-    text.write_all(if analysis.waitlist.contains(slot) { b"\tw\n" } else { b"\t-\n" })
+    Ok(())
 }
 
 impl Merge {

@@ -19,6 +19,25 @@ const JUNK_RECORD: Record = Record {
     edge: 999,
 };
 
+/// The answer of a search, which is lent the chart's words alone, and the text.
+pub fn search(chart: &[i32], bound: i32, space: usize) -> (Answer, Vec<u8>) {
+    written(space, |bytes| calls::search(chart, bound, bytes))
+}
+
+/// The text that a call writes into a space of so many bytes.
+fn written(space: usize, call: impl FnOnce(&mut [u8]) -> (Answer, usize)) -> (Answer, Vec<u8>) {
+    const UNTOUCHED: u8 = 0xA5;
+    let mut bytes = vec![UNTOUCHED; space];
+    let (answer, length) = call(&mut bytes);
+    assert!(answer == Answer::DONE || length == 0, "a refused text has no length");
+    assert!(
+        bytes[length..].iter().all(|&byte| byte == UNTOUCHED),
+        "bytes past a text's end are untouched"
+    );
+    bytes.truncate(length);
+    (answer, bytes)
+}
+
 #[derive(Clone, Debug, PartialEq, Eq)]
 pub struct Memory {
     pub chart: Vec<i32>,
@@ -76,21 +95,11 @@ impl Memory {
     }
 
     pub fn report(&self, report: Report, space: usize) -> (Answer, Vec<u8>) {
-        const UNTOUCHED: u8 = 0xA5;
         let call = match report {
             Report::Listing => calls::listing,
             Report::Path => calls::path,
         };
-        let mut bytes = vec![UNTOUCHED; space];
-        let (answer, length) =
-            call(&self.chart, &self.table, &self.waitlist, &self.record, &mut bytes);
-        assert!(answer == Answer::DONE || length == 0, "a refused text has no length");
-        assert!(
-            bytes[length..].iter().all(|&byte| byte == UNTOUCHED),
-            "bytes past a text's end are untouched"
-        );
-        bytes.truncate(length);
-        (answer, bytes)
+        written(space, |bytes| call(&self.chart, &self.table, &self.waitlist, &self.record, bytes))
     }
 
     /// Makes a call and checks what holds of all: refused, it changes nothing;

@@ -1,10 +1,12 @@
-//! The walk program: one go line and one chart in, one listing, path or refusal out.
+//! The walk program: one go line and one chart in, one listing, path or refusal out; or one chart in, and what a
+//! search finds out.
 
 use crate::analysis::{check_budget, check_settings, Analysis, Merge, Order, Settings, Stop};
 use crate::chart::Chart;
 use crate::listing::{refusal_line, Report};
 use crate::reader;
 use crate::refusal::{Reason, Refusal};
+use crate::search::{self, check_bound};
 use crate::text;
 
 /// The go line's end must be among so many bytes.
@@ -17,18 +19,42 @@ pub struct GoLine {
     pub budget: u32,
 }
 
-/// What the program's arguments ask it to print of an input; help, and what it says of other arguments,
-/// are the program's own.
-pub fn asked(arguments: &[impl AsRef<[u8]>]) -> Option<Report> {
+/// What the program's arguments ask it to print of an input.
+#[derive(Clone, Copy, Debug, PartialEq, Eq)]
+pub enum Asked<'a> {
+    Report(Report),
+    /// With the bound as it is written.
+    Search(&'a [u8]),
+}
+
+/// Help, and what the program says of other arguments, are its own.
+pub fn asked(arguments: &[impl AsRef<[u8]>]) -> Option<Asked<'_>> {
     match arguments {
-        [] => Some(Report::Listing),
-        [word] if word.as_ref() == b"path" => Some(Report::Path),
+        [] => Some(Asked::Report(Report::Listing)),
+        [word] if word.as_ref() == b"path" => Some(Asked::Report(Report::Path)),
+        [word, bound] if word.as_ref() == b"search" => Some(Asked::Search(bound.as_ref())),
         _ => None,
+    }
+}
+
+impl Asked<'_> {
+    pub fn respond(self, input: &[u8]) -> Vec<u8> {
+        match self {
+            Asked::Report(report) => respond(report, input),
+            Asked::Search(bound) => search(bound, input).unwrap_or_else(refusal_line),
+        }
     }
 }
 
 pub fn respond(report: Report, input: &[u8]) -> Vec<u8> {
     printed(report, &walk(input))
+}
+
+/// The bound is judged before the chart, as line 0: a number in form only, its size by 30.
+fn search(bound: &[u8], file: &[u8]) -> Result<Vec<u8>, Refusal> {
+    let bound = check_bound(text::number(bound).ok_or(Reason::Malformed)?)?;
+    let chart = reader::read(file)?;
+    Ok(search::search(&chart, bound)?)
 }
 
 /// A chart and its analysis, as far as the budget goes, or why there is none.

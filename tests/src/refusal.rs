@@ -23,6 +23,8 @@ pub enum Reason {
     Finished = 22,
     IterationLimit = 23,
     NoAlarm = 24,
+    SearchBound = 30,
+    SearchSize = 31,
 }
 
 /// A reason and the line it applies to, counted from 1; 0 where none does.

@@ -1,6 +1,8 @@
-//! Whether a printed path is a way through the chart to the alarm, judged by the chart and the texts alone.
+//! Whether a printed path is a way through the chart to the alarm, and a printed run one of the chart, judged by the
+//! chart and the texts alone.
 
 use crate::chart::{Chart, EdgeId, Location, LocationId};
+use crate::concrete::{for_each_move, overruns, State};
 use crate::domain::{transfer, Move, TOP};
 
 /// One line of a path.
@@ -80,6 +82,142 @@ pub fn check_way(chart: &Chart, listing: &[u8], path: &[u8]) -> Result<(), Strin
     (edge.from == last.location && is_raised)
         .then_some(())
         .ok_or("the alarm edge does not lead from the last slot to an alarm".to_string())
+}
+
+/// Fails with what is wrong in the run that a search shows; else how many moves it has.
+pub fn check_run(chart: &Chart, text: &[u8]) -> Result<usize, String> {
+    let lines = lines(text)?;
+    let moves = match fields(lines[0])[..] {
+        ["run", moves] => number(moves)?,
+        _ => return Err(format!("{} is no header", lines[0])),
+    };
+    if lines.len() != moves + 2 {
+        return Err(format!("{} lines for {moves} moves", lines.len()));
+    }
+    let mut before: Option<State> = None;
+    for (place, line) in lines[1..].iter().enumerate() {
+        let wrong = |what: &str| Err(format!("{line}: {what}"));
+        let fields = fields(line);
+        let edge: usize = number(fields[0])?;
+        let Some(state) = &before else {
+            let state = concrete_state(chart, &fields[1..])?;
+            let is_initial = (chart.variables.iter().zip(&state[1..])).all(|(variable, value)| {
+                variable.init.map_or(variable.contains(*value), |init| init == *value)
+            });
+            if edge != 0 || state[0] != Chart::START.0 as i32 || !is_initial {
+                return wrong("it does not begin a run");
+            }
+            before = Some(state);
+            continue;
+        };
+        if !(1..=chart.edges.len()).contains(&edge) {
+            return wrong("there is no such edge");
+        }
+        let edge = chart.edge(EdgeId(edge));
+        if edge.from.0 as i32 != state[0] || chart.location(edge.from).is_error {
+            return wrong("its edge does not leave the state before");
+        }
+        if fields.len() == 1 && place == moves {
+            return match overruns(chart, edge, state) {
+                true => Ok(moves),
+                false => wrong("it does not overrun"),
+            };
+        }
+        let after = concrete_state(chart, &fields[1..])?;
+        let mut is_made = false;
+        for_each_move(chart, edge, state, |made| is_made |= made == after);
+        if !is_made {
+            return wrong("its edge does not make it of the state before");
+        }
+        before = Some(after);
+    }
+    let is_error =
+        before.is_some_and(|state| chart.location(LocationId(state[0] as usize)).is_error);
+    is_error.then_some(moves).ok_or("it does not end at an error location".to_string())
+}
+
+/// A location's name and the values.
+fn concrete_state(chart: &Chart, fields: &[&str]) -> Result<State, String> {
+    let [name, values @ ..] = fields else {
+        return Err("no location".to_string());
+    };
+    if values.len() != chart.variables.len() {
+        return Err(format!("{} values", values.len()));
+    }
+    let is_named = |location: &Location| location.name.as_bytes() == name.as_bytes();
+    let location =
+        chart.locations.iter().position(is_named).ok_or(format!("no location {name}"))?;
+    let values: Vec<i32> = values.iter().map(|value| number(value)).collect::<Result<_, _>>()?;
+    Ok([&[location as i32], &values[..]].concat())
+}
+
+/// What an analysis that knows every value says of the runs of at most so many moves.
+#[derive(Clone, Copy, Debug, PartialEq, Eq, PartialOrd, Ord)]
+pub enum Exact {
+    Safe,
+    /// A run is shown that comes to the alarm.
+    Within,
+    /// The path to the alarm has more moves.
+    Beyond,
+    /// Out of room, or unfinished.
+    Nothing,
+}
+
+/// Fails where a search of at most `bound` moves does not agree with the listing and the path of an analysis, with
+/// merge and stop sep, of a chart without `*` and without an input of several values: each of its states is concrete.
+pub fn check_exact(
+    listing: &[u8],
+    path: &[u8],
+    search: &[u8],
+    bound: usize,
+) -> Result<Exact, String> {
+    let (listing, search) = (lines(listing)?, lines(search)?);
+    let none = format!("none\t{bound}");
+    let (order, alarm_edge) = match fields(listing[0])[..] {
+        ["walk", "sep", "sep", _, "safe", ..] if search == [&none[..]] => return Ok(Exact::Safe),
+        ["walk", "sep", "sep", order, "alarm", _, _, edge] => (order, edge),
+        ["walk", "sep", "sep", _, "room" | "open", ..] => return Ok(Exact::Nothing),
+        _ => return Err(format!("{} beside {}", listing[0], search[0])),
+    };
+    // A path's lines but for the slot and whether it waits.
+    let path = lines(path)?;
+    let states = path[1..].iter().map(|line| {
+        let fields = fields(line);
+        [&fields[..1], &fields[2..fields.len() - 1]].concat().join("\t")
+    });
+    let mut steps: Vec<String> = states.collect();
+    let moves = steps.len() - usize::from(alarm_edge == "0");
+    if moves > bound {
+        // Oldest first, no slot is followed before those of fewer moves.
+        let is_none = search == [&none[..]];
+        return match order == "new" || is_none {
+            true => Ok(Exact::Beyond),
+            false => Err(format!("{} though the alarm has {moves} moves", search[0])),
+        };
+    }
+    let found: usize = match fields(search[0])[..] {
+        ["run", found] => number(found)?,
+        _ => return Err(format!("{} though the alarm has {moves} moves", search[0])),
+    };
+    if order == "new" {
+        return match found <= moves {
+            true => Ok(Exact::Within),
+            false => Err(format!("{found} moves, though the alarm has {moves}")),
+        };
+    }
+    // Of the last state the path has the edge alone.
+    if alarm_edge != "0" {
+        steps.push(alarm_edge.to_string());
+    }
+    let is_alike = |(line, step): (&&str, &String)| match line.strip_prefix(&step[..]) {
+        Some(rest) => rest.is_empty() || (*step == alarm_edge && rest.starts_with('\t')),
+        None => false,
+    };
+    let are_alike = search.len() == steps.len() + 1 && search[1..].iter().zip(&steps).all(is_alike);
+    match found == moves && are_alike {
+        true => Ok(Exact::Within),
+        false => Err(format!("{search:?} beside {path:?}")),
+    }
 }
 
 fn lines(text: &[u8]) -> Result<Vec<&str>, String> {

@@ -3,6 +3,8 @@
 use std::fs;
 use std::path::{Path, PathBuf};
 
+use crate::program::{asked, chart_part, Asked};
+
 /// `NAME.in` and `NAME.out` of one folder, or the `NAME.path` beside them.
 #[derive(Clone, Debug)]
 pub struct Worked {
@@ -13,9 +15,19 @@ pub struct Worked {
     pub output: Vec<u8>,
 }
 
+impl Worked {
+    /// The input without its go line; a search has none.
+    pub fn chart_file(&self) -> &[u8] {
+        match asked(&self.arguments) {
+            Some(Asked::Search(_)) => &self.input,
+            _ => chart_part(&self.input),
+        }
+    }
+}
+
 /// The worked cases of `tests/cases`.
 pub fn cases() -> Vec<Worked> {
-    in_folder("cases", 401)
+    in_folder("cases", 459)
 }
 
 /// The charts of `examples` that a trainer would know.

@@ -1,7 +1,10 @@
 //! The worked cases and the examples: each input fed to the walk program, byte for byte.
 
+use std::fs;
+use std::path::Path;
+
 use reference::explorer::Explorer;
-use reference::program::{asked, chart_part, respond};
+use reference::program::asked;
 use reference::reader;
 use reference::worked::{cases, example_paths, examples, Worked};
 
@@ -25,10 +28,26 @@ fn every_path_of_an_example_is_what_is_expected() {
     assert_prints(&example_paths());
 }
 
+/// Each has its search beside it, of at most 8 moves; `program/tests/search.rs` holds the program to the walker there.
+#[test]
+fn every_search_of_an_example_is_what_is_expected() {
+    let search = |example: Worked| {
+        let path = format!("../examples/{}.search", example.name);
+        Worked {
+            arguments: ["search", "8"].map(String::from).to_vec(),
+            input: example.chart_file().to_vec(),
+            output: fs::read(Path::new(env!("CARGO_MANIFEST_DIR")).join(path))
+                .expect("each example has a search"),
+            ..example
+        }
+    };
+    assert_prints(&examples().into_iter().map(search).collect::<Vec<_>>());
+}
+
 fn assert_prints(all: &[Worked]) {
     let prints = |worked: &Worked| {
-        let report = asked(&worked.arguments).expect("the arguments ask for something");
-        respond(report, &worked.input) == worked.output
+        let asked = asked(&worked.arguments).expect("the arguments ask for something");
+        asked.respond(&worked.input) == worked.output
     };
     let differing: Vec<&str> =
         all.iter().filter(|worked| !prints(worked)).map(|worked| worked.name.as_str()).collect();
@@ -63,7 +82,7 @@ fn every_example_means_what_its_description_says() {
 }
 
 fn found(example: &Worked) -> (String, String, bool) {
-    let chart = reader::read(chart_part(&example.input)).expect("an example is accepted");
+    let chart = reader::read(example.chart_file()).expect("an example is accepted");
     let explorer = Explorer::new(&chart, 200_000).expect("an example has few states");
     let is_wrong = explorer.reaches_error() || explorer.overruns();
     (example.name.clone(), verdict(example), is_wrong)

@@ -1,6 +1,6 @@
 //! The generators reach everything there is to compare: every operation and
 //! relation, every refusal number, every verdict and every corner of an analysis,
-//! of a begin and of a path; and neither overruns nor safe charts are rare.
+//! of a begin, of a path and of a search; and neither overruns nor safe charts are rare.
 
 use std::ops::RangeInclusive;
 
@@ -8,18 +8,25 @@ use reference::analysis::{Analysis, Merge, Verdict};
 use reference::begins::{begin_corners, begin_corners_of, spent_corner_of, spent_corners};
 use reference::chart::{Chart, Operand, Operation};
 use reference::coverage::{
-    corner_labels, corner_labels_of, path_labels, program_label, program_labels, Met,
+    corner_labels, corner_labels_of, path_labels, program_label, program_labels, search_labels, Met,
 };
 use reference::explorer::Explorer;
 use reference::listing::Report;
 use reference::paths::{alarm_corners, alarm_corners_of, path_corners, path_corners_of};
-use reference::program::{printed, read_go_line, walk};
+use reference::program::{printed, read_go_line, walk, Asked};
 use reference::random::charts::small;
-use reference::random::{calls, count_at_least, inputs, permitted_settings, seed, Random};
+use reference::random::{
+    calls, count_at_least, inputs, permitted_settings, searches, seed, Random,
+};
+use reference::reader;
+use reference::search::check_bound;
+use reference::searches::{found_corners, found_corners_of, search_corners, search_corners_of};
+use reference::text;
 
 const INPUTS: usize = 14_000;
 const BEGINS: usize = 8_000;
 const PATHS: usize = 10_000;
+const SEARCHES: usize = 15_000;
 /// Of each, so that another seed finds it too.
 const FEWEST: usize = 20;
 /// Of what becomes of a budget.
@@ -71,6 +78,32 @@ fn begins_meet_every_corner() {
         corners.add_all(begin_corners_of(begin, &lent));
     }
     corners.assert_exactly(&begin_corners(), FEWEST);
+}
+
+#[test]
+fn search_calls_meet_every_corner() {
+    let mut random = Random::new(seed() ^ 6);
+    let mut corners = Met::new();
+    for _ in 0..count_at_least(SEARCHES) {
+        corners.add_all(search_corners_of(&searches::search(&mut random)));
+    }
+    corners.assert_exactly(&search_corners(), FEWEST);
+}
+
+#[test]
+fn search_inputs_meet_every_refusal_and_corner() {
+    let mut random = Random::new(seed() ^ 7);
+    let (mut met, mut corners) = (Met::new(), Met::new());
+    for _ in 0..count_at_least(SEARCHES) {
+        let (bound, file) = searches::program_input(&mut random);
+        met.add(program_label(&Asked::Search(bound.as_bytes()).respond(&file)));
+        let bound = text::number(bound.as_bytes()).and_then(|bound| check_bound(bound).ok());
+        if let (Some(bound), Ok(chart)) = (bound, reader::read(&file)) {
+            corners.add_all(found_corners_of(&chart, bound));
+        }
+    }
+    met.assert_exactly(&search_labels(), FEWEST);
+    corners.assert_exactly(&found_corners(), FEWEST);
 }
 
 fn assert_share(what: &str, part: usize, whole: usize, percent: RangeInclusive<usize>) {

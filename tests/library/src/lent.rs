@@ -1,6 +1,7 @@
 //! All that is lent to the library's calls, kept together for tests that hold them to the documents.
 
-use reference::encoding::MAX_WORDS;
+use reference::calls::held_chart;
+use reference::encoding::{encode, MAX_WORDS};
 use reference::memory::{Memory, JUNK};
 
 use crate::{files, Record, Reply, Report, Settings, LIBRARY};
@@ -68,15 +69,30 @@ impl Lent {
     }
 
     fn report(&self, call: Report, space: usize) -> (u32, Vec<u8>) {
-        let mut bytes = vec![UNTOUCHED; space];
-        let reply = call(&self.chart, self.record, &self.table, &self.list, &mut bytes);
-        let Reply { number, line, length } = reply;
-        assert_eq!(line, 0);
-        assert!(number == 0 || length == 0, "a refused call has no length");
-        assert!(bytes[length..].iter().all(|&byte| byte == UNTOUCHED), "bytes past the end");
-        bytes.truncate(length);
-        (number, bytes)
+        written(space, |bytes| call(&self.chart, self.record, &self.table, &self.list, bytes))
     }
+}
+
+/// The number that a search answers, and the text that is written into so many bytes.
+pub fn search(chart: &[i32], bound: i32, space: usize) -> (u32, Vec<u8>) {
+    written(space, |bytes| (LIBRARY.search)(chart, bound, bytes))
+}
+
+fn written(space: usize, call: impl FnOnce(&mut [u8]) -> Reply) -> (u32, Vec<u8>) {
+    let mut bytes = vec![UNTOUCHED; space];
+    let Reply { number, line, length } = call(&mut bytes);
+    assert_eq!(line, 0);
+    assert!(number == 0 || length == 0, "a refused call has no length");
+    assert!(bytes[length..].iter().all(|&byte| byte == UNTOUCHED), "bytes past the end");
+    bytes.truncate(length);
+    (number, bytes)
+}
+
+/// The words of the chart that a file reads to, and no more.
+pub fn words(file: &[u8]) -> Vec<i32> {
+    let words = Lent::new(file, 0, 0).chart;
+    let chart = held_chart(&words).expect("the chart is as it was read");
+    words[..encode(&chart).len()].to_vec()
 }
 
 impl From<Memory> for Lent {

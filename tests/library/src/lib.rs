@@ -5,7 +5,7 @@ pub mod files;
 pub mod lent;
 pub mod walker;
 
-/// What a call answers: 0 and line 0 with the length of a listing or path, or the refusal's number and line.
+/// What a call answers: 0 and line 0 with the length of a text, or the refusal's number and line.
 #[repr(C)]
 #[derive(Clone, Copy, Debug, PartialEq, Eq)]
 pub struct Reply {
@@ -91,6 +91,8 @@ pub type Begin = fn(&[i32], Settings, i32, i32, Record, &mut [i32], &mut [i32]) 
 pub type Run = fn(&[i32], i32, Record, &mut [i32], &mut [i32]) -> Called;
 /// A listing or a path.
 pub type Report = fn(&[i32], Record, &[i32], &[i32], &mut [u8]) -> Reply;
+/// The number is the bound.
+pub type Search = fn(&[i32], i32, &mut [u8]) -> Reply;
 
 /// The calls of one of the two, to compare and to time them.
 #[derive(Clone, Copy)]
@@ -100,9 +102,10 @@ pub struct Calls {
     pub run: Run,
     pub listing: Report,
     pub path: Report,
+    pub search: Search,
 }
 
-pub const LIBRARY: Calls = Calls { read, begin, run, listing, path };
+pub const LIBRARY: Calls = Calls { read, begin, run, listing, path, search };
 
 /// A slice passes as its pointer and its length.
 mod linked {
@@ -159,6 +162,13 @@ mod linked {
             table_length: usize,
             list: *const i32,
             list_length: usize,
+            space: *mut u8,
+            space_length: usize,
+        ) -> Reply;
+        pub fn tarknotter_search(
+            chart: *const i32,
+            chart_length: usize,
+            k: i32,
             space: *mut u8,
             space_length: usize,
         ) -> Reply;
@@ -265,6 +275,21 @@ pub fn path(chart: &[i32], record: Record, table: &[i32], list: &[i32], space: &
             table.len(),
             list.as_ptr(),
             list.len(),
+            space.as_mut_ptr(),
+            space.len(),
+        )
+    }
+}
+
+/// Writes the shortest run into an error location or an overrun, of at most `bound` moves, to the beginning of
+/// `space`, or that there is none.
+pub fn search(chart: &[i32], bound: i32, space: &mut [u8]) -> Reply {
+    // SAFETY: each pointer and length are those of one slice, and the two slices do not overlap.
+    unsafe {
+        linked::tarknotter_search(
+            chart.as_ptr(),
+            chart.len(),
+            bound,
             space.as_mut_ptr(),
             space.len(),
         )

@@ -5,7 +5,7 @@ use reference::calls::{self, Answer};
 
 use crate::{Called, Calls, Record, Reply, Settings};
 
-pub const WALKER: Calls = Calls { read, begin, run, listing, path };
+pub const WALKER: Calls = Calls { read, begin, run, listing, path, search };
 
 /// By their codes.
 const MERGES: [Merge; 2] = [Merge::Sep, Merge::Join];
@@ -59,6 +59,11 @@ pub fn listing(
 
 pub fn path(chart: &[i32], record: Record, table: &[i32], list: &[i32], space: &mut [u8]) -> Reply {
     let (answer, length) = calls::path(chart, table, list, &held(&record), space);
+    Reply { length, ..Reply::from(answer) }
+}
+
+pub fn search(chart: &[i32], bound: i32, space: &mut [u8]) -> Reply {
+    let (answer, length) = calls::search(chart, bound, space);
     Reply { length, ..Reply::from(answer) }
 }
 

@@ -50,6 +50,54 @@ fn a_c_program_walks_case_a() {
     }
 }
 
+/// Every bound, with bytes that are just enough and just not, as the walker has it.
+#[test]
+fn a_c_program_searches() {
+    let overrun: &[u8] = b"V\tx\t0\t4\t*\nL\ta\to\nL\tb\to\nE\t0\t0\tset\t$0\t0\nE\t0\t1\tin\t$0\t1\t3\nE\t1\t1\tadd\t$0\t$0\t2\n";
+    let wide: &[u8] = b"V\tx\t0\t4096\t*\nL\ta\to\n";
+    let all = [files::case_a(), overrun, wide].map(|file| (file, searches(file)));
+    for (place, part) in [
+        (0, "search 8: 0 0 7, 0 touched\nnone\t8\n"),
+        (1, "run\t2\n0\ta\t0\n2\tb\t3\n3\n"),
+        (1, "search 2: 15 0 0, 0 touched\n"),
+        (1, "search -1: 30 0 0, 0 touched\n"),
+        (1, "search 9: 30 0 0, 0 touched\n"),
+        (1, "search 8: 20 0 0, 0 touched\n"),
+        (2, "search 8: 31 0 0, 0 touched\n"),
+    ] {
+        assert!(all[place].1.contains(part), "{part} is not in\n{}", all[place].1);
+    }
+    for compiler in COMPILERS {
+        let program = compiled("search", compiler);
+        for (file, expected) in &all {
+            assert_eq!(output(&program, file), *expected, "{compiler:?}");
+        }
+    }
+}
+
+/// What `c/search.c` prints, by the walker's calls.
+fn searches(file: &[u8]) -> String {
+    let mut chart = vec![0; MAX_WORDS];
+    let Reply { number, line, length } = (WALKER.read)(file, &mut chart);
+    let mut text = format!("read: {number} {line} {length}\n");
+    let mut search = |chart: &[i32], bound: i32, lent: usize| {
+        let mut space = vec![0; lent];
+        let Reply { number, line, length } = (WALKER.search)(chart, bound, &mut space);
+        text += &format!("search {bound}: {number} {line} {length}, 0 touched\n");
+        text += std::str::from_utf8(&space[..length]).expect("it is text");
+        length
+    };
+    for bound in -1..=9 {
+        let written = search(&chart, bound, Shown::SPACE);
+        if written > 0 {
+            search(&chart, bound, written);
+            search(&chart, bound, written - 1);
+        }
+    }
+    search(&chart[..3], 8, Shown::SPACE);
+    text
+}
+
 /// What `c/walk.c` prints, by the walker's calls.
 struct Shown {
     chart: Vec<i32>,

@@ -5,7 +5,6 @@ use library::{files, read, well_formed, Reply};
 use reference::calls;
 use reference::coverage::Met;
 use reference::encoding::{encode, MAX_WORDS};
-use reference::program::chart_part;
 use reference::random::{count_at_least, damage, inputs, seed, Random};
 use reference::reader;
 use reference::renderer::render;
@@ -83,7 +82,7 @@ fn every_case_and_example_is_read_alike() {
     let mut random = Random::new(seed() ^ 1);
     let mut held = 0;
     for worked in cases().into_iter().chain(examples()) {
-        let file = chart_part(&worked.input);
+        let file = worked.chart_file();
         compare(&mut random, file, MAX_WORDS + 1);
         if let Some(expected) = printed_reply(&String::from_utf8_lossy(&worked.output)) {
             assert_eq!(read(file, &mut vec![0; MAX_WORDS]), expected, "{}", worked.name);
@@ -94,11 +93,11 @@ fn every_case_and_example_is_read_alike() {
     assert!(held > 150);
 }
 
-/// What the output of a case says of the read call; nothing where the go line may have been refused.
+/// What the output of a case says of the read call; nothing where the go line or an argument may have been refused.
 fn printed_reply(output: &str) -> Option<Reply> {
     let mut fields = output.trim_end().split('\t');
     match fields.next() {
-        Some("walk" | "path") => Some(Reply { number: 0, line: 0, length: 0 }),
+        Some("walk" | "path" | "run" | "none") => Some(Reply { number: 0, line: 0, length: 0 }),
         _ => {
             let mut numbers = fields.map(|field| field.parse().expect("a number"));
             let (number, line) = (numbers.next()?, numbers.next()?);

@@ -1,4 +1,4 @@
-//! What the walk program is started with: a listing without an argument, a path, help, and one line on
+//! What the walk program is started with: a listing without an argument, a path, a search, help, and one line on
 //! standard error for all else; and the hint on standard error where it waits for somebody to type.
 
 mod calls;
@@ -14,12 +14,19 @@ use std::process::{Child, Command, Output, Stdio};
 
 use calls::with_calls;
 use program::{command, ended, has_said, said, system};
-use reference::listing::Report;
-use reference::program::respond;
+use reference::program::asked;
 
 /// An alarm, so that a path is printed.
 const INPUT: &[u8] = b"go\tjoin\tjoin\tnew\t16\t100\nL\ta\to\nL\tb\te\nE\t0\t1\tskip\n";
-const REPORTS: [(&[&str], Report); 2] = [(&[], Report::Listing), (&["path"], Report::Path)];
+/// Without a go line, and with a run of one move.
+const CHART: &[u8] = b"L\ta\to\nL\tb\te\nE\t0\t1\tskip\n";
+/// Arguments and an input for them.
+const COMMANDS: [(&[&str], &[u8]); 3] =
+    [(&[], INPUT), (&["path"], INPUT), (&["search", "3"], CHART)];
+
+fn expected(arguments: &[&str], input: &[u8]) -> Vec<u8> {
+    asked(arguments).expect("they ask for something").respond(input)
+}
 
 fn shown(bytes: &[u8]) -> String {
     bytes.escape_ascii().to_string()
@@ -38,7 +45,9 @@ fn assert_helps(ended: &Output) {
     assert_eq!(shown(&ended.stderr), "");
     let text = std::str::from_utf8(&ended.stdout).expect("help is text");
     assert!(text.ends_with('\n'), "{text}");
-    assert!(text.contains("walk path"), "{text}");
+    for command in ["walk path", "walk search"] {
+        assert!(text.contains(command), "{command} is not in {text}");
+    }
 }
 
 /// Whatever is wrong in the input: refusals come before the path, and without an alarm it is 24.
@@ -61,6 +70,30 @@ fn a_path_or_why_there_is_none() {
         ),
     ] {
         assert_eq!(path(&input), shown(expected.as_bytes()), "{input}");
+    }
+}
+
+/// The bound is judged before the chart, and its form before its size; the chart before its size.
+#[test]
+fn a_run_or_why_there_is_none() {
+    const WIDE: &str = "V\tx\t0\t4096\t*\nL\ta\to\n";
+    let search =
+        |bound: &str, input: &str| shown(&program::output(&["search", bound], input.as_bytes()));
+    for (bound, input, expected) in [
+        ("x", "V", "refused\t6\t0\n"),
+        ("", "", "refused\t6\t0\n"),
+        ("08", WIDE, "refused\t6\t0\n"),
+        ("9", "V", "refused\t30\t0\n"),
+        ("-1", WIDE, "refused\t30\t0\n"),
+        ("8", "V", "refused\t3\t1\n"),
+        ("8", "", "refused\t8\t0\n"),
+        ("0", WIDE, "refused\t31\t0\n"),
+        ("0", &WIDE[..WIDE.len() - 2], "refused\t3\t2\n"),
+        ("0", "L\ta\to\n", "none\t0\n"),
+        ("8", "L\ta\te\n", "run\t0\n0\ta\n"),
+        ("1", "V\tx\t0\t1\t*\nL\ta\to\nE\t0\t0\tadd\t$0\t$0\t1\n", "run\t1\n0\ta\t1\n1\n"),
+    ] {
+        assert_eq!(search(bound, input), shown(expected.as_bytes()), "{bound}, {input}");
     }
 }
 
@@ -157,6 +190,27 @@ fn other_arguments() -> Vec<Vec<Vec<u8>>> {
         &["", ""],
         &["x", "path"],
         &["pa", "th"],
+        &["search"],
+        &["search", "1", "2"],
+        &["search", "1", ""],
+        &["search", "", ""],
+        &["search", "1", "search", "1"],
+        &["search1"],
+        &["search 1"],
+        &["search\n1"],
+        &["Search", "1"],
+        &["searc", "1"],
+        &["searchx", "1"],
+        &["search ", "1"],
+        &["search\n", "1"],
+        &[" search", "1"],
+        &["tearch", "1"],
+        &["searci", "1"],
+        &["1", "search"],
+        &["path", "1"],
+        &["help", "1"],
+        &["", "1"],
+        &["1"],
     ] {
         all.push(words.iter().map(|word| word.as_bytes().to_vec()).collect());
     }
@@ -199,10 +253,10 @@ fn other_arguments_are_told_whatever_the_input() {
 /// Its name is no argument, even one that looks like it.
 #[test]
 fn the_name_of_the_program_is_no_argument() {
-    for name in ["path", "help", "", "x"] {
-        for (arguments, report) in REPORTS {
-            let ended = ended(command().arg0(name).args(arguments), &[INPUT]);
-            assert_eq!(shown(&ended.stdout), shown(&respond(report, INPUT)), "{name}");
+    for name in ["path", "search", "help", "", "x"] {
+        for (arguments, input) in COMMANDS {
+            let ended = ended(command().arg0(name).args(arguments), &[input]);
+            assert_eq!(shown(&ended.stdout), shown(&expected(arguments, input)), "{name}");
             assert_eq!(shown(&ended.stderr), "", "{name}");
         }
     }
@@ -211,14 +265,14 @@ fn the_name_of_the_program_is_no_argument() {
 /// Before anything is read: nothing is there to be read until the hint has come.
 #[test]
 fn a_terminal_is_given_a_hint() {
-    for (arguments, report) in REPORTS {
+    for (arguments, input) in COMMANDS {
         let mut command = with_calls(&[("TERMINAL", 1)]);
         let mut running = command.args(arguments).spawn().expect("the program can be started");
         assert_says_first(&mut running);
         let mut stdin = running.stdin.take().expect("its input is piped");
-        stdin.write_all(INPUT).expect("it reads its input");
+        stdin.write_all(input).expect("it reads its input");
         drop(stdin);
-        assert_hinted(&said(running), report);
+        assert_hinted(&said(running), arguments, input);
     }
 }
 
@@ -228,8 +282,8 @@ fn assert_says_first(running: &mut Child) {
     assert!(has_said(&stderr, running), "it ended without a hint");
 }
 
-fn assert_hinted(ended: &Output, report: Report) {
-    assert_eq!(shown(&ended.stdout), shown(&respond(report, INPUT)));
+fn assert_hinted(ended: &Output, arguments: &[&str], input: &[u8]) {
+    assert_eq!(shown(&ended.stdout), shown(&expected(arguments, input)));
     let hint = std::str::from_utf8(&ended.stderr).expect("the hint is text");
     assert!(hint.ends_with('\n') && hint.trim().len() > 1, "{hint}");
 }
@@ -237,13 +291,13 @@ fn assert_hinted(ended: &Output, report: Report) {
 /// As above with a real one, of which what is typed is read line by line up to a control-D.
 #[test]
 fn a_real_terminal_is_given_a_hint() {
-    for (arguments, report) in REPORTS {
+    for (arguments, input) in COMMANDS {
         let (mut typing, reading) = system::terminal();
         let mut running =
             command().args(arguments).stdin(reading).spawn().expect("the program can be started");
         assert_says_first(&mut running);
-        typing.write_all(&[INPUT, b"\x04"].concat()).expect("the terminal takes it");
-        assert_hinted(&said(running), report);
+        typing.write_all(&[input, b"\x04"].concat()).expect("the terminal takes it");
+        assert_hinted(&said(running), arguments, input);
     }
 }
 
@@ -254,18 +308,20 @@ fn help_and_other_arguments_have_no_hint() {
     assert_helps(&ended(terminal().arg("help"), &[]));
     assert_one_line(&ended(terminal().arg("pathx"), &[]), "pathx");
     assert_one_line(&ended(terminal().args(["path", "x"]), &[]), "path x");
+    assert_one_line(&ended(terminal().arg("search"), &[]), "search");
+    assert_one_line(&ended(terminal().args(["search", "1", "2"]), &[]), "search 1 2");
 }
 
 /// Where nobody types there is no hint: `output` holds every other test to that, and so does a file.
 #[test]
 fn a_file_is_given_no_hint() {
-    for (arguments, report) in REPORTS {
+    for (arguments, input) in COMMANDS {
         let path = Path::new(env!("CARGO_TARGET_TMPDIR")).join("alarm.in");
-        std::fs::write(&path, INPUT).expect("the input can be written");
+        std::fs::write(&path, input).expect("the input can be written");
         let file = File::open(&path).expect("the input can be opened");
         let running = command().args(arguments).stdin(file).spawn();
         let ended = said(running.expect("the program can be started"));
-        assert_eq!(shown(&ended.stdout), shown(&respond(report, INPUT)));
+        assert_eq!(shown(&ended.stdout), shown(&expected(arguments, input)));
         assert_eq!(shown(&ended.stderr), "");
     }
 }

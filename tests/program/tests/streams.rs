@@ -13,7 +13,7 @@ use std::time::Duration;
 use calls::with_calls;
 use program::{command, ended, has_read, longest, said, system};
 use reference::listing::Report;
-use reference::program::respond;
+use reference::program::{asked, chart_part, respond};
 
 /// Safe as it stands; with `LAST_LINE` an alarm.
 const FIRST_LINES: &[u8] = b"go\tjoin\tjoin\tnew\t16\t100\nL\ta\to\nL\tb\te\n";
@@ -21,11 +21,13 @@ const LAST_LINE: &[u8] = b"E\t0\t1\tskip\n";
 /// The most interruptions in a row of which a call is made again.
 const INTERRUPTIONS: u32 = 1_000_000;
 
-/// What to start the program with, and what it then prints.
-const REPORTS: [(&[&str], Report); 2] = [(&[], Report::Listing), (&["path"], Report::Path)];
-
 fn whole() -> Vec<u8> {
     [FIRST_LINES, LAST_LINE].concat()
+}
+
+/// Arguments and an input for them; a search reads the chart alone.
+fn commands() -> [(&'static [&'static str], Vec<u8>); 3] {
+    [(&[], whole()), (&["path"], whole()), (&["search", "8"], chart_part(&whole()).to_vec())]
 }
 
 fn listed(input: &[u8]) -> Vec<u8> {
@@ -138,11 +140,11 @@ fn a_failed_read_is_no_end_of_input() {
         (11, "Resource temporarily unavailable"),
         (9, "Bad file descriptor"),
     ];
-    for sound in 0..=whole().len() {
-        for (errno, name) in ERRORS {
-            let set = [("READ_SOUND", sound as u32), ("READ_ERRNO", errno)];
-            for (arguments, _) in REPORTS {
-                let ended = ended(with_calls(&set).args(arguments), &[&whole()]);
+    for (arguments, input) in commands() {
+        for sound in 0..=input.len() {
+            for (errno, name) in ERRORS {
+                let set = [("READ_SOUND", sound as u32), ("READ_ERRNO", errno)];
+                let ended = ended(with_calls(&set).args(arguments), &[&input]);
                 assert_said(&ended, b"", &format!("walk: standard input: {name}\n"));
             }
         }
@@ -167,15 +169,15 @@ fn a_full_buffer_is_the_end_of_input() {
 
 #[test]
 fn a_failed_write_is_told() {
-    for (arguments, report) in REPORTS {
-        let expected = respond(report, &whole());
+    for (arguments, input) in commands() {
+        let expected = asked(arguments).expect("they ask for something").respond(&input);
         for sound in 0..expected.len() {
             for (errno, line) in [
                 (5, "walk: standard output: Input/output error\n"),
                 (0, "walk: standard output takes no more\n"),
             ] {
                 let set = [("WRITE_SOUND", sound as u32), ("WRITE_ERRNO", errno)];
-                let ended = ended(with_calls(&set).args(arguments), &[&whole()]);
+                let ended = ended(with_calls(&set).args(arguments), &[&input]);
                 assert_said(&ended, &expected[..sound], line);
             }
         }

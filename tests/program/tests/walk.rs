@@ -1,10 +1,9 @@
 //! The walk program against the reference walker, byte for byte, its listing and its path: the worked
 //! cases, the examples, random inputs, inputs in pieces and inputs of every size.
 
-use std::fs;
-use std::path::Path;
-use std::thread;
+mod compare;
 
+use compare::{assert_prints, each_at_once};
 use program::{longest, longest_path, output, output_of_pieces};
 use reference::coverage::{
     corner_labels, corner_labels_of, path_labels, program_label, program_labels, Met,
@@ -21,20 +20,6 @@ const FEWEST: usize = 5;
 const PIECED_INPUTS: usize = 150;
 /// What to start the program with, and what it then prints.
 const REPORTS: [(&[&str], Report); 2] = [(&[], Report::Listing), (&["path"], Report::Path)];
-
-/// Fails where the program does not print `expected`; the input is then left in a file.
-fn assert_prints(name: &str, printed: &[u8], input: &[u8], expected: &[u8]) {
-    if printed != expected {
-        let kept = Path::new(env!("CARGO_TARGET_TMPDIR")).join(format!("{name}.in"));
-        fs::write(&kept, input).expect("the input can be kept");
-        panic!(
-            "{name}: the program printed\n{}\nand not\n{}\nto {}",
-            printed.escape_ascii(),
-            expected.escape_ascii(),
-            kept.display(),
-        );
-    }
-}
 
 fn assert_prints_each(all: &[Worked]) {
     for worked in all {
@@ -81,16 +66,7 @@ fn random_inputs_print_alike() {
     met_by_path.assert_exactly(&path_labels(), FEWEST);
     paths.assert_exactly(&alarm_corners(), FEWEST);
 
-    let threads = thread::available_parallelism().map_or(1, usize::from);
-    thread::scope(|scope| {
-        for (part, inputs) in all.chunks(all.len().div_ceil(threads)).enumerate() {
-            scope.spawn(move || {
-                for (place, input) in inputs.iter().enumerate() {
-                    assert_alike(&format!("random-{part}-{place}"), input);
-                }
-            });
-        }
-    });
+    each_at_once(&all, |place, input| assert_alike(&format!("random-{place}"), input));
 }
 
 /// A pipe may hand over any part of an input at a time; the program must read on to its end.

@@ -278,6 +278,198 @@ pub fn chain(random: &mut Random) -> Chart {
     Chart { variables: vec![variable], locations, edges }
 }
 
+/// For searches: from location to location several moves that lead on, by inputs, conditions on them or on the
+/// start, and at the end error locations and overruns; and moves that lead nowhere.
+pub fn stairs(random: &mut Random) -> Chart {
+    let variables: Vec<Variable> = (0..random.pick(&[1, 2, 3]))
+        .map(|index| {
+            let low = random.pick(&[-2, -1, -1, 0, 1]);
+            let high = low + random.pick(&[0, 1, 2, 2, 3]);
+            let init = random.percent(50).then(|| random.between(low, high));
+            Variable { name: name(random, index), low, high, init }
+        })
+        .collect();
+    let moves = random.pick(&[1, 2, 3, 4, 4, 5, 5, 6, 6, 7, 7, 8, 8, 9, 9]);
+    // One for each move, one that leads nowhere, and the error location.
+    let locations = ending_in_error(random, moves + 2, 70);
+    let (nowhere, error) = (moves, moves + 1);
+    let operations =
+        Operations { variables: &variables, risk: random.pick(&[0, 0, 5]), has_long_counts: false };
+    let mut edges = Vec::new();
+    let mut lead = |from: usize, to: usize, operation: Operation| {
+        edges.push(Edge { from: LocationId(from), to: LocationId(to), operation });
+    };
+    let limit = random.pick(&[1, 1, 2]);
+    for from in 0..moves {
+        let is_last = from + 1 == moves;
+        for _ in 0..random.between(1, limit + i32::from(moves < 4)) {
+            let target = random.below(variables.len());
+            let operation = match random.below(10) {
+                0..=3 => Operation::Skip,
+                4..=6 => operations::narrow_input(random, target, &variables[target]),
+                _ => operations.condition(random, target),
+            };
+            match is_last && random.percent(50) {
+                true => lead(from, random.below(nowhere + 1), operations.past(random, target)),
+                false => lead(from, if is_last { error } else { from + 1 }, operation),
+            }
+        }
+        if random.percent(15) {
+            let to = random.pick(&[nowhere, nowhere, from, 0]);
+            lead(from, to, operations.passing(random));
+        }
+    }
+    random.shuffle(&mut edges);
+    Chart { variables, locations, edges }
+}
+
+/// For searches: starts that differ in which first moves pass, then an input of which some values lead on.
+pub fn rivals(random: &mut Random) -> Chart {
+    let variable = |random: &mut Random, index: usize, init: Option<i32>| {
+        let low = random.pick(&[-3, -2, -1, -1, 0]);
+        let high = low + random.pick(&[1, 2, 3]);
+        Variable { name: name(random, index), low, high: high.max(0), init }
+    };
+    let variables: Vec<Variable> = [None, None, Some(0)]
+        .into_iter()
+        .enumerate()
+        .map(|(index, init)| variable(random, index, init))
+        .collect();
+    let locations = ending_in_error(random, 4, 70);
+    let operations = Operations { variables: &variables, risk: 0, has_long_counts: false };
+    let compared = |random: &mut Random, target: usize| Operation::If {
+        target,
+        relation: random.pick(&Relation::ALL),
+        right: match random.percent(60) {
+            true => Operand::Variable(random.pick(&[0, 1])),
+            false => Operand::Number(random.between(-2, 2)),
+        },
+    };
+    let mut edges = Vec::new();
+    let mut lead = |from: usize, to: usize, operation: Operation| {
+        edges.push(Edge { from: LocationId(from), to: LocationId(to), operation });
+    };
+    if random.percent(30) {
+        let right = Operand::Variable(1);
+        lead(0, 1, Operation::If { target: 0, relation: Relation::Ne, right });
+    } else {
+        for _ in 0..random.pick(&[1, 2, 3]) {
+            let target = random.pick(&[0, 1]);
+            lead(0, 1, compared(random, target));
+        }
+    }
+    let Variable { low, high, .. } = variables[2];
+    for _ in 0..random.pick(&[1, 1, 2]) {
+        let input = match random.percent(50) {
+            true => Operation::In { target: 2, low, high },
+            false => operations::narrow_input(random, 2, &variables[2]),
+        };
+        lead(1, 2, input);
+    }
+    if random.percent(35) {
+        // No input passes both: the one with the later edge may come first.
+        for relation in [Relation::Gt, random.pick(&[Relation::Lt, Relation::Eq])] {
+            let right = Operand::Number(random.between(low, low + 1));
+            lead(2, 3, Operation::If { target: 2, relation, right });
+        }
+    } else {
+        for _ in 0..random.pick(&[1, 2, 3, 4]) {
+            match random.below(4) {
+                0 => lead(2, random.below(3), operations.past(random, 2)),
+                _ => lead(2, 3, compared(random, 2)),
+            }
+        }
+    }
+    random.shuffle(&mut edges);
+    Chart { variables, locations, edges }
+}
+
+/// For searches: a count that overruns, or arrives at an error location, after a few moves.
+pub fn climb(random: &mut Random) -> Chart {
+    let steps = random.between(0, 9);
+    let low = random.pick(&[0, 0, -3, -8]);
+    let init = random.percent(60).then_some(low);
+    let mut variables = vec![Variable { name: name(random, 0), low, high: low + steps, init }];
+    if random.percent(30) {
+        variables.push(Variable { name: name(random, 1), low: -1, high: 1, init: None });
+    }
+    let locations = ending_in_error(random, 3, 60);
+    let (target, left) = (0, Operand::Variable(0));
+    let lead = |from: usize, to: usize, operation: Operation| Edge {
+        from: LocationId(from),
+        to: LocationId(to),
+        operation,
+    };
+    let mut edges = vec![lead(0, 0, Operation::Add { target, left, right: Operand::Number(1) })];
+    if random.percent(60) {
+        let right = Operand::Number(low + steps);
+        edges.push(lead(0, 2, Operation::If { target, relation: Relation::Eq, right }));
+    }
+    if random.percent(40) {
+        let operations = Operations { variables: &variables, risk: 0, has_long_counts: false };
+        edges.push(lead(0, random.pick(&[0, 1]), operations.any(random)));
+    }
+    random.shuffle(&mut edges);
+    Chart { variables, locations, edges }
+}
+
+/// For searches: a widest input, or a number of starting states, that 31 just lets pass or just refuses, or
+/// that does not look like too much by its last bits.
+pub fn wide(random: &mut Random) -> Chart {
+    const SPANS: [&[i32]; 17] = [
+        &[4_096],
+        &[64, 64],
+        &[16, 16, 16],
+        &[2, 1, 2_048],
+        &[8, 8, 8, 8],
+        &[2, 2, 2, 2, 4, 4, 4, 4],
+        &[4_097],
+        &[17, 241],
+        &[3, 1_366],
+        &[2, 2_049],
+        &[4, 5, 5, 41],
+        &[256, 256],
+        &[65_536],
+        &[65_536, 65_536],
+        &[16; 8],
+        &[65_536; 4],
+        &[65_536; 8],
+    ];
+    let spans: &[i32] = if random.percent(60) { random.pick(&SPANS) } else { &[2] };
+    let mut variables: Vec<Variable> = Vec::new();
+    for &span in spans {
+        let low = random.pick(&[0, 1, -1, -span / 2, -span]).clamp(-32_768, 32_768 - span);
+        let name = name(random, variables.len());
+        variables.push(Variable { name, low, high: low + span - 1, init: None });
+    }
+    if variables.len() < MAX_VARIABLES {
+        let name = name(random, variables.len());
+        variables.push(Variable { name, low: -20, high: 20, init: Some(0) });
+    }
+    random.shuffle(&mut variables);
+    let locations = ending_in_error(random, 4, 60);
+    let operations = Operations { variables: &variables, risk: 0, has_long_counts: false };
+    let mut edges = Vec::new();
+    let known = variables.iter().position(|variable| variable.init.is_some());
+    if let Some(target) = known.filter(|_| random.percent(60)) {
+        let low = random.between(-20, 0);
+        let high = low + random.pick(&[14, 15, 15, 16, 16, 17]);
+        // Nothing leads to location 2.
+        let from = LocationId(random.pick(&[0, 1, 2, 2]));
+        edges.push(Edge {
+            from,
+            to: LocationId(1),
+            operation: Operation::In { target, low, high },
+        });
+    }
+    for _ in 0..random.below(3) {
+        let (from, to) = (LocationId(random.below(2)), LocationId(random.pick(&[1, 3, 3])));
+        edges.push(Edge { from, to, operation: operations.any_condition(random) });
+    }
+    random.shuffle(&mut edges);
+    Chart { variables, locations, edges }
+}
+
 /// Any of those that have few enough states to go through all of them.
 pub fn small(random: &mut Random) -> Chart {
     match random.below(20) {

@@ -5,6 +5,7 @@ pub mod charts;
 pub mod damage;
 pub mod inputs;
 pub mod operations;
+pub mod searches;
 
 use crate::analysis::{Merge, Order, Settings, Stop};
 

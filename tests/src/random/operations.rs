@@ -89,6 +89,19 @@ impl Operations<'_> {
         self.set_within(random, target)
     }
 
+    /// A set, add or sub that overruns, or one that may.
+    pub fn past(&self, random: &mut Random, target: usize) -> Operation {
+        let Variable { low, high, .. } = self.variables[target];
+        match random.below(4) {
+            0 => {
+                let value = Operand::Number(random.pick(&[low - 1, high + 1]));
+                Operation::Set { target, value }
+            }
+            1 => counting(random, target),
+            _ => self.assignment(random, target),
+        }
+    }
+
     fn assignment(&self, random: &mut Random, target: usize) -> Operation {
         let number =
             |random: &mut Random| Operand::Number(literal(random, &self.variables[target]));
@@ -163,6 +176,13 @@ impl Operations<'_> {
     fn variable(&self, random: &mut Random) -> Operand {
         Operand::Variable(random.below(self.variables.len()))
     }
+}
+
+/// Of a few values.
+pub fn narrow_input(random: &mut Random, target: usize, variable: &Variable) -> Operation {
+    let low = random.between(variable.low, variable.high);
+    let high = random.between(low, variable.high.min(low + 2));
+    Operation::In { target, low, high }
 }
 
 /// Up or down.

@@ -7,6 +7,7 @@ mod moves;
 mod order;
 mod paths;
 mod reading;
+mod searches;
 mod support;
 mod waitlist;
 mod walks;

@@ -6,13 +6,13 @@ use std::process::Command;
 use library::walker::WALKER;
 use library::{Calls, LIBRARY};
 
-use crate::subjects::{charts, growth, runs, Call, Lent, Subject};
+use crate::subjects::{charts, growth, runs, searches, Call, Lent, Subject};
 use crate::times::iterations;
 
 pub fn print() {
     println!("| chart | call | library, instructions | walker, instructions | library / walker |");
     println!("|---|---|---|---|---|");
-    for subject in charts().into_iter().chain(runs()) {
+    for subject in charts().into_iter().chain(runs()).chain(searches()) {
         for call in subject.calls {
             print_row(&subject, call, 1.0);
         }
@@ -59,7 +59,7 @@ pub fn once(chart: &str, call: &str, whose: &str) {
         "walker" => WALKER,
         _ => panic!("{whose}: library or walker"),
     };
-    let all = charts().into_iter().chain(runs()).chain(growth());
+    let all = charts().into_iter().chain(runs()).chain(searches()).chain(growth());
     for subject in all.filter(|each| each.name == chart) {
         if let Some(call) = subject.calls.iter().find(|each| each.name == call) {
             return counted(&mut subject.lent(), call, calls);

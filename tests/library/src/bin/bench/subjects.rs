@@ -5,6 +5,9 @@ use std::hint::black_box;
 use library::files::{self, Ring};
 use library::{Calls, Record, Report, Settings, LIBRARY};
 use reference::encoding::MAX_WORDS;
+use reference::reader;
+use reference::search::{check_size, MAX_BOUND};
+use reference::worked::examples;
 
 const MOST_ITERATIONS: i32 = 60_000;
 const SEP: Settings = Settings { merge: 0, stop: 0, order: 0 };
@@ -51,6 +54,9 @@ pub const LISTING: Call = Call { name: "listing", make: |lent, calls| lent.repor
 /// Of an analysis with an alarm.
 pub const PATH: Call = Call { name: "path", make: |lent, calls| lent.report(calls.path) };
 
+/// With the largest bound.
+pub const SEARCH: Call = Call { name: "search 8", make: |lent, calls| lent.search(calls) };
+
 /// A chart with the calls to make on it, in this order.
 pub struct Subject {
     pub name: String,
@@ -73,7 +79,7 @@ pub struct Lent {
     table: Vec<i32>,
     list: Vec<i32>,
     space: Vec<u8>,
-    /// Of the last listing or path.
+    /// Of the last text.
     pub length: usize,
 }
 
@@ -121,6 +127,17 @@ impl Lent {
         let Lent { chart, record, table, list, space, .. } = self;
         self.length = call(black_box(chart), *record, table, list, space).length;
     }
+
+    fn search(&mut self, calls: Calls) {
+        let Lent { chart, space, .. } = self;
+        self.length = (calls.search)(black_box(chart), MAX_BOUND as i32, space).length;
+    }
+
+    /// The first line of the last text.
+    pub fn header(&self) -> String {
+        let text = String::from_utf8_lossy(&self.space[..self.length]);
+        text.lines().next().unwrap_or_default().replace('\t', " ")
+    }
 }
 
 /// From small to large.
@@ -156,6 +173,33 @@ pub fn charts() -> Vec<Subject> {
         Subject::new("longest fields", &files::largest(), 256, WITHOUT_JOIN),
         Subject::new("refused on its last line", &files::drawn_out(), 1, &[READ]),
     ]
+}
+
+/// The charts of the examples, but for those that 31 refuses, each once: of several examples of one chart the first
+/// names it. And what costs a search most that remembers nothing: many starts, several edges, wide inputs.
+pub fn searches() -> Vec<Subject> {
+    let mut subjects: Vec<Subject> = Vec::new();
+    let mut add = |name: &str, file: &[u8]| {
+        if subjects.iter().all(|subject| subject.file != file) {
+            subjects.push(Subject::new(name, file, 256, &[SEARCH]));
+        }
+    };
+    for example in examples() {
+        let chart = reader::read(example.chart_file()).expect("an example is accepted");
+        if check_size(&chart).is_ok() {
+            add(&example.name, example.chart_file());
+        }
+    }
+    add(
+        "4,096 starts",
+        b"V\tx\t1\t4096\t*\nL\ta\to\nL\tb\te\nE\t0\t0\tskip\nE\t0\t1\tif\t$0\tlt\t1\n",
+    );
+    add("three self-loops", b"L\ta\to\nE\t0\t0\tskip\nE\t0\t0\tskip\nE\t0\t0\tskip\n");
+    let inputs = b"V\tx\t0\t15\t0\nL\ta\to\nL\tb\to\nL\tc\to\nL\td\to\nL\te\te\n\
+        E\t0\t1\tin\t$0\t0\t15\nE\t1\t2\tin\t$0\t0\t15\nE\t2\t3\tin\t$0\t0\t15\n\
+        E\t3\t4\tif\t$0\tgt\t15\n";
+    add("three inputs of 16 values", inputs);
+    subjects
 }
 
 /// Of these a run is counted and not timed, since it can be made but once.

@@ -7,7 +7,9 @@ use std::time::{Duration, Instant};
 use library::walker::WALKER;
 use library::{Calls, Record, LIBRARY};
 
-use crate::subjects::{charts, costliest, growth, Call, Lent, BEGIN_ZERO, LISTING, PATH, READ};
+use crate::subjects::{
+    charts, costliest, growth, searches, Call, Lent, BEGIN_ZERO, LISTING, PATH, READ,
+};
 
 /// For one row; the fewest rounds even where that takes longer.
 const TIME: Duration = Duration::from_secs(2);
@@ -39,6 +41,8 @@ pub fn print() {
             );
         }
     }
+    println!();
+    print_searches();
     println!("\n| chart | call | library, µs an iteration | walker, µs an iteration | library / walker |");
     println!("|---|---|---|---|---|");
     for subject in growth() {
@@ -48,6 +52,19 @@ pub fn print() {
             let each = iterations(&lent);
             let (library, walker) = (library.over(each), walker.over(each));
             println!("| {} | {} | {library} | {walker} | {ratio} |", subject.name, call.name);
+        }
+    }
+}
+
+pub fn print_searches() {
+    println!("| chart | call | finds | library, µs | walker, µs | library / walker |");
+    println!("|---|---|---|---|---|---|");
+    for subject in searches() {
+        for &call in subject.calls {
+            let mut lent = subject.lent();
+            let Times { library, walker, ratio } = measure(&mut lent, call);
+            let (name, finds) = (&subject.name, lent.header());
+            println!("| {name} | {} | {finds} | {library} | {walker} | {ratio} |", call.name);
         }
     }
 }
