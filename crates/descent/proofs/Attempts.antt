@@ -1,25 +1,23 @@
 -- The runs of so many moves, from the starting states in turn, and deepening. Assumes nothing.
 use mathlib.Core.Option.{Option·map}
-use Rattle.semantics.proofs.Prelude.{_≡_, refl, sym, ap, _∙_, subst, inl, inr, Bool, true, false, not, List, [], _∷_, _++_, map, Option, none, some, ℕ, zero, suc, _+_, _-_, _*_, _≤_, _<_, add-one, arith, T, leb, le-leb, lt-leb, ltb, ltb→lt, ℤ, pos, length, drop, drop-append-seam}
+use Rattle.semantics.proofs.Prelude.{_≡_, refl, sym, ap, _∙_, subst, inl, inr, Bool, true, false, not, List, [], _∷_, _++_, Option, none, some, ℕ, zero, suc, _+_, _-_, _≤_, _<_, add-one, arith, T, leb, le-leb, lt-leb, ltb→lt, ℤ, length, drop, drop-append-seam}
 use Rattle.semantics.specs.Lists.{pick, In, all}
-use Rattle.semantics.specs.Chart.{Edge, Chart, Numbered, number-from, numbered, State, Ranged}
+use Rattle.semantics.specs.Chart.{Edge, Chart, Numbered, number-from, State, Ranged}
 use Rattle.semantics.specs.Algorithm.{to}
-use Rattle.semantics.specs.Encoding.{op-ok, edge-ok, decode, well-formed}
-use Rattle.semantics.specs.Search.{Trail, here, overrun, by, ErrorRun, moves, run-from, or-else, first-of, found, attempt, deepen, first-run, Choice, state, move, starting-values, explicit}
+use Rattle.semantics.specs.Encoding.{edge-ok}
+use Rattle.semantics.specs.Search.{Trail, here, overrun, by, ErrorRun, run-from, or-else, first-of, found, attempt, deepen, first-run, Choice, state, starting-values, explicit}
 use Rattle.semantics.specs.RealRuns.{Follows}
 use Rattle.semantics.proofs.Bools.{and-left, and-right}
 use Rattle.semantics.proofs.AtAndIn.{none-some}
 use Rattle.semantics.proofs.StatesOk.{Bounds}
-use Rattle.semantics.proofs.Encoded.{formed-bounds}
 use Rattle.semantics.proofs.Searching.{lists, found-sound}
 use Rattle.semantics.proofs.ChartChoices.{choices-in}
 use Rattle.semantics.proofs.RealRuns.{Taken, taken}
-use Rattle.state.specs.Rows.{location-in, values-of, row-at}
+use Rattle.state.specs.Rows.{location-in, values-of}
 use Rattle.descent.specs.Rows.{state-of, Concrete}
-use Rattle.descent.specs.Starts.{Starts, First, Next, starts-after, left-over}
+use Rattle.descent.specs.Starts.{Starts, Next, starts-after, left-over}
 use Rattle.descent.specs.declared.Found.{Found}
-use Rattle.descent.specs.declared.Found.the-variants.{Nothing}
-use Rattle.descent.specs.Trails.{trail-words, end-of, answer-of, laid, Went, is-nothing, Within, Held, Holds}
+use Rattle.descent.specs.Trails.{trail-words, answer-of, laid, Went, is-nothing, Within, Held, Holds}
 use Rattle.descent.proofs.StartingValues.{starts-concrete}
 use Rattle.descent.proofs.Turns.{nothing, something, first-map}
 

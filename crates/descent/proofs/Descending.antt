@@ -1,21 +1,18 @@
 -- The places of the search that its parts share: the edge of a turn, the last state, and the words of the path. Assumes
 -- nothing.
-use mathlib.Core.Option.{Option·map}
-use Rattle.semantics.proofs.Prelude.{_≡_, refl, sym, ap, _∙_, subst, Bool, true, false, not, List, [], _∷_, _++_, append-assoc, append-nil, Option, none, some, ℕ, zero, suc, _+_, _-_, _*_, _≤_, _<_, suc-mul, arith, T, ℤ, pos, length, getD, take, drop, length-drop, length-append, length-take-le, drop-of-length-le, drop-drop, take-append-drop, take-all, drop-append-seam, take-append-seam}
+use Rattle.semantics.proofs.Prelude.{_≡_, refl, sym, ap, _∙_, subst, Bool, true, false, not, List, [], _∷_, _++_, append-assoc, append-nil, Option, none, some, ℕ, zero, suc, _+_, _-_, _*_, _≤_, suc-mul, arith, T, ℤ, pos, length, getD, take, drop, length-drop, length-append, length-take-le, drop-of-length-le, drop-drop, take-append-drop, take-all, drop-append-seam, take-append-seam}
 use Rattle.semantics.specs.Chart.{Var, Edge, skip, Chart, Numbered, number-from, numbered, State, Ranged, error-location}
 use Rattle.semantics.specs.Lists.{pick}
-use Rattle.semantics.specs.Layout.{edge-size}
 use Rattle.semantics.specs.Encoding.{decode, well-formed, edge-count}
 use Rattle.semantics.specs.Memory.{width}
-use Rattle.semantics.specs.Search.{Trail, here, overrun, by, found, Choice, explicit}
+use Rattle.semantics.specs.Search.{Trail, here, found, Choice, explicit}
 use Rattle.semantics.proofs.Decoded.{edges-count}
 use Rattle.semantics.proofs.Encoded.{formed-bounds}
-use Rattle.chart.specs.Encoded.{edges-at}
 use Rattle.chart.specs.declared.EdgeRow.{EdgeRow}
-use Rattle.state.specs.Rows.{most-width, values-of, row-at}
+use Rattle.state.specs.Rows.{most-width, values-of}
 use Rattle.descent.specs.Rows.{edge-of, Is-edge, state-of, Concrete}
 use Rattle.descent.specs.declared.Found.{Found}
-use Rattle.descent.specs.Trails.{step-words, trail-words, end-of, answer-of, laid, Went, is-nothing, from-step, Going}
+use Rattle.descent.specs.Trails.{step-words, trail-words, answer-of, laid, Went, is-nothing, from-step}
 use Rattle.descent.proofs.Moves.{edge-numbered}
 use Rattle.descent.proofs.Turns.{nothing, something, at-getD}
 

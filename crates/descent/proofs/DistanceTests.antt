@@ -2,9 +2,9 @@
 -- 0 serve. Assumes nothing.
 use Rattle.semantics.proofs.Prelude.{_≡_, refl, sym, ap, _∙_, subst, _⊎_, inl, inr, Bool, true, _&&_, List, [], _∷_, _++_, map, ℕ, zero, suc, _+_, _-_, _*_, _≤_, _<_, add-one, arith, T, ltb→lt, ℤ, pos, natAbs, length, getD, take, drop, replicate, set, getD-drop, take-suc-set}
 use Rattle.semantics.proofs.Bools.{to-true, and-left, and-right, left-true, right-true}
-use Rattle.semantics.specs.Layout.{top-word, most-variables, location-size, edge-size, from-place, to-place, index-limit}
+use Rattle.semantics.specs.Layout.{top-word, most-variables, location-size, edge-size, to-place, index-limit}
 use Rattle.semantics.specs.Lists.{At, In}
-use Rattle.semantics.specs.Chart.{top, Var, Loc, Edge, Chart, Numbered, number-from, numbered, eqZ, error-location}
+use Rattle.semantics.specs.Chart.{top, Var, Loc, Edge, Chart, Numbered, numbered, eqZ, error-location}
 use Rattle.semantics.specs.Algorithm.{Step, blocked, fault, to}
 use Rattle.semantics.specs.Constants.{AbstractState}
 use Rattle.semantics.specs.Encoding.{word, word-at, count, kind-word, edge-in, location-count, edge-count, decode, well-formed}
@@ -24,6 +24,7 @@ use Rattle.transfer.specs.declared.Move.the-variants.{Blocked, Fault, Successor
 use Rattle.transfer.specs.Transfer.{step-of, edge-at, edges-from, post-at, post-words, error-row}
 use Rattle.transfer.proofs.Agree.{Says, SameEdge, edges-say, agree}
 use Rattle.descent.specs.Rows.{edge-of, Is-edge}
+use Rattle.descent.proofs.Moves.{same-edge, leaves}
 use Rattle.descent.specs.Distances.{anywhere, Near, Distances, distance-in, from-anywhere, move-of, Near-by, Kinds-allow, Edges-allow}
 
 -- ---- a row in which every variable is top
@@ -72,13 +73,6 @@ at-below [] n x h = absurd h
 at-below (y ∷ ys) zero x h = omega arith
 at-below (y ∷ ys) (suc n) x h = omega (arith, at-below ys n x h)
 
-at-numbered : (n j : ℕ) (gs : List Edge) (x : Edge) → At gs j x → In (record { no = n + j; edge = x }) (number-from n gs)
-at-numbered n j [] x h = absurd h
-at-numbered n zero (g ∷ gs) x h = let e : n + 0 ≡ n = omega arith in inl (λ i. record { no = e i; edge = sym h i })
-at-numbered n (suc j) (g ∷ gs) x h =
-    let e : suc n + j ≡ n + suc j = omega arith in
-    inr (subst (λ (m : ℕ). In (record { no = m; edge = x }) (number-from (suc n) gs)) e (at-numbered (suc n) j gs x h))
-
 -- ---- what is asked by number
 
 -- by location l
@@ -98,29 +92,13 @@ module _ (ws : List ℤ) (t : T (well-formed ws)) where
   paired : (g : Numbered) → In g (numbered (decode ws)) → (n : ℕ) × SameEdge (decode ws) n g
   paired g i = let c = decode ws in pair-of (SameEdge c) (edges-from 0 (length (c .edges))) (numbered c) g (edges-say c (well-formed-split ws t .1)) i
 
-  -- an edge as the code has it, counted from 0
-  same-edge : (e : EdgeRow) → Is-edge ws e → SameEdge (decode ws) (e .id .0 - 1) (edge-of ws e)
-  same-edge e i =
-      let c = decode ws in
-      let j = e .id .0 - 1 in
-      let h : j < edge-count ws = omega (arith, i .some, i .within) in
-      let number : 1 + j ≡ e .id .0 = omega (arith, i .some) in
-      let here : At (c .edges) j (edge-of ws e .edge) = subst (λ (k : ℕ). At (c .edges) j (edge-in (drop k ws))) (sym (i .at)) (edge-here j h) in
-      counted j number (paired (edge-of ws e) (subst (λ (k : ℕ). In (record { no = k; edge = edge-of ws e .edge }) (numbered c)) number (at-numbered 1 j (c .edges) (edge-of ws e .edge) here)))
-    where
-      counted : (j : ℕ) → 1 + j ≡ e .id .0 → (n : ℕ) × SameEdge (decode ws) n (edge-of ws e) → SameEdge (decode ws) j (edge-of ws e)
-      counted j q p = let same : p .0 ≡ j = omega (arith, q, p .1 .number) in subst (λ (k : ℕ). SameEdge (decode ws) k (edge-of ws e)) same (p .1)
-
-  -- as the code has it from the first, by its number
+  -- an edge as the code has it from the first, by its number
   module _ (first : EdgeRow) (n : ℕ) (here : first .at ≡ edges-at ws) (some : 1 ≤ n) (within : n ≤ edge-count ws) where
     pub edge-asks : (first .at < index-limit) × (1 ≤ n) × (n ≤ index-limit)
     edge-asks = (omega (arith, edges-near ws t), some, omega (arith, edges-near ws t))
 
     pub is-edge : (e : EdgeRow) → e .id .0 ≡ n → e .at ≡ first .at + edge-size * (n - 1) → Is-edge ws e
     is-edge e p q = record { some = omega arith; within = omega arith; at = omega arith }
-
-  pub edge-near : (e : EdgeRow) → Is-edge ws e → e .at < index-limit
-  edge-near e i = omega (arith, i .some, i .within, i .at, edges-near ws t)
 
   -- each edge has a number
   pub every-edge : (ds : List ℕ) → ((n : ℕ) → n ≤ edge-count ws → Asked ws ds n) → Edges-allow ws ds
@@ -132,11 +110,7 @@ module _ (ws : List ℤ) (t : T (well-formed ws)) where
       let asked : Near-by ws ds (edge-in (drop (edge-at ws (p .0)) ws)) = subst (λ (k : ℕ). Near-by ws ds (edge-in (drop (edge-at ws k) ws))) e (f (p .0 + 1) (omega arith) (omega arith)) in
       subst (Near-by ws ds) (at-one (c .edges) (p .0) (edge-in (drop (edge-at ws (p .0)) ws)) (g .edge) (edge-here (p .0) h) (p .1 .here)) asked
 
-  -- the location that it leaves
-  pub leaves : (e : EdgeRow) → edge-of ws e .edge .from ≡ count ws (e .at)
-  leaves e = let z : e .at + from-place ≡ e .at = omega arith in ap natAbs (getD-drop (e .at) ws from-place (pos 0)) ∙ ap (count ws) z
-
-  -- and the one that it goes to
+  -- the location that it goes to
   pub comes : (e : EdgeRow) → edge-of ws e .edge .to ≡ count ws (e .at + to-place)
   comes e = ap natAbs (getD-drop (e .at) ws to-place (pos 0))
 
@@ -146,7 +120,7 @@ module _ (ws : List ℤ) (t : T (well-formed ws)) where
 
   module _ (e : EdgeRow) (i : Is-edge ws e) where
     from-below : edge-of ws e .edge .from < length (decode ws .locs)
-    from-below = let ok = same-edge e i .ok in ltb→lt (edge-of ws e .edge .from) (length (decode ws .locs)) (search (and-left, and-right))
+    from-below = let ok = same-edge ws t e i .ok in ltb→lt (edge-of ws e .edge .from) (length (decode ws .locs)) (search (and-left, and-right))
 
     -- all words top but the location's: the row of anywhere there
     pub anywhere-row : take (width-of (layout-of ws)) (with-location (replicate most-width top-word) (count ws (e .at))) ≡ row (anywhere (decode ws) (edge-of ws e .edge .from))
@@ -155,7 +129,7 @@ module _ (ws : List ℤ) (t : T (well-formed ws)) where
         let from = edge-of ws e .edge .from in
         let few : from < word-limit = omega (arith, from-below, formed-bounds ws t .few-locs) in
         let wide : width-of (layout-of ws) ≡ suc (length (c .vars)) = omega (arith, vars-count ws) in
-        rw (sym (leaves e), id-fits from few, wide) (ap (λ (l : List ℤ). pos from ∷ l) (tops-words (c .vars) most-variables (formed-bounds ws t .few-vars)))
+        rw (sym (leaves ws e), id-fits from few, wide) (ap (λ (l : List ℤ). pos from ∷ l) (tops-words (c .vars) most-variables (formed-bounds ws t .few-vars)))
 
     -- the transfer of that row answers as the abstract move
     pub anywhere-moves : (r : Move) (out : List ℤ) → step-of r out ≡ post-at ws (e .at) (row (anywhere (decode ws) (edge-of ws e .edge .from))) → r ≡ move-of (from-anywhere (decode ws) (edge-of ws e .edge))
@@ -164,7 +138,7 @@ module _ (ws : List ℤ) (t : T (well-formed ws)) where
         let c = decode ws in
         let f = anywhere c (edge-of ws e .edge .from) in
         let q : post-words ws (e .id .0 - 1) (row f) ≡ step-of r out = ap (λ (k : ℕ). post-at ws k (row f)) (sym (i .at)) ∙ sym p in
-        let s = agree ws t .post (e .id .0 - 1) (edge-of ws e) (row f) f (same-edge e i) (says-anywhere c (edge-of ws e .edge .from) from-below) in
+        let s = agree ws t .post (e .id .0 - 1) (edge-of ws e) (row f) f (same-edge ws t e i) (says-anywhere c (edge-of ws e .edge .from) from-below) in
         moved c r out (from-anywhere c (edge-of ws e .edge)) (subst (λ (o : Step (List ℤ)). StepR (Says c) o (from-anywhere c (edge-of ws e .edge))) q s)
 
   -- ---- locations

@@ -3,7 +3,7 @@ use Rattle.semantics.proofs.Prelude.{_≡_, refl, ap, Bool, true, false, _&&_, 
 use Rattle.semantics.specs.Lists.{pick}
 use Rattle.semantics.specs.Chart.{Value, known, Var, Operand, num, var, Op, assign, add, sub, input, assume, skip, Edge, Chart, State, Ranged, holds, in-range, value}
 use Rattle.semantics.specs.Algorithm.{Step, blocked, fault, to}
-use Rattle.semantics.specs.Constants.{AbstractState, operand-value, only, operand-span, assign-value, one-of, effect, arrive-at, post}
+use Rattle.semantics.specs.Constants.{AbstractState, operand-value, only, operand-span, assign-value, effect, arrive-at, post}
 use Rattle.semantics.specs.Search.{Choice, choose, inputs, stored, apply, at-location, move}
 use Rattle.semantics.proofs.Bools.{from-false}
 use Rattle.semantics.proofs.StatesOk.{ValsOk}

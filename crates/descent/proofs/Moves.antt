@@ -1,27 +1,25 @@
 -- A move of rows: the transfer on a row of known values, and what `in` reads, is the move of the chart. Assumes nothing.
 use lib.Seq.{set-set}
-use Rattle.semantics.proofs.Prelude.{_≡_, refl, sym, ap, _∙_, subst, Bool, true, false, _&&_, List, [], _∷_, map, Option, none, some, ℕ, zero, suc, _+_, _-_, _*_, _≤_, _<_, add-one, arith, T, eqb, ltb, ltb→lt, leZ, natAbs, ℤ, pos, length, drop, getD, set, getD-drop}
-use Rattle.semantics.specs.Layout.{edge-size, operation-place, target-place, first-tag-place, first-value-place, second-tag-place, second-value-place, in-code, index-limit, most-edges}
-use Rattle.semantics.specs.Lists.{At, In, get, pick, all}
-use Rattle.semantics.specs.Chart.{Value, known, Var, Op, assign, add, sub, input, assume, skip, Operand, Edge, Chart, Numbered, number-from, numbered, State, Ranged, within, in-range, small}
+use Rattle.semantics.proofs.Prelude.{_≡_, refl, sym, ap, _∙_, subst, Bool, true, false, _&&_, List, [], _∷_, map, some, ℕ, zero, suc, _+_, _-_, _≤_, _<_, add-one, arith, T, eqb, ltb, leZ, natAbs, ℤ, pos, length, drop, set, getD-drop}
+use Rattle.semantics.specs.Layout.{operation-place, target-place, first-value-place, second-value-place, in-code, index-limit, most-edges}
+use Rattle.semantics.specs.Lists.{At, In, get, pick}
+use Rattle.semantics.specs.Chart.{Value, known, Op, input, Operand, Edge, Chart, Numbered, number-from, numbered, State, within, in-range}
 use Rattle.semantics.specs.Algorithm.{Step, blocked, fault, to}
 use Rattle.semantics.specs.Constants.{AbstractState, one-of, arrive-at, effect, post}
-use Rattle.semantics.specs.Encoding.{word, word-at, count, operand, op-of, op-ok, edge-ok, edge-in, edge-count, decode, well-formed}
+use Rattle.semantics.specs.Encoding.{word, word-at, count, op-of, op-ok, decode, well-formed}
 use Rattle.semantics.specs.Memory.{row}
 use Rattle.semantics.specs.Search.{choose, inputs, apply, state, at-location, move}
-use Rattle.semantics.proofs.Bools.{from-true, to-true, from-false, and-left, and-right}
-use Rattle.semantics.proofs.AtAndIn.{at-get, none-some}
+use Rattle.semantics.proofs.Bools.{to-true, and-left, and-right}
+use Rattle.semantics.proofs.AtAndIn.{none-some}
 use Rattle.semantics.proofs.ConstantValues.{ranged-as-set, between}
-use Rattle.semantics.proofs.StatesOk.{StateOk}
 use Rattle.semantics.proofs.Encoded.{well-formed-split, formed-bounds}
 use Rattle.semantics.proofs.Decoded.{edges-count}
 use Rattle.semantics.proofs.Simulate.{AllPairs, StepR}
 use Rattle.semantics.proofs.ChartChoices.{span-in}
-use Rattle.chart.specs.Encoded.{edges-at}
 use Rattle.chart.specs.declared.EdgeRow.{EdgeRow}
 use Rattle.chart.proofs.Places.{edge-got, edges-near}
-use Rattle.state.specs.Rows.{location-in, values-of, row-at, with-value, value-place}
-use Rattle.transfer.specs.Transfer.{step-of, edge-at, edges-from, post-at, post-words}
+use Rattle.state.specs.Rows.{location-in, values-of, row-at, with-value}
+use Rattle.transfer.specs.Transfer.{step-of, edges-from, post-at, post-words}
 use Rattle.transfer.specs.declared.Move.{Move}
 use Rattle.transfer.specs.declared.Move.the-variants.{Blocked, Fault, Successor}
 use Rattle.transfer.proofs.Agree.{Says, SameEdge, edges-say, agree}
@@ -74,7 +72,7 @@ module _ (ws : List ℤ) (formed : T (well-formed ws)) (e : EdgeRow) (is : Is-ed
       let g = edge-of ws e .edge in
       and-right (ltb (g .from) (length (decode ws .locs)) && ltb (g .to) (length (decode ws .locs))) (op-ok (decode ws .vars) (g .op)) (same-edge .ok)
 
--- ---- its operation, by its words
+-- ---- its location and its operation, by its words
 
 op-in : (n v : ℕ) (a b : Operand) (x y : ℤ) → n ≡ in-code → op-of n v a b x y ≡ input v x y
 op-in n v a b x y h = rw h
@@ -93,6 +91,10 @@ op-not-in (suc (suc (suc (suc (suc (suc (suc (suc (suc zero))))))))) v a b x y h
 op-not-in (suc (suc (suc (suc (suc (suc (suc (suc (suc (suc n)))))))))) v a b x y h = refl
 
 module _ (ws : List ℤ) (e : EdgeRow) where
+  -- the location that it leaves
+  pub leaves : edge-of ws e .edge .from ≡ count ws (e .at)
+  leaves = ap natAbs (getD-drop (e .at) ws 0 (pos 0)) ∙ ap (count ws) (omega arith)
+
   code-is : count (drop (e .at) ws) operation-place ≡ count ws (e .at + operation-place)
   code-is = ap natAbs (getD-drop (e .at) ws operation-place (pos 0))
 

@@ -1,19 +1,14 @@
 -- A loop that stops at the first find, and one move of the search part by part. Assumes nothing.
-use mathlib.Core.Option.{Option·map}
-use Rattle.semantics.proofs.Prelude.{_≡_, refl, sym, ap, _∙_, subst, Bool, true, false, not, List, [], _∷_, _++_, map, append-assoc, append-nil, Option, none, some, ℕ, zero, suc, _+_, _-_, _*_, _≤_, _<_, add-one, sub-one, suc-mul, arith, T, eqb, ℤ, pos, natAbs, length, getD, take, drop, length-drop, length-append, drop-cons, drop-of-length-le, getD-drop, drop-drop, take-append-drop}
-use Rattle.semantics.specs.Lists.{At, each, pick}
-use Rattle.semantics.specs.Chart.{Op, Chart, Numbered, numbered, State}
-use Rattle.semantics.specs.Algorithm.{Step, blocked, fault, to}
-use Rattle.semantics.specs.Encoding.{count}
-use Rattle.semantics.specs.Search.{Trail, here, overrun, by, or-else, first-of, after-move, found, Choice, choose, inputs, choices, move, at-location, apply, explicit}
+use Rattle.semantics.proofs.Prelude.{_≡_, refl, sym, ap, _∙_, Bool, true, false, not, List, [], _∷_, _++_, map, Option, none, some, ℕ, zero, suc, _+_, _-_, _≤_, _<_, add-one, arith, eqb, ℤ, length, getD, drop, drop-cons, drop-of-length-le}
+use Rattle.semantics.specs.Lists.{At, each}
+use Rattle.semantics.specs.Chart.{Chart, Numbered, numbered, State}
+use Rattle.semantics.specs.Algorithm.{blocked, fault, to}
+use Rattle.semantics.specs.Search.{Trail, here, overrun, by, or-else, first-of, after-move, found, Choice, choose, inputs, choices, move, explicit}
 use Rattle.semantics.specs.declared.EdgeId.{EdgeId}
 use Rattle.semantics.proofs.Bools.{from-true, from-false}
-use Rattle.chart.specs.declared.EdgeRow.{EdgeRow}
-use Rattle.state.specs.Rows.{row-at}
-use Rattle.descent.specs.Rows.{edge-of, state-of}
 use Rattle.descent.specs.declared.Found.{Found}
-use Rattle.descent.specs.declared.Found.the-variants.{Nothing, AtError, Overrun}
-use Rattle.descent.specs.Trails.{step-words, trail-words, end-of, answer-of, laid, Went, is-nothing, last-move, from-step, by-input, by-edge}
+use Rattle.descent.specs.declared.Found.the-variants.{Nothing, Overrun}
+use Rattle.descent.specs.Trails.{end-of, answer-of, laid, Went, is-nothing, last-move, from-step, by-input, by-edge}
 
 abbrev Route : Type 0
 Route = Trail Choice State
@@ -130,7 +125,3 @@ module _ (c : Chart) where
 
   pub step-went : (m : ℕ) (s t : State) (g : Numbered) (z : ℤ) {p u : List ℤ} {r : Found} → move c (choose g z) s ≡ to t → Went (from-step c m (choose g z) t) p u r → Went (by-input c m s g z) p u r
   step-went m s t g z e w = rw e w
-
--- where an edge leaves from, by its words
-pub from-is : (ws : List ℤ) (e : EdgeRow) → edge-of ws e .edge .from ≡ count ws (e .at)
-from-is ws e = ap natAbs (getD-drop (e .at) ws 0 (pos 0)) ∙ ap (count ws) (omega arith)

@@ -7,7 +7,7 @@ use lib.Dec.{T}
 use lib.IntN.{ℤ}
 use lib.ListN.{getD}
 use Rattle.semantics.specs.Lists.{In}
-use Rattle.semantics.specs.Chart.{Value, top, Var, Edge, Chart, Numbered, numbered, error-location}
+use Rattle.semantics.specs.Chart.{top, Edge, Chart, Numbered, numbered, error-location}
 use Rattle.semantics.specs.Algorithm.{Step, blocked, fault, to}
 use Rattle.semantics.specs.Constants.{AbstractState, post}
 use Rattle.semantics.specs.Encoding.{decode}

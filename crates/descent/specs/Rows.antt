@@ -1,7 +1,7 @@
 -- A state of a chart as a row of words, and an edge as the code has it. Assumes nothing.
 use mathlib.Core.Path.{_≡_}
 use mathlib.Core.List.{List}
-use Prim.Native.Nat.{ℕ, _-_, _≤_, _<_}
+use Prim.Native.Nat.{_-_, _≤_, _<_}
 use lib.IntN.{ℤ}
 use lib.Dec.{T}
 use lib.ListN.{length, drop}

@@ -7,7 +7,7 @@ use Prim.Native.Nat.{ℕ, zero, suc, _*_, _≤_}
 use lib.Dec.{T}
 use lib.IntN.{ℤ, pos}
 use lib.ListN.{length, drop}
-use Rattle.semantics.specs.Chart.{Chart, Numbered, State, Ranged}
+use Rattle.semantics.specs.Chart.{Chart, Numbered, State}
 use Rattle.semantics.specs.Search.{Trail, here, overrun, by, ErrorRun, moves, after-move, found, first-of, Choice, choose, inputs, move, explicit}
 use Rattle.semantics.specs.Encoding.{decode, well-formed}
 use Rattle.semantics.specs.Memory.{width}

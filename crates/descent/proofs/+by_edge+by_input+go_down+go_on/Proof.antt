@@ -12,13 +12,13 @@ use Rattle.words.proofs.Words.{told}
 use Rattle.state.specs.Rows.{most-width, location-in}
 use Rattle.transfer.specs.declared.Move.{Move}
 use Rattle.transfer.specs.declared.Move.the-variants.{Blocked, Fault, Successor}
-use Rattle.descent.specs.Rows.{state-of, edge-of, Is-edge, Movable, Advanced}
+use Rattle.descent.specs.Rows.{state-of, edge-of, Is-edge, Advanced}
 use Rattle.descent.specs.Distances.{distance-in}
 use Rattle.descent.specs.Trails.{Went, by-input, by-edge, from-step, Going}
 use Rattle.descent.proofs.TurningBack.{turned-back}
-use Rattle.descent.proofs.Moves.{edge-small, edge-few}
+use Rattle.descent.proofs.Moves.{edge-small, edge-few, leaves}
 use Rattle.descent.proofs.Inputs.{in-getD}
-use Rattle.descent.proofs.Turns.{turn-found, turn-kept, turn-next, turn-end, went-none, by-edges, not-here, blocked-went, fault-went, step-went, from-is}
+use Rattle.descent.proofs.Turns.{turn-found, turn-kept, turn-next, turn-end, went-none, by-edges, not-here, blocked-went, fault-went, step-went}
 use Rattle.descent.proofs.Descending.{no-edge, numbered-length, edge-here, end-went, less-room, more-room, suc-pred, part-length, back-length, step-none, step-some, row-narrow, front, again-length}
 use Rattle.descent.proofs.by_edge.Reads as by-edge′
 use Rattle.descent.proofs.by_edge.Kinds as by-edge-kinds
@@ -183,7 +183,7 @@ by-edge-returns : (t : ℕ) → by-edge-lts.Need-returns (by-edge-cited t) (by-e
 by-edge-returns t c =
     let s = c .before .before .before .before .before in
     let a = s .args in
-    let e : eqb (edge-of (a .chart .now) (a .edge) .edge .from) (location-in (a .row .now)) ≡ false = (λ i. eqb (from-is (a .chart .now) (a .edge) i) (location-in (a .row .now))) ∙ not-passed t (c .before) (c .if1 .taken) in
+    let e : eqb (edge-of (a .chart .now) (a .edge) .edge .from) (location-in (a .row .now)) ≡ false = (λ i. eqb (leaves (a .chart .now) (a .edge) i) (location-in (a .row .now))) ∙ not-passed t (c .before) (c .if1 .taken) in
     went-none (not-here (decode (a .chart .now)) (a .left) (state-of (a .row .now)) (edge-of (a .chart .now) (a .edge)) e) refl
 
 by-edge-input-count-requires : (t : ℕ) → by-edge-lts.Need-input-count-requires (by-edge-cited t) (by-edge-at t) by-edge′.Post by-edge-Inv-loop by-edge-μ-loop

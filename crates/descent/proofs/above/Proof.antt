@@ -1,5 +1,5 @@
 -- `descent::above` meets its contract. Assumes nothing.
-use Rattle.semantics.proofs.Prelude.{_≡_, ap, _∙_, subst, needs, arith, ℤ, pos, _+ℤ_, _-ℤ_, w32, w64, SFits, toZ, ofZ, toZ-ofZ, toZ-pos, sfits-widen}
+use Rattle.semantics.proofs.Prelude.{_≡_, ap, _∙_, subst, needs, ℤ, pos, _+ℤ_, _-ℤ_, w32, w64, SFits, toZ, ofZ, toZ-ofZ, toZ-pos, sfits-widen}
 use lib.IntN.{+ℤ-comm, +ℤ-negℤ-cancel}
 use Rattle.words.proofs.Words.{diff-fits}
 use Rattle.descent.proofs.above.Statement.{statement}

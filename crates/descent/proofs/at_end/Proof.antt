@@ -1,5 +1,5 @@
 -- `descent::at_end` meets its contract. Assumes nothing.
-use Rattle.semantics.proofs.Prelude.{_≡_, _∙_, sym, needs, Bool}
+use Rattle.semantics.proofs.Prelude.{_≡_, _∙_, sym, needs}
 use Rattle.semantics.specs.Chart.{error-location}
 use Rattle.semantics.specs.Encoding.{decode}
 use Rattle.semantics.specs.Search.{found}

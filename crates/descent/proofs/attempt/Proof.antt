@@ -1,13 +1,12 @@
 -- `descent::attempt` meets its contract. The invariant: what is found from the starting states left is what is found from all.
 -- Assumes nothing.
-use Rattle.semantics.proofs.Prelude.{_≡_, refl, sym, ap, _∙_, subst, Bool, true, false, not, List, ℕ, _*_, _≤_, suc, arith, needs, ℤ, length}
+use Rattle.semantics.proofs.Prelude.{_≡_, refl, sym, ap, _∙_, subst, Bool, true, not, ℕ, _*_, _≤_, suc, arith, needs, length}
 use Rattle.semantics.specs.Encoding.{decode}
 use Rattle.semantics.specs.Memory.{width}
 use Rattle.semantics.specs.Search.{attempt, first-of, explicit}
 use Rattle.semantics.proofs.Decoded.{vars-count}
 use Rattle.semantics.proofs.Encoded.{formed-bounds}
 use Rattle.descent.specs.Starts.{Starts, left-over}
-use Rattle.descent.specs.Trails.{Going, Holds}
 use Rattle.descent.proofs.StartingValues.{starts-concrete}
 use Rattle.descent.proofs.Attempts.{from-values, attempts, start-found, start-kept, start-next, fewer, next-starts}
 use Rattle.descent.proofs.attempt.Statement.{statement}

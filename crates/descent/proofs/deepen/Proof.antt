@@ -2,8 +2,7 @@
 use Rattle.semantics.proofs.Prelude.{_≡_, refl, sym, ap, _∙_, subst, not, ℕ, suc, _+_, _-_, _*_, _≤_, mul-le-mul-right, arith, needs, length, lt-leb}
 use Rattle.semantics.specs.Encoding.{decode}
 use Rattle.semantics.specs.Memory.{width}
-use Rattle.semantics.specs.Search.{deepen, first-run, explicit}
-use Rattle.descent.specs.Trails.{Deepening}
+use Rattle.semantics.specs.Search.{first-run, explicit}
 use Rattle.descent.proofs.Attempts.{from-moves, from-none, attempt-found, attempt-next}
 use Rattle.descent.proofs.deepen.Statement.{statement}
 use Rattle.descent.proofs.deepen.Tie as tie

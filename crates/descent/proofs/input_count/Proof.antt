@@ -1,5 +1,5 @@
 -- `descent::input_count` meets its contract. Assumes nothing.
-use Rattle.semantics.proofs.Prelude.{_≡_, sym, ap, _∙_, needs, sfits-of, ℤ, _-ℤ_, length}
+use Rattle.semantics.proofs.Prelude.{sym, ap, _∙_, needs, sfits-of, _-ℤ_, length}
 use Rattle.semantics.specs.Search.{size}
 use Rattle.words.proofs.Words.{told}
 use Rattle.semantics.proofs.RealRuns.{span-length}

@@ -1,5 +1,5 @@
 -- `descent::input_value` meets its contract. Assumes nothing.
-use Rattle.semantics.proofs.Prelude.{_≡_, sym, ap, _∙_, needs, sfits-of, ℤ, pos, _+ℤ_}
+use Rattle.semantics.proofs.Prelude.{sym, ap, _∙_, sfits-of, ℤ, pos, _+ℤ_}
 use Rattle.words.proofs.Words.{told}
 use Rattle.descent.proofs.Moves.{edge-small}
 use Rattle.descent.proofs.Inputs.{first-of-none, value-of-in, value-fits}

@@ -1,5 +1,5 @@
 -- `descent::put_step` meets its contract. Assumes nothing.
-use Rattle.semantics.proofs.Prelude.{_≡_, refl, ap, _∙_, needs, arith, List, [], _∷_, _++_, append-nil, ℕ, suc, _-_, ℤ, pos, length, set, take, drop, length-set, length-take-le, length-drop, drop-of-length-le, w32, toZ, toZ-pos}
+use Rattle.semantics.proofs.Prelude.{_≡_, ap, _∙_, needs, arith, List, [], _∷_, _++_, append-nil, ℕ, suc, _-_, ℤ, length, set, take, drop, length-set, length-take-le, drop-of-length-le, w32, toZ, toZ-pos}
 use Rattle.descent.proofs.put_step.Statement.{statement}
 use Rattle.descent.proofs.put_step.Tie as tie
 

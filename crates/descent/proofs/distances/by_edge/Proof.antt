@@ -7,7 +7,8 @@ use Rattle.semantics.specs.Encoding.{decode}
 use Rattle.transfer.specs.declared.Move.{Move}
 use Rattle.descent.specs.Rows.{edge-of}
 use Rattle.descent.specs.Distances.{distance-in, from-anywhere, move-of}
-use Rattle.descent.proofs.DistanceTests.{edge-near, comes, near-blocked, near-overrun, near-next}
+use Rattle.descent.proofs.Moves.{edge-small}
+use Rattle.descent.proofs.DistanceTests.{comes, near-blocked, near-overrun, near-next}
 use Rattle.descent.proofs.distances.by_edge.Statement.{statement}
 use Rattle.descent.proofs.distances.by_edge.Tie as tie
 
@@ -29,7 +30,7 @@ module _ (c : tie.After-from-anywhere) where
   told m e = sym e ∙ c .from-anywhere .ensures
 
 edge-to-requires : tie.Need-edge-to-requires
-edge-to-requires c κs = let s = start (c .before .before) in edge-near (s .args .chart .now) (s .pre .0) (s .args .edge) (s .pre .1)
+edge-to-requires c κs = let s = start (c .before .before) in edge-small (s .args .chart .now) (s .pre .0) (s .args .edge) (s .pre .1)
 
 returns : tie.Need-returns
 returns c = let l = c .before .before in λ h. near-blocked (d l) (edge l) (step l) (told l _ (c .enum-told .given .1))

@@ -7,7 +7,8 @@ use Rattle.state.specs.Rows.{most-width, width-of, layout-of, with-location}
 use Rattle.transfer.specs.Transfer.{post-at}
 use Rattle.descent.specs.Rows.{edge-of}
 use Rattle.descent.specs.Distances.{anywhere}
-use Rattle.descent.proofs.DistanceTests.{edge-near, narrow, anywhere-row, anywhere-moves}
+use Rattle.descent.proofs.Moves.{edge-small}
+use Rattle.descent.proofs.DistanceTests.{narrow, anywhere-row, anywhere-moves}
 use Rattle.descent.proofs.distances.from_anywhere.Statement.{statement}
 use Rattle.descent.proofs.distances.from_anywhere.Tie as tie
 
@@ -46,7 +47,7 @@ successor-requires : tie.Need-successor-requires
 successor-requires c κs =
     let l = c .before .before .before in
     let s = start l in
-    (omega (arith, row-length l, wide-is l), next-length l ∙ sym (row-length l), edge-near (s .args .chart .now) (s .pre .0) (s .args .edge) (s .pre .1))
+    (omega (arith, row-length l, wide-is l), next-length l ∙ sym (row-length l), edge-small (s .args .chart .now) (s .pre .0) (s .args .edge) (s .pre .1))
 
 returns : tie.Need-returns
 returns c =

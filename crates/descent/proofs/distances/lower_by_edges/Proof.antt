@@ -4,7 +4,8 @@ use Rattle.semantics.specs.Encoding.{edge-in, edge-count}
 use Rattle.transfer.specs.Transfer.{edge-at}
 use Rattle.descent.specs.Rows.{edge-of, Is-edge}
 use Rattle.descent.specs.Distances.{distance-in, Near-by}
-use Rattle.descent.proofs.DistanceTests.{Asked, edge-asks, is-edge, leaves, every-edge, Settled, settled-turn}
+use Rattle.descent.proofs.Moves.{leaves}
+use Rattle.descent.proofs.DistanceTests.{Asked, edge-asks, is-edge, every-edge, Settled, settled-turn}
 use Rattle.descent.proofs.distances.lower_by_edges.Statement.{statement}
 use Rattle.descent.proofs.distances.lower_by_edges.Tie as tie
 
@@ -46,7 +47,7 @@ loop-again c =
     let ds = b .loop .dist in
     let n = b .loop .number in
     let at = edge-is e .at ∙ ap (λ (n : ℕ). edge-at ws (n - 1)) (e .edge-of .ensures .0) in
-    let same : distance-in ds (edge-of ws (e .edge-of .result) .edge .from) ≡ distance-in ds (f .result .0) = ap (distance-in ds) (leaves ws (s .pre) (e .edge-of .result) ∙ sym (f .ensures .0)) in (
+    let same : distance-in ds (edge-of ws (e .edge-of .result) .edge .from) ≡ distance-in ds (f .result .0) = ap (distance-in ds) (leaves ws (e .edge-of .result) ∙ sym (f .ensures .0)) in (
       omega (arith, b .loop .inv .0),
       l .kept .0 ∙ b .loop .inv .1,
       settled-turn (Asked ws) (λ k. (n < k) × (k ≤ edge-count ws)) (λ k. (n - 1 < k) × (k ≤ edge-count ws)) (s .args .dist .now) ds (l .last .0) (b .loop .still) (l .result) n
