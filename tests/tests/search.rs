@@ -86,6 +86,8 @@ fn an_exact_analysis_agrees() {
             let analysis = Analysis::begin(&chart, settings, 256, 60_000);
             let (listing, path) = (listing(&chart, &analysis), path(&chart, &analysis));
             match check_exact(&listing, &path, &searched, MAX_BOUND) {
+                // A chart of more states than slots, one of some tens of thousands.
+                Ok(Exact::Nothing) => {}
                 Ok(exact) => met.add((exact, settings.order.word())),
                 Err(wrong) => panic!("{wrong}: {}", shown(&chart)),
             }

@@ -161,6 +161,8 @@ fn an_exact_walk_agrees() {
             let none: [&str; 0] = [];
             let (listing, path) = (output(&none, &input), output(&["path"], &input));
             match check_exact(&listing, &path, &searched, MAX_BOUND) {
+                // A chart of more states than slots, one of some tens of thousands.
+                Ok(Exact::Nothing) => {}
                 Ok(exact) => met.lock().expect("nobody has failed").add((exact, order)),
                 Err(wrong) => panic!("{name}: {wrong} on {}", input.escape_ascii()),
             }
