@@ -119,8 +119,8 @@ struct tarknotter_reply tarknotter_path(const int32_t *chart, size_t chart_lengt
    brought it (0 at the start), its location's name and its values; an overrunning move is a line of its edge alone. Of the
    shortest it is the first by starting values ascending, variable 0 first, then move by move by edge and input value. Where
    there is none, a line `none` and k. It needs no analysis. The time can grow exponentially with k.
-   Refused with 30 (k not 0 to 8), 20, 31 (an `in` of more than 16 values, or more than 4,096 starting states), 15, in
-   this order. */
+   Refused with 30 (k not 0 to 8), 20, 31 (an `in` of more than 16 values anywhere in the chart, or more than 4,096
+   starting states), 15, in this order. */
 struct tarknotter_reply tarknotter_search(const int32_t *chart, size_t chart_length,
                                           int32_t k,
                                           uint8_t *space, size_t space_length);

@@ -5,10 +5,10 @@ use Rattle.semantics.specs.Layout.{least-number, most-number, operation-place, 
 use Rattle.semantics.specs.Lists.{In}
 use Rattle.semantics.specs.Chart.{Op, input, within, small}
 use Rattle.semantics.specs.Encoding.{word-at, count, op-ok, decode, well-formed}
-use Rattle.semantics.specs.Search.{up, size, span, inputs}
+use Rattle.semantics.specs.Search.{up, size, interval, inputs}
 use Rattle.semantics.proofs.Bools.{to-true, and-left, and-right}
-use Rattle.semantics.proofs.ChartChoices.{span-in}
-use Rattle.semantics.proofs.RealRuns.{span-length}
+use Rattle.semantics.proofs.ChartChoices.{interval-in}
+use Rattle.semantics.proofs.RealRuns.{interval-length}
 use Rattle.words.proofs.Words.{between-fits}
 use Rattle.chart.specs.declared.EdgeRow.{EdgeRow}
 use Rattle.descent.specs.Rows.{edge-of, Is-edge}
@@ -32,9 +32,9 @@ up-get (suc n) zero z h = sym (+ℤ-idr z)
 up-get (suc n) (suc i) z h =
     up-get n i (z +ℤ pos 1) (omega arith) ∙ +ℤ-assoc z (pos 1) (pos i) ∙ ap (λ (k : ℕ). z +ℤ pos k) (omega arith)
 
-pub span-get : (p q : ℤ) (i : ℕ) → i < length (span p q) → getD (span p q) i (pos 0) ≡ p +ℤ pos i
-unfolding span
-span-get p q i h = up-get (size (q -ℤ p)) i p (subst (λ (n : ℕ). i < n) (span-length p q) h)
+pub interval-get : (p q : ℤ) (i : ℕ) → i < length (interval p q) → getD (interval p q) i (pos 0) ≡ p +ℤ pos i
+unfolding interval
+interval-get p q i h = up-get (size (q -ℤ p)) i p (subst (λ (n : ℕ). i < n) (interval-length p q) h)
 
 -- ---- those of an edge, by its words
 
@@ -53,7 +53,7 @@ module _ (ws : List ℤ) (e : EdgeRow) where
   one-value h = one-input op (other-op ws e h)
 
   -- an `in`, the numbers from p to q
-  pub values-of-in : count ws (e .at + operation-place) ≡ in-code → inputs op ≡ span low high
+  pub values-of-in : count ws (e .at + operation-place) ≡ in-code → inputs op ≡ interval low high
   values-of-in h = ap inputs (in-op ws e h)
 
   pub first-of-none : (i : ℕ) → (count ws (e .at + operation-place) ≡ in-code → ⊥) → i < length (inputs op) → pos 0 ≡ getD (inputs op) i (pos 0)
@@ -65,11 +65,11 @@ module _ (ws : List ℤ) (e : EdgeRow) where
 
   module _ (i : ℕ) (h : count ws (e .at + operation-place) ≡ in-code) (l : i < length (inputs op)) where
     pub value-of-in : getD (inputs op) i (pos 0) ≡ low +ℤ pos i
-    value-of-in = ap (λ (xs : List ℤ). getD xs i (pos 0)) (values-of-in h) ∙ span-get low high i (subst (λ (xs : List ℤ). i < length xs) (values-of-in h) l)
+    value-of-in = ap (λ (xs : List ℤ). getD xs i (pos 0)) (values-of-in h) ∙ interval-get low high i (subst (λ (xs : List ℤ). i < length xs) (values-of-in h) l)
 
     -- it lies between p and q
     value-inside : T (within low high (low +ℤ pos i))
-    value-inside = span-in low high (low +ℤ pos i) (subst (λ (x : ℤ). In x (span low high)) (span-get low high i (subst (λ (xs : List ℤ). i < length xs) (values-of-in h) l)) (in-getD (span low high) i (subst (λ (xs : List ℤ). i < length xs) (values-of-in h) l)))
+    value-inside = interval-in low high (low +ℤ pos i) (subst (λ (x : ℤ). In x (interval low high)) (interval-get low high i (subst (λ (xs : List ℤ). i < length xs) (values-of-in h) l)) (in-getD (interval low high) i (subst (λ (xs : List ℤ). i < length xs) (values-of-in h) l)))
 
     -- which are numbers of a file, and so words
     pub value-fits : T (well-formed ws) → Is-edge ws e → SFits w32 (low +ℤ pos i)

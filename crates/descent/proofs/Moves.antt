@@ -15,7 +15,7 @@ use Rattle.semantics.proofs.ConstantValues.{ranged-as-set, between}
 use Rattle.semantics.proofs.Encoded.{well-formed-split, formed-bounds}
 use Rattle.semantics.proofs.Decoded.{edges-count}
 use Rattle.semantics.proofs.Simulate.{AllPairs, StepR}
-use Rattle.semantics.proofs.ChartChoices.{span-in}
+use Rattle.semantics.proofs.ChartChoices.{interval-in}
 use Rattle.chart.specs.declared.EdgeRow.{EdgeRow}
 use Rattle.chart.proofs.Places.{edge-got, edges-near}
 use Rattle.state.specs.Rows.{location-in, values-of, row-at, with-value}
@@ -183,7 +183,7 @@ module _ (ws : List ℤ) (e : EdgeRow) (z : ℤ) (row out : List ℤ) (h : Movab
       let lo = word-at ws (e .at + first-value-place) in
       let hi = word-at ws (e .at + second-value-place) in
       let fine : T (op-ok (c .vars) (input v lo hi)) = subst (λ (x : Op). T (op-ok (c .vars) x)) o (edge-op-ok ws (h .formed) e (h .edge)) in
-      let w : T (within lo hi z) = span-in lo hi z (subst (λ (x : Op). In z (inputs x)) o (h .input)) in
+      let w : T (within lo hi z) = interval-in lo hi z (subst (λ (x : Op). In z (inputs x)) o (h .input)) in
       let inside : T (in-range (c .vars) v z) = between (c .vars) v lo z hi (and-left (leZ lo z) (leZ z hi) w) (and-right (leZ lo z) (leZ z hi) w) (search (and-left, and-right) depth 8) (search (and-left, and-right) depth 8) in
       let q : StepR (Says c) (step-of r out′) (pick (eqb (g .edge .from) (s .loc)) (arrive-at (g .edge .to) (effect (c .vars) (input v lo hi) (map known (s .vals)))) blocked) = rw o at (transferred r out′ p) in
       let m : pick (eqb (g .edge .from) (s .loc)) (at-location (g .edge .to) (apply (c .vars) (g .edge .op) z (s .vals))) blocked ≡ pick (eqb (g .edge .from) (s .loc)) (to (state (g .edge .to) (set (s .vals) v z))) blocked = rw (o, to-true (in-range (c .vars) v z) inside) in

@@ -11,7 +11,7 @@ use Rattle.semantics.proofs.Bools.{from-true, to-true, and-left, and-right, bot
 use Rattle.semantics.proofs.Integers.{leZ-trans, lt-suc, le-sum}
 use Rattle.semantics.proofs.AtAndIn.{at-get}
 use Rattle.semantics.proofs.StatesOk.{Bounds}
-use Rattle.semantics.proofs.ChartChoices.{in-append, in-map, map-in, in-each, each-in, span-in, in-span, span-step, span-stop, gap, starting-in}
+use Rattle.semantics.proofs.ChartChoices.{in-append, in-map, map-in, in-each, each-in, interval-in, in-interval, interval-step, interval-stop, gap, starting-in}
 use Rattle.words.proofs.Words.{bits-eq, bits-ne, between-fits}
 use Rattle.semantics.proofs.Decoded.{vars-count, edges-count}
 use Rattle.chart.specs.Encoded.{edges-at}
@@ -122,7 +122,7 @@ first-init v t = go (v .init) (search (and-left, and-right)) (search (and-left, 
   where
     go : (i : Value) → T (leZ (v .lo) (v .hi)) → T (init-ok (v .lo) (v .hi) i) → init-values (v .lo) (v .hi) i ≡ first-value (v .lo) i ∷ values-after (v .hi) i (first-value (v .lo) i)
     go (known z) l t = rw (to-true (within (v .lo) (v .hi) z) (and-right (small z) (within (v .lo) (v .hi) z) t))
-    go top l t = span-step (v .lo) (v .hi) l
+    go top l t = interval-step (v .lo) (v .hi) l
 
 pub first-starts : (vs : List Var) → T (all var-ok vs) → starting-values vs ≡ first-values vs ∷ starts-after vs (first-values vs)
 first-starts [] t = refl
@@ -137,11 +137,11 @@ first-starts (v ∷ vs) t =
 -- what a variable may start with after x
 next-values : (hi x : ℤ) (i : Value) → rises hi i x ≡ true → values-after hi i x ≡ (x +ℤ pos 1) ∷ values-after hi i (x +ℤ pos 1)
 next-values hi x (known z) e = absurd (from-true e)
-next-values hi x top e = span-step (x +ℤ pos 1) hi (from-true (sym (lt-suc x hi) ∙ e))
+next-values hi x top e = interval-step (x +ℤ pos 1) hi (from-true (sym (lt-suc x hi) ∙ e))
 
 no-values : (hi x : ℤ) (i : Value) → rises hi i x ≡ false → values-after hi i x ≡ []
 no-values hi x (known z) e = refl
-no-values hi x top e = span-stop (x +ℤ pos 1) hi (sym (lt-suc x hi) ∙ e)
+no-values hi x top e = interval-stop (x +ℤ pos 1) hi (sym (lt-suc x hi) ∙ e)
 
 -- a value that goes up by one is a word
 pub rises-fits : (v : Var) (x : ℤ) → T (var-ok v) → SFits w32 x → rises (v .hi) (v .init) x ≡ true → SFits w32 (x +ℤ pos 1)
@@ -189,11 +189,11 @@ after-in (v ∷ vs) xs ys h i =
     later : (i : Value) (x z : ℤ) → In x (init-values (v .lo) (v .hi) i) → In z (values-after (v .hi) i x) → In z (init-values (v .lo) (v .hi) i)
     later (known y) x z h i = absurd i
     later top x z h i =
-        let a = and-left (leZ (v .lo) x) (leZ x (v .hi)) (span-in (v .lo) (v .hi) x h) in
-        let b = span-in (x +ℤ pos 1) (v .hi) z i in
+        let a = and-left (leZ (v .lo) x) (leZ x (v .hi)) (interval-in (v .lo) (v .hi) x h) in
+        let b = interval-in (x +ℤ pos 1) (v .hi) z i in
         let p = leZ-trans (v .lo) x (x +ℤ pos 1) a (le-sum x 1) in
         let q = leZ-trans (v .lo) (x +ℤ pos 1) z p (and-left (leZ (x +ℤ pos 1) z) (leZ z (v .hi)) b) in
-        in-span (v .lo) (v .hi) z (both-true (leZ (v .lo) z) (leZ z (v .hi)) q (and-right (leZ (x +ℤ pos 1) z) (leZ z (v .hi)) b))
+        in-interval (v .lo) (v .hi) z (both-true (leZ (v .lo) z) (leZ z (v .hi)) q (and-right (leZ (x +ℤ pos 1) z) (leZ z (v .hi)) b))
 
     go : (x : ℤ) (xs : List ℤ) → In x (init-values (v .lo) (v .hi) (v .init)) → In xs (starting-values vs) → In ys (starts-after (v ∷ vs) (x ∷ xs))
         → ((zs : List ℤ) → In xs (starting-values vs) → In zs (starts-after vs xs) → In zs (starting-values vs)) → In ys (starting-values (v ∷ vs))

@@ -10,13 +10,13 @@ use Rattle.semantics.specs.Lists.{In, each}
 use Rattle.semantics.specs.Chart.{Value, known, top, Var, Chart}
 use Rattle.semantics.specs.Layout.{variable-at, index-limit}
 use Rattle.semantics.specs.Encoding.{var-in}
-use Rattle.semantics.specs.Search.{span, starting-values}
+use Rattle.semantics.specs.Search.{interval, starting-values}
 use Rattle.state.specs.Rows.{values-of, row-at}
 
 -- of the values that a variable may start with, those after x
 abbrev pub values-after : ℤ → Value → ℤ → List ℤ
 values-after hi (known z) x = []
-values-after hi top x = span (x +ℤ pos 1) hi
+values-after hi top x = interval (x +ℤ pos 1) hi
 
 -- the starting values after xs
 abbrev pub starts-after : List Var → List ℤ → List (List ℤ)

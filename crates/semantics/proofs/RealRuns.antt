@@ -1,22 +1,22 @@
 -- The search over a chart: its moves and overruns are the chart's, so that what it answers is a real run, found exactly when
 -- one exists, the shortest and the first. Assumes nothing.
-use Rattle.semantics.proofs.Prelude.{_≡_, refl, sym, ap, _∙_, subst, inl, inr, Bool, true, false, not, List, [], _∷_, map, Option, none, some, ℕ, zero, suc, _+_, _*_, _≤_, _<_, zero-mul, suc-mul, arith, T, eqb, eqb→eq, eqb-refl, ltb, length, length-append, length-map, getD, set, ℤ, pos, _+ℤ_, _-ℤ_}
-use Rattle.semantics.specs.Lists.{pick, In, all, each}
-use Rattle.semantics.specs.Chart.{Value, known, top, Var, Op, assign, add, sub, input, assume, skip, Chart, Numbered, numbered, State, Moves, Overruns, Error, within, holds, in-range, small, Ranged, value, Becomes, result-outside}
+use Rattle.semantics.proofs.Prelude.{_≡_, refl, sym, ap, _∙_, subst, inl, inr, Bool, true, false, _||_, not, List, [], _∷_, map, Option, none, some, ℕ, zero, suc, _+_, _*_, _≤_, _<_, zero-mul, suc-mul, arith, T, eqb, eqb→eq, eqb-refl, ltb, ltb→lt, lt→ltb, length, length-append, length-map, getD, set, ℤ, pos, _+ℤ_, _-ℤ_}
+use Rattle.semantics.specs.Lists.{pick, In, some-of, all, each}
+use Rattle.semantics.specs.Chart.{Value, known, top, Var, Op, assign, add, sub, input, assume, skip, Edge, Chart, Numbered, numbered, State, Moves, Overruns, Error, within, holds, in-range, small, Ranged, value, Becomes, result-outside}
 use Rattle.semantics.specs.Algorithm.{Step, blocked, fault, to}
 use Rattle.semantics.specs.Coverage.{Leads, Execution, system}
-use Rattle.semantics.specs.Search.{Trail, here, overrun, by, ErrorRun, moves, run-from, first-run, Choice, up, size, span, inputs, choose, choices, stored, apply, state, at-location, move, init-values, starting-values, explicit}
-use Rattle.semantics.specs.RunListing.{wide-input, init-count, start-count}
-use Rattle.semantics.specs.Layout.{most-inputs}
-use Rattle.semantics.specs.Encoding.{init-ok, var-ok}
-use Rattle.semantics.specs.RealRuns.{states-of, overrun-of, Follows, Errs, Answers, Reads, choosing, Earlier, Lower, MayRead, last, EndsAt, ErrsWithin, RealRuns, SearchSizes}
-use Rattle.semantics.proofs.Bools.{from-true, to-true, and-left, and-right}
-use Rattle.semantics.proofs.AtAndIn.{none-some}
+use Rattle.semantics.specs.Search.{Trail, here, overrun, by, ErrorRun, moves, run-from, first-run, Choice, up, size, interval, inputs, choose, choices, stored, apply, state, at-location, move, init-values, starting-values, explicit}
+use Rattle.semantics.specs.RunListing.{wide-input, init-count, start-count, too-wide}
+use Rattle.semantics.specs.Layout.{most-inputs, most-starts}
+use Rattle.semantics.specs.Encoding.{init-ok, var-ok, chart-ok}
+use Rattle.semantics.specs.RealRuns.{states-of, overrun-of, Follows, Errs, Answers, Reads, choosing, Earlier, Lower, MayRead, last, EndsAt, ErrsWithin, RealRuns, TooMany, SearchSizes}
+use Rattle.semantics.proofs.Bools.{from-true, to-true, failed, and-left, and-right, or-left, or-right}
+use Rattle.semantics.proofs.AtAndIn.{none-some, some-at, in-some, at-in}
 use Rattle.semantics.proofs.StatesOk.{bounds}
 use Rattle.semantics.proofs.Covering.{fault-to, blocked-fault, blocked-to}
 use Rattle.semantics.proofs.ConstantValues.{ranged-set, ranged-as-set}
 use Rattle.semantics.proofs.Searching.{lists, lists-answered}
-use Rattle.semantics.proofs.ChartChoices.{span-in, in-span, choices-in, in-choices, choices-ascending, Earlier-asymmetric, Lower-asymmetric, starts-initial, initial-starts, starts-ascending}
+use Rattle.semantics.proofs.ChartChoices.{interval-in, in-interval, choices-in, in-choices, choices-ascending, Earlier-asymmetric, Lower-asymmetric, starts-initial, initial-starts, starts-ascending}
 
 -- ---- a step
 
@@ -28,10 +28,6 @@ next-or x (to y) = y
 
 to-same : {E : Type 0} (x y : E) → to x ≡ to y → x ≡ y
 to-same x y e = ap (next-or x) e
-
-to-false : (b : Bool) → T (not b) → b ≡ false
-to-false true t = absurd t
-to-false false t = refl
 
 -- ---- an operation
 
@@ -68,7 +64,7 @@ module _ (vars : List Var) where
   apply-sound (sub v a b) z xs ys r i h = let p = stored-made v (value a xs -ℤ value b xs) xs ys r h in (p .0, p .1, tt)
   apply-sound (input v p q) z xs ys r i h =
       let t = pick-to (in-range vars v z) (set xs v z) ys h in
-      (rw (t .1) (ranged-as-set vars xs v z r (t .0)), (z, span-in p q z i, t .1), t .1)
+      (rw (t .1) (ranged-as-set vars xs v z r (t .0)), (z, interval-in p q z i, t .1), t .1)
   apply-sound (assume v t a) z xs ys r i h =
       let p = pick-to (holds t (getD xs v (pos 0)) (value a xs)) xs ys h in
       (rw (p .1) r, (p .0, p .1), tt)
@@ -94,9 +90,9 @@ module _ (vars : List Var) where
   apply-fault skip z xs h = absurd (fault-to h refl)
 
   fault-apply : (o : Op) (z : ℤ) (xs : List ℤ) → T (result-outside vars o xs) → apply vars o z xs ≡ fault
-  fault-apply (assign v a) z xs t = rw (to-false (in-range vars v (value a xs)) t)
-  fault-apply (add v a b) z xs t = rw (to-false (in-range vars v (value a xs +ℤ value b xs)) t)
-  fault-apply (sub v a b) z xs t = rw (to-false (in-range vars v (value a xs -ℤ value b xs)) t)
+  fault-apply (assign v a) z xs t = rw (failed (in-range vars v (value a xs)) t)
+  fault-apply (add v a b) z xs t = rw (failed (in-range vars v (value a xs +ℤ value b xs)) t)
+  fault-apply (sub v a b) z xs t = rw (failed (in-range vars v (value a xs -ℤ value b xs)) t)
   fault-apply (input v p q) z xs t = absurd t
   fault-apply (assume v r a) z xs t = absurd t
   fault-apply skip z xs t = absurd t
@@ -115,7 +111,7 @@ input-of : (o : Op) (xs ys : List ℤ) → Becomes o xs ys → (z : ℤ) × In z
 input-of (assign v a) xs ys b = (pos 0, inl refl, tt)
 input-of (add v a b) xs ys h = (pos 0, inl refl, tt)
 input-of (sub v a b) xs ys h = (pos 0, inl refl, tt)
-input-of (input v p q) xs ys h = (h .0, in-span p q (h .0) (h .1), h .2)
+input-of (input v p q) xs ys h = (h .0, in-interval p q (h .0) (h .1), h .2)
 input-of (assume v r a) xs ys h = (pos 0, inl refl, tt)
 input-of skip xs ys h = (pos 0, inl refl, tt)
 
@@ -247,33 +243,32 @@ module _ (c : Chart) where
       let e : moves (p .0) ≡ length ss + n = p .2 in
       (by (choose g (z .0)) t (p .0), (in-choices c g (z .0) (w .1) (z .1), (w .2, z .2), p .1), omega arith)
 
-  found-by : (k n : ℕ) (s : State) (ss : List State) → Execution (system c) (s ∷ ss) → length ss + n ≤ k → ((t : State) → last s ss ≡ t → (r : Trail Choice State) × Follows (choosing c) t r × (moves r ≡ n)) → (q : ErrorRun Choice State) × (first-run (explicit c) k ≡ some q) × (moves (q .trail) ≤ length ss + n)
-  found-by k n s ss w l f =
-      let p = trail-of s ss n (w .1) f in
-      let r : ErrorRun Choice State = run-from s (p .0) in
-      let e : moves (p .0) ≡ length ss + n = p .2 in
-      let a = answered k in
-      let q = a .complete r (w .0, p .1) (omega arith) in
-      let h : moves (q .0 .trail) ≤ moves (p .0) = a .shortest (q .0) r (q .1) (w .0, p .1) in
-      (q .0, q .1, omega arith)
+  -- an execution that errs within j moves is a run of no more
+  as-run : (j : ℕ) (s : State) (ss : List State) → Execution (system c) (s ∷ ss) → ErrsWithin c j s ss → (r : ErrorRun Choice State) × Errs (choosing c) r × (moves (r .trail) ≤ j)
+  as-run j s ss w (inl h) =
+      let p = trail-of s ss 0 (w .1) (λ t e. (here, subst (λ (u : State). Error c u) e (h .1), refl)) in
+      let e : moves (p .0) ≡ length ss + 0 = p .2 in
+      (run-from s (p .0), (w .0, p .1), omega (arith, h .0))
+  as-run j s ss w (inr h) =
+      let g = h .1 .0 in
+      let z = overruns-read-nothing (c .vars) (g .edge .op) (last s ss .vals) (h .1 .2 .outside) in
+      let p = trail-of s ss 1 (w .1) (λ t e. (overrun (choose g (pos 0)), (in-choices c g (pos 0) (h .1 .1) z, subst (λ (u : State). Overruns c (g .edge) u) e (h .1 .2)), refl)) in
+      let e : moves (p .0) ≡ length ss + 1 = p .2 in
+      (run-from s (p .0), (w .0, p .1), omega (arith, h .0))
 
   -- ---- the claim
 
   errs-found : (k : ℕ) (s : State) (ss : List State) → Execution (system c) (s ∷ ss) → ErrsWithin c k s ss → (q : ErrorRun Choice State) × (first-run (explicit c) k ≡ some q)
-  errs-found k s ss w (inl h) =
-      let q = found-by k 0 s ss w (omega (arith, h .0)) (λ t e. (here, subst (λ (u : State). Error c u) e (h .1), refl)) in
-      (q .0, q .1)
-  errs-found k s ss w (inr h) =
-      let g = h .1 .0 in
-      let z = overruns-read-nothing (c .vars) (g .edge .op) (last s ss .vals) (h .1 .2 .outside) in
-      let q = found-by k 1 s ss w (omega (arith, h .0)) (λ t e. (overrun (choose g (pos 0)), (in-choices c g (pos 0) (h .1 .1) z, subst (λ (u : State). Overruns c (g .edge) u) e (h .1 .2)), refl)) in
-      (q .0, q .1)
+  errs-found k s ss w h = let r = as-run k s ss w h in answered k .complete (r .0) (r .1) (r .2)
+
+  none-shorter : (k : ℕ) (q : ErrorRun Choice State) → first-run (explicit c) k ≡ some q → (j : ℕ) (s : State) (ss : List State) → Execution (system c) (s ∷ ss) → ErrsWithin c j s ss → moves (q .trail) ≤ j
+  none-shorter k q e j s ss w h = let r = as-run j s ss w h in omega (arith, r .2, answered k .shortest q (r .0) e (r .1))
 
   may-read : (o : Op) (z : ℤ) → In z (inputs o) → MayRead o z
   may-read (assign v a) z i = only-0 z i
   may-read (add v a b) z i = only-0 z i
   may-read (sub v a b) z i = only-0 z i
-  may-read (input v p q) z i = span-in p q z i
+  may-read (input v p q) z i = interval-in p q z i
   may-read (assume v r a) z i = only-0 z i
   may-read skip z i = only-0 z i
 
@@ -281,7 +276,7 @@ module _ (c : Chart) where
   read-may (assign v a) z i = inl i
   read-may (add v a b) z i = inl i
   read-may (sub v a b) z i = inl i
-  read-may (input v p q) z i = in-span p q z i
+  read-may (input v p q) z i = in-interval p q z i
   read-may (assume v r a) z i = inl i
   read-may skip z i = inl i
 
@@ -292,6 +287,7 @@ module _ (c : Chart) where
         let e = w .0 in
         ((e .0, leads (q .start) (q .trail) (e .1)), ends (q .start) (q .trail) (e .1), w .1);
     errs-found = errs-found k;
+    none-shorter = none-shorter k;
     none-errs = λ n s ss w h. none-some n (errs-found k s ss w h .1);
     answers = answered k;
     chosen = λ a i. let h = choices-in c a i in (h .0, may-read (a .edge .edge .op) (a .input) (h .1));
@@ -304,15 +300,15 @@ up-length : (n : ℕ) (z : ℤ) → length (up n z) ≡ n
 up-length zero z = refl
 up-length (suc n) z = ap suc (up-length n (z +ℤ pos 1))
 
-pub span-length : (p q : ℤ) → length (span p q) ≡ size (q -ℤ p)
-unfolding span
-span-length p q = up-length (size (q -ℤ p)) p
+pub interval-length : (p q : ℤ) → length (interval p q) ≡ size (q -ℤ p)
+unfolding interval
+interval-length p q = up-length (size (q -ℤ p)) p
 
 wide-is : (o : Op) → wide-input o ≡ ltb most-inputs (length (inputs o))
 wide-is (assign v a) = refl
 wide-is (add v a b) = refl
 wide-is (sub v a b) = refl
-wide-is (input v p q) = ap (ltb most-inputs) (sym (span-length p q))
+wide-is (input v p q) = ap (ltb most-inputs) (sym (interval-length p q))
 wide-is (assume v r a) = refl
 wide-is skip = refl
 
@@ -327,7 +323,7 @@ init-counted v t = go (v .init) (search (and-left, and-right))
   where
     go : (x : Value) → T (init-ok (v .lo) (v .hi) x) → init-count (v .lo) (v .hi) x ≡ length (init-values (v .lo) (v .hi) x)
     go (known z) t = rw (to-true (within (v .lo) (v .hi) z) (and-right (small z) (within (v .lo) (v .hi) z) t))
-    go top t = sym (span-length (v .lo) (v .hi))
+    go top t = sym (interval-length (v .lo) (v .hi))
 
 starts-counted : (vars : List Var) → T (all var-ok vars) → start-count vars ≡ length (starting-values vars)
 starts-counted [] t = refl
@@ -337,8 +333,31 @@ starts-counted (v ∷ vs) t =
     (λ i. one i * rest i)
     ∙ sym (each-length (λ (x : ℤ). map (_∷_ x) (starting-values vs)) (length (starting-values vs)) (init-values (v .lo) (v .hi) (v .init)) (λ x. length-map (starting-values vs) (_∷_ x)))
 
+module _ (c : Chart) (t : T (chart-ok c)) where
+  all-counted : start-count (c .vars) ≡ length (explicit c .starts)
+  all-counted = starts-counted (c .vars) (bounds c t .vars) ∙ sym (length-map (starting-values (c .vars)) (state 0))
+
+  abbrev is-wide : Edge → Bool
+  is-wide g = wide-input (g .op)
+
+  wide-many : T (too-wide c) → TooMany c
+  unfolding too-wide
+  wide-many h = go (some-of is-wide (c .edges)) refl h
+    where
+      go : (b : Bool) → some-of is-wide (c .edges) ≡ b → T (b || ltb most-starts (start-count (c .vars))) → TooMany c
+      go true e h =
+          let r = some-at is-wide (c .edges) (from-true e) in
+          inl (r .1, at-in (c .edges) (r .0) (r .1) (r .2), ltb→lt most-inputs (length (inputs (r .1 .op))) (subst T (wide-is (r .1 .op)) (r .3)))
+      go false e h = inr (ltb→lt most-starts (length (explicit c .starts)) (subst (λ (n : ℕ). T (ltb most-starts n)) all-counted h))
+
+  many-wide : TooMany c → T (too-wide c)
+  unfolding too-wide
+  many-wide (inl h) =
+      or-left (some-of is-wide (c .edges)) (ltb most-starts (start-count (c .vars)))
+      (in-some is-wide (c .edges) (h .0) (h .1) (subst T (sym (wide-is (h .0 .op))) (lt→ltb most-inputs (length (inputs (h .0 .op))) (h .2))))
+  many-wide (inr h) =
+      or-right (some-of is-wide (c .edges)) (ltb most-starts (start-count (c .vars)))
+      (subst (λ (n : ℕ). T (ltb most-starts n)) (sym all-counted) (lt→ltb most-starts (length (explicit c .starts)) h))
+
 pub search-sizes : (c : Chart) → SearchSizes c
-search-sizes c = record {
-  inputs-counted = wide-is;
-  starts-counted = λ t. starts-counted (c .vars) (bounds c t .vars) ∙ sym (length-map (starting-values (c .vars)) (state 0));
-}
+search-sizes c = record { wide-many = wide-many c; many-wide = many-wide c }

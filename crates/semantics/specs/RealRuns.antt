@@ -5,17 +5,17 @@ use mathlib.Core.Logic.{_⊎_}
 use mathlib.Core.List.{List, [], _∷_}
 use mathlib.Core.Option.{Option, none, some}
 use Prim.Native.Nat.{ℕ, suc, _≤_, _<_}
-use lib.Dec.{T, ltb}
+use lib.Dec.{T}
 use lib.ListN.{length, set}
 use lib.IntN.{ℤ, pos}
 use lib.Signed.{ltZ}
 use Rattle.semantics.specs.Lists.{In}
-use Rattle.semantics.specs.Chart.{Op, assign, add, sub, input, assume, skip, Chart, Numbered, numbered, State, Initial, Moves, Overruns, Error, within}
+use Rattle.semantics.specs.Chart.{Op, assign, add, sub, input, assume, skip, Edge, Chart, Numbered, numbered, State, Initial, Moves, Overruns, Error, within}
 use Rattle.semantics.specs.Coverage.{System, system, Execution}
-use Rattle.semantics.specs.Layout.{most-inputs}
+use Rattle.semantics.specs.Layout.{most-inputs, most-starts}
 use Rattle.semantics.specs.Encoding.{chart-ok}
 use Rattle.semantics.specs.Search.{Trail, here, overrun, by, ErrorRun, moves, first-run, Choice, inputs, choices, explicit}
-use Rattle.semantics.specs.RunListing.{wide-input, start-count}
+use Rattle.semantics.specs.RunListing.{too-wide}
 
 -- ---- runs and their order, over any system
 
@@ -142,15 +142,21 @@ pub record RealRuns (c : Chart) (k : ℕ) : Type 0 where
   pub errs-found : (s : State) (ss : List State) → Execution (system c) (s ∷ ss) → ErrsWithin c k s ss → (q : ErrorRun Choice State) × (first-run (explicit c) k ≡ some q)
   -- where none is found, no execution errs
   pub none-errs : first-run (explicit c) k ≡ none → (s : State) (ss : List State) → Execution (system c) (s ∷ ss) → ErrsWithin c k s ss → ⊥
-  -- and it is the shortest, and of these the first, among all runs of the chart by its edges and what they may read
+  -- "shown is the shortest": an execution that errs takes as many moves at least
+  pub none-shorter : (q : ErrorRun Choice State) → first-run (explicit c) k ≡ some q → (j : ℕ) (s : State) (ss : List State) → Execution (system c) (s ∷ ss) → ErrsWithin c j s ss → moves (q .trail) ≤ j
+  -- and it is the shortest, and of these the first, among all runs of the chart by choices,
   pub answers : Answers (choosing c) Lower Earlier k (first-run (explicit c) k)
+  -- which are its edges, each with every value that it may read, and nothing else
   pub chosen : (a : Choice) → In a (choices c) → In (a .edge) (numbered c) × MayRead (a .edge .edge .op) (a .input)
   pub all-chosen : (a : Choice) → In (a .edge) (numbered c) → MayRead (a .edge .edge .op) (a .input) → In a (choices c)
 
--- ---- the tests of 31 count what is searched
+-- ---- 31 counts what would be searched
 
+-- some edge, also one that no run takes, may read more than 16 values, or there are more than 4,096 starting states
+abbrev pub TooMany : Chart → Type 0
+TooMany c = ((g : Edge) × In g (c .edges) × (most-inputs < length (inputs (g .op)))) ⊎ (most-starts < length (explicit c .starts))
+
+-- "an `in` wider than 16 values or more than 4,096 starting states": exactly there a chart in form is too wide
 pub record SearchSizes (c : Chart) : Type 0 where
-  -- "an `in` wider than 16 values"
-  pub inputs-counted : (o : Op) → wide-input o ≡ ltb most-inputs (length (inputs o))
-  -- "starting states"; of a chart in form
-  pub starts-counted : T (chart-ok c) → start-count (c .vars) ≡ length (explicit c .starts)
+  pub wide-many : T (chart-ok c) → T (too-wide c) → TooMany c
+  pub many-wide : T (chart-ok c) → TooMany c → T (too-wide c)

@@ -2,7 +2,7 @@
 use Rattle.semantics.proofs.Prelude.{sym, ap, _∙_, needs, sfits-of, _-ℤ_, length}
 use Rattle.semantics.specs.Search.{size}
 use Rattle.words.proofs.Words.{told}
-use Rattle.semantics.proofs.RealRuns.{span-length}
+use Rattle.semantics.proofs.RealRuns.{interval-length}
 use Rattle.descent.proofs.Inputs.{one-value, values-of-in}
 use Rattle.descent.proofs.input_count.Statement.{statement}
 use Rattle.descent.proofs.input_count.Tie as tie
@@ -21,7 +21,7 @@ returns-2 c =
     let a = o .before .args in
     c .size .ensures .0
     ∙ (λ i. size (told (sfits-of {z = q .result} (q .ok)) (q .ensures) i -ℤ told (sfits-of {z = p .result} (p .ok)) (p .ensures) i))
-    ∙ sym (ap length (values-of-in (a .chart .now) (a .edge) (sym (o .edge-operation .ensures .0) ∙ c .before .before .before .if1 .left)) ∙ span-length _ _)
+    ∙ sym (ap length (values-of-in (a .chart .now) (a .edge) (sym (o .edge-operation .ensures .0) ∙ c .before .before .before .if1 .left)) ∙ interval-length _ _)
 
 pub input-count-spec : {M : Type 1} → statement M
 input-count-spec = tie.close (tie.spec (λ c κs. search needs) returns (λ c κs. search needs) (λ c κs. search needs) (λ c κs. search needs) returns-2)
