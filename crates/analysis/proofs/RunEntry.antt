@@ -8,7 +8,7 @@ use Rattle.semantics.specs.Lists.{In, some-of, all}
 use Rattle.semantics.specs.Chart.{Chart, eqZ}
 use Rattle.semantics.specs.Tidy.{Distinct, Queue, Tidy}
 use Rattle.semantics.specs.Memory.{Memory, stride, origin-in, load, below, each-once, zeros, is-alarm, empty-if-safe, analysis-ok}
-use Rattle.semantics.proofs.Bools.{and-left, and-right}
+use Rattle.semantics.proofs.Bools.{failed, and-left, and-right}
 use Rattle.semantics.proofs.Tidy.{some-not}
 use Rattle.semantics.proofs.MemoryOf.{counted}
 use Rattle.semantics.proofs.MemoryInForm.{Form, form, slots-back, zeros-back}
@@ -38,11 +38,7 @@ distinct [] t = tt
 distinct (k ∷ ks) t =
     let b = some-of (eqZ (pos k)) (map pos ks) in
     let o = each-once (map pos ks) in
-    (some-not k ks (sym (any-some k ks) ∙ negated b (and-left (not b) o t)), distinct ks (and-right (not b) o t))
-  where
-    negated : (b : Bool) → T (not b) → b ≡ false
-    negated true t = absurd t
-    negated false t = refl
+    (some-not k ks (sym (any-some k ks) ∙ failed b (and-left (not b) o t)), distinct ks (and-right (not b) o t))
 
 in-use : (n : ℕ) (ks : List ℕ) → T (all (below n) (map pos ks)) → (j : ℕ) → In j ks → j < n
 in-use n [] t j h = absurd h
