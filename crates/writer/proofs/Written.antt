@@ -1,5 +1,5 @@
 -- Writing goes on where it stopped; what fits is written whole. Assumes nothing.
-use Rattle.semantics.proofs.Prelude.{_≡_, refl, sym, ap, subst, _∙_, List, [], _∷_, _++_, ℕ, zero, suc, _+_, _≤_, _<_, zero-add, suc-add, arith, length, take, drop, set, length-append, decLt}
+use Rattle.semantics.proofs.Prelude.{_≡_, refl, sym, ap, subst, _∙_, List, [], _∷_, _++_, ℕ, zero, suc, _+_, _≤_, _<_, zero-add, suc-add, arith, length, take, drop, set, length-append, drop-drop, decLt}
 use Rattle.writer.specs.Writing.{overwritten, written, limit, Put}
 
 pub written-none : (at : ℕ) (out : List ℕ) → written at [] out ≡ out
@@ -62,7 +62,11 @@ written-fits zero bs out h = rw zero-add (over-fits bs out (omega arith))
 written-fits (suc at) bs [] h = absurd (omega arith)
 written-fits (suc at) bs (o ∷ os) h = rw suc-add (ap (λ (l : List ℕ). o ∷ l) (written-fits at bs os (omega arith)))
 
--- ---- `Put`, piece by piece
+-- ---- `Put`, whole and piece by piece
+
+-- bytes that fit, copied over their place
+pub put-whole : (at : ℕ) (bs out : List ℕ) → at + length bs ≤ length out → length out < limit → Put at bs out (take at out ++ (bs ++ drop (length bs) (drop at out))) (at + length bs)
+put-whole at bs out h s = record { bytes = rw drop-drop (sym (written-fits at bs out h)); place = refl; small = s }
 
 -- before the first piece
 pub put-none : (at : ℕ) (out : List ℕ) → length out < limit → Put at [] out out at

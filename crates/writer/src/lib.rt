@@ -3,7 +3,8 @@
 // asks that it fits.
 ghost use mathlib.Core.Path.{_≡_};
 ghost use mathlib.Core.List.{[], _∷_};
-ghost use Prim.Native.Nat.{_+_, _%_, min};
+ghost use Prim.Native.Nat.{_+_, _-_, _%_, min};
+ghost use lib.ListN.{length};
 ghost use Rattle.semantics.specs.Text.{decimal, decimalZ};
 ghost use Rattle.writer.specs.Writing.{Put, limit};
 
@@ -30,7 +31,20 @@ pub fn put_byte(out: &mut [u8], at: usize, b: u8) -> usize
     next(at)
 }
 
-pub fn put_bytes(out: &mut [u8], at: usize, s: &[u8]) -> usize
+// The lengths are the same.
+fn copy_bytes(dst: &mut [u8], src: &[u8])
+    requires { ⌜ length (now dst) ≡ length (now src) ⌝ }
+    ensures { λ _. ⌜ now (dst .exit) ≡ now (src .entry) ⌝ }
+{
+    let mut i = 0;
+    while i < src.len() {
+        dst[i] = src[i];
+        i += 1;
+    }
+}
+
+// Bytes that may lie past the end, each tested.
+fn put_each(out: &mut [u8], at: usize, s: &[u8]) -> usize
     ensures { λ r. ⌜ Put at (now (s .entry)) (now (out .entry)) (now (out .exit)) r ⌝ }
 {
     let mut place = at;
@@ -42,6 +56,28 @@ pub fn put_bytes(out: &mut [u8], at: usize, s: &[u8]) -> usize
     place
 }
 
+// How many bytes are left from a place on.
+fn room(len: usize, at: usize) -> usize
+    ensures { λ r. ⌜ r ≡ len - at ⌝ }
+{
+    if at < len {
+        return len - at;
+    }
+    0
+}
+
+// Bytes that stop short of the end are copied without a test for each.
+pub fn put_bytes(out: &mut [u8], at: usize, s: &[u8]) -> usize
+    ensures { λ r. ⌜ Put at (now (s .entry)) (now (out .entry)) (now (out .exit)) r ⌝ }
+{
+    if room(out.len(), at) <= s.len() {
+        return put_each(out, at, s);
+    }
+    let end = at + s.len();
+    copy_bytes(&mut out[at..end], s);
+    end
+}
+
 // The byte of the last digit. 48 is '0'.
 fn last_digit(n: usize) -> u8
     ensures { λ r. ⌜ r ≡ 48 + n % 10 ⌝ }
@@ -49,14 +85,27 @@ fn last_digit(n: usize) -> u8
     (48 + n % 10) as u8
 }
 
+// The digits of the largest usize.
+const MOST_DIGITS: usize = 20;
+
+// The last digit first, in a row that is filled from its end.
 pub fn put_decimal(out: &mut [u8], at: usize, n: usize) -> usize
     ensures { λ r. ⌜ Put at (decimal n) (now (out .entry)) (now (out .exit)) r ⌝ }
 {
     if n < 10 {
         return put_byte(out, at, last_digit(n));
     }
-    let place = put_decimal(out, at, n / 10);
-    put_byte(out, place, last_digit(n))
+    let mut digits = [0u8; MOST_DIGITS];
+    let mut from = MOST_DIGITS;
+    let mut left = n;
+    while 10 <= left {
+        from -= 1;
+        digits[from] = last_digit(left);
+        left = left / 10;
+    }
+    from -= 1;
+    digits[from] = last_digit(left);
+    put_bytes(out, at, &digits[from..])
 }
 
 // A number with its sign: `-`, or none.
