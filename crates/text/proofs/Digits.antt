@@ -1,10 +1,11 @@
 -- Numbers, digit by digit, and what stays the same where a number is cut. Assumes nothing.
-use Rattle.semantics.proofs.Prelude.{_≡_, refl, sym, ap, _∙_, Bool, true, false, _⊎_, inl, inr, ⊎-elim, List, [], _∷_, Option, some, none, ℕ, zero, suc, _+_, _-_, _*_, _≤_, _<_, min, add-one, arith, length, getD, take, drop, drop-of-length-le, drop-cons, ℤ, pos, negsuc, natAbs, negℤ, _-ℤ_, +ℤ-idl, w32, SFits, toZ, ofZ, toZ-ofZ, eq-eqb, ne-eqb, le-leb, lt-leb, le-ltb, ltb, toZ-pos, and-false, decLt}
+use Rattle.semantics.proofs.Prelude.{_≡_, refl, sym, ap, _∙_, Bool, true, false, _&&_, _⊎_, inl, inr, ⊎-elim, List, [], _∷_, Option, some, none, ℕ, zero, suc, _+_, _-_, _*_, _≤_, _<_, min, add-one, arith, length, getD, take, drop, drop-of-length-le, drop-cons, ℤ, pos, negsuc, natAbs, negℤ, _-ℤ_, +ℤ-idl, w32, SFits, toZ, ofZ, toZ-ofZ, eq-eqb, ne-eqb, le-leb, lt-leb, le-ltb, ltb, toZ-pos, and-false, decLt, _^_, leb, leb-true}
 use Rattle.semantics.specs.Layout.{least-number, most-number, byte-limit}
-use Rattle.semantics.specs.Lists.{pick}
+use Rattle.semantics.specs.Lists.{pick, all}
 use Rattle.semantics.specs.Text.{between, digits, natural-of, nonnegative, negative, number-of}
 use Rattle.semantics.specs.Chart.{small}
 use Rattle.semantics.specs.Reading.{fail, ok, check, small-or, below-or}
+use Rattle.semantics.proofs.Bools.{from-false, left-true, right-true, and-regroup}
 use Rattle.words.proofs.Rows.{tail}
 use Rattle.text.specs.Fields.{number-cut, clamp, natural-read, IsCut, number-read, natural-said, number-said}
 use Rattle.text.specs.declared.Natural.the-variants as natural
@@ -45,6 +46,44 @@ capped-same (b ∷ bs) n m h = go (between 48 57 b) (capped-same bs (n * 10 + (b
         → natural-read (pick t (digits (n * 10 + (b - 48)) bs) none) ≡ natural-read (pick t (digits (m * 10 + (b - 48)) bs) none)
     go true ih = ih
     go false ih = refl
+
+-- ---- digits that are only looked at
+
+-- one byte more, without a branch
+pub all-turn : (p : ℕ → Bool) (l : List ℕ) (i : ℕ) (so-far here : Bool) → i < length l → here ≡ p (getD l i 0) → so-far && all p (drop i l) ≡ so-far && here && all p (drop (i + 1) l)
+all-turn p l i so-far here h e = rw (add-one, drop-cons l i 0 h, e) (and-regroup so-far (p (getD l i 0)) (all p (drop (suc i) l)))
+
+pub digits-none : (n : ℕ) (l : List ℕ) → all (between 48 57) l ≡ false → digits n l ≡ none
+unfolding digits
+digits-none n [] e = absurd (from-false e tt)
+digits-none n (b ∷ bs) e = go (between 48 57 b) e (digits-none (n * 10 + (b - 48)) bs)
+  where
+    go : (t : Bool) → t && all (between 48 57) bs ≡ false → (all (between 48 57) bs ≡ false → digits (n * 10 + (b - 48)) bs ≡ none) → pick t (digits (n * 10 + (b - 48)) bs) none ≡ none
+    go true e ih = ih e
+    go false e ih = refl
+
+-- k digits more reach the cut
+reach : (k i n : ℕ) (l : List ℕ) → k + i ≡ 5 → k ≤ length l → 10 ^ i ≤ n → all (between 48 57) l ≡ true → natural-read (digits n l) ≡ natural.Is number-cut
+unfolding digits natural-read
+reach zero i n [] s f h e =
+    let z : i ≡ 5 = omega arith in
+    let c : number-cut ≤ n = rw z at h in
+    ap natural.Is (omega arith)
+reach (suc k) i n [] s f h e = absurd (omega arith)
+reach zero i n (b ∷ bs) s f h e =
+    rw (left-true (between 48 57 b) (all (between 48 57) bs) e)
+    (reach zero i (n * 10 + (b - 48)) bs s (omega arith) (omega arith) (right-true (between 48 57 b) (all (between 48 57) bs) e))
+reach (suc k) i n (b ∷ bs) s f h e =
+    rw (left-true (between 48 57 b) (all (between 48 57) bs) e)
+    (reach k (suc i) (n * 10 + (b - 48)) bs (omega arith) (omega arith) (omega arith) (right-true (between 48 57 b) (all (between 48 57) bs) e))
+
+pub digits-reach : (l : List ℕ) → (getD l 0 0 ≡ 48 → ⊥) → 6 ≤ length l → all (between 48 57) l ≡ true → natural-read (digits 0 l) ≡ natural.Is number-cut
+unfolding digits
+digits-reach [] w h e = absurd (omega arith)
+digits-reach (b ∷ bs) w h e =
+    let t = left-true (between 48 57 b) (all (between 48 57) bs) e in
+    let low : 48 ≤ b = leb-true 48 b (left-true (leb 48 b) (leb b 57) t) in
+    rw t (reach 5 0 (0 * 10 + (b - 48)) bs refl (omega arith) (omega (arith, low, w)) (right-true (between 48 57 b) (all (between 48 57) bs) e))
 
 -- ---- a natural number, by its first byte
 

@@ -8,8 +8,8 @@ ghost use Prim.Native.Nat.{_≤_, min};
 ghost use lib.Dec.{eqb};
 ghost use lib.ListN.{length, getD};
 ghost use Rattle.semantics.specs.Layout.{byte-limit};
-ghost use Rattle.semantics.specs.Lists.{pick};
-ghost use Rattle.semantics.specs.Text.{same-bytes, fields, name-byte, name-ok, digits, natural-of, nonnegative, negative, number-of};
+ghost use Rattle.semantics.specs.Lists.{pick, all};
+ghost use Rattle.semantics.specs.Text.{between, same-bytes, fields, name-byte, name-ok, digits, natural-of, nonnegative, negative, number-of};
 ghost use Rattle.semantics.specs.Chart.{within, known, num, var};
 ghost use Rattle.semantics.specs.Reading.{ok, check, if-ok, nth, none-empty, small-or, number-field, below-or, location-field, target-field, operand-field, init-field, kind-field, rel-field, op-word-field};
 ghost use Rattle.semantics.specs.Reading.{filled as filled-with};
@@ -200,6 +200,43 @@ fn digits_in(f: &[u8]) -> Natural
     Natural::Is(n)
 }
 
+// 48 is '0' and 57 is '9'.
+fn is_digit(b: u8) -> bool
+    ensures { λ r. ⌜ r ≡ between 48 57 b ⌝ }
+{
+    (b'0' <= b) & (b <= b'9')
+}
+
+// No branch on a byte, so that several are looked at at once.
+fn all_digits(f: &[u8]) -> bool
+    ensures { λ r. ⌜ r ≡ all (between 48 57) (now (f .entry)) ⌝ }
+{
+    let mut ok = true;
+    let mut i = 0;
+    while i < f.len() {
+        ok = ok & is_digit(f[i]);
+        i += 1;
+    }
+    ok
+}
+
+// So many digits that do not begin with 0 reach the cut.
+const CUT_DIGITS: usize = 6;
+
+// Digits that do not begin with 0. How large they are is worked out only of those below the cut.
+fn positive_in(f: &[u8]) -> Natural
+    requires { ⌜ (getD (now f) 0 0 ≡ 48 → ⊥) ⌝ }
+    ensures { λ r. ⌜ r ≡ natural-read (digits 0 (now (f .entry))) ⌝ }
+{
+    if f.len() < CUT_DIGITS {
+        return digits_in(f);
+    }
+    if all_digits(f) {
+        return Natural::Is(NUMBER_CUT);
+    }
+    Natural::Malformed
+}
+
 // 0, or digits that do not begin with 0.
 fn natural_in(f: &[u8]) -> Natural
     ensures { λ r. ⌜ r ≡ natural-read (natural-of (now (f .entry))) ⌝ }
@@ -208,7 +245,7 @@ fn natural_in(f: &[u8]) -> Natural
         return Natural::Malformed;
     }
     if f[0] != b'0' {
-        return digits_in(f);
+        return positive_in(f);
     }
     if f.len() == 1 {
         return Natural::Is(0);

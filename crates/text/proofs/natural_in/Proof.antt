@@ -10,7 +10,7 @@ unfolding natural-read
 returns c = sym (ap natural-read (natural-empty _ (c .if1 .taken)))
 
 returns-2 : tie.Need-returns-2
-returns-2 c = c .digits-in .ensures ∙ ap natural-read (sym (natural-digits _ (c .before .before .before .if1 .left) (c .before .if2 .taken)))
+returns-2 c = c .positive-in .ensures ∙ ap natural-read (sym (natural-digits _ (c .before .before .before .if1 .left) (c .before .if2 .taken)))
 
 returns-3 : tie.Need-returns-3
 unfolding natural-read
