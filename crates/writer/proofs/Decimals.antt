@@ -3,6 +3,8 @@ use Rattle.semantics.proofs.Prelude.{_≡_, refl, sym, ap, subst, _∙_, Bool, 
 use Rattle.semantics.specs.Lists.{pick}
 use Rattle.semantics.specs.Text.{digits-of, decimal, decimalZ}
 use Rattle.semantics.proofs.Numbers.{last, digits-enough}
+use Rattle.writer.specs.Writing.{Put}
+use Rattle.writer.proofs.Written.{put-then, put-same}
 
 -- what stands behind stays behind
 digits-front : (f n : ℕ) (bs : List ℕ) → digits-of f n bs ≡ digits-of f n [] ++ bs
@@ -26,6 +28,18 @@ decimal-more zero h = absurd (omega arith)
 decimal-more (suc n) h =
     rw (le-ltb (suc n) 10 h) (digits-front n (suc n / 10) (last (suc n) ∷ []))
     ∙ ap (λ (l : List ℕ). l ++ (last (suc n) ∷ [])) (digits-enough n (suc n / 10) (suc n / 10) [] (omega arith) (omega arith))
+
+-- two digits at a time
+pub decimal-two : (n : ℕ) → 10 ≤ n → n < 100 → decimal n ≡ last (n / 10) ∷ last n ∷ []
+decimal-two n h l = decimal-more n h ∙ rw (decimal-one (n / 10) (omega arith))
+
+decimal-pair : (n : ℕ) → 100 ≤ n → decimal n ≡ decimal (n / 100) ++ (last (n / 10) ∷ last n ∷ [])
+decimal-pair n h =
+    let e : n / 10 / 10 ≡ n / 100 = omega arith in
+    decimal-more n (omega arith) ∙ rw (decimal-more (n / 10) (omega arith), e) (append-assoc (decimal (n / 100)) (last (n / 10) ∷ []) (last n ∷ []))
+
+pub put-pair : {at place r : ℕ} {out out′ out″ : List ℕ} (n m : ℕ) → 100 ≤ n → m ≡ n / 100 → Put at (decimal m) out out′ place → Put place (last (n / 10) ∷ last n ∷ []) out′ out″ r → Put at (decimal n) out out″ r
+put-pair n m h e p q = put-same (sym (decimal-pair n h)) (put-then (put-same (ap decimal e) p) q)
 
 -- ---- a row of digits that is filled from its end
 

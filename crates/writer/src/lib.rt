@@ -3,7 +3,7 @@
 // asks that it fits.
 ghost use mathlib.Core.Path.{_≡_};
 ghost use mathlib.Core.List.{[], _∷_};
-ghost use Prim.Native.Nat.{_+_, _-_, _%_, min};
+ghost use Prim.Native.Nat.{_+_, _-_, _/_, _%_, _<_, min};
 ghost use lib.ListN.{length};
 ghost use Rattle.semantics.specs.Text.{decimal, decimalZ};
 ghost use Rattle.writer.specs.Writing.{Put, limit};
@@ -85,16 +85,31 @@ fn last_digit(n: usize) -> u8
     (48 + n % 10) as u8
 }
 
-// The digits of the largest usize.
-const MOST_DIGITS: usize = 20;
+// The last digit but one, and the last.
+fn put_two(out: &mut [u8], at: usize, n: usize) -> usize
+    ensures { λ r. ⌜ Put at ((48 + n / 10 % 10) ∷ (48 + n % 10) ∷ []) (now (out .entry)) (now (out .exit)) r ⌝ }
+{
+    let place = put_byte(out, at, last_digit(n / 10));
+    put_byte(out, place, last_digit(n))
+}
 
-// The last digit first, in a row that is filled from its end.
-pub fn put_decimal(out: &mut [u8], at: usize, n: usize) -> usize
+fn put_below_hundred(out: &mut [u8], at: usize, n: usize) -> usize
+    requires { ⌜ n < 100 ⌝ }
     ensures { λ r. ⌜ Put at (decimal n) (now (out .entry)) (now (out .exit)) r ⌝ }
 {
     if n < 10 {
         return put_byte(out, at, last_digit(n));
     }
+    put_two(out, at, n)
+}
+
+// The digits of the largest usize.
+const MOST_DIGITS: usize = 20;
+
+// A number of any size: the last digit first, in a row that is filled from its end.
+fn put_large(out: &mut [u8], at: usize, n: usize) -> usize
+    ensures { λ r. ⌜ Put at (decimal n) (now (out .entry)) (now (out .exit)) r ⌝ }
+{
     let mut digits = [0u8; MOST_DIGITS];
     let mut from = MOST_DIGITS;
     let mut left = n;
@@ -106,6 +121,25 @@ pub fn put_decimal(out: &mut [u8], at: usize, n: usize) -> usize
     from -= 1;
     digits[from] = last_digit(left);
     put_bytes(out, at, &digits[from..])
+}
+
+// Two digits at a time where they are few, as they nearly always are.
+pub fn put_decimal(out: &mut [u8], at: usize, n: usize) -> usize
+    ensures { λ r. ⌜ Put at (decimal n) (now (out .entry)) (now (out .exit)) r ⌝ }
+{
+    if n < 100 {
+        return put_below_hundred(out, at, n);
+    }
+    if n < 10_000 {
+        let place = put_below_hundred(out, at, n / 100);
+        return put_two(out, place, n);
+    }
+    if n < 1_000_000 {
+        let first = put_below_hundred(out, at, n / 10_000);
+        let second = put_two(out, first, n / 100);
+        return put_two(out, second, n);
+    }
+    put_large(out, at, n)
 }
 
 // A number with its sign: `-`, or none.

@@ -1,54 +1,30 @@
--- `writer::put_decimal` meets its contract: the digits still to come stand before those in the row. Assumes nothing.
-use Rattle.semantics.proofs.Prelude.{needs, arith, _≡_, refl, sym, ap, _∙_, [], _∷_, _++_, append-nil, ℕ, _^_, _≤_, _<_, length, length-set, drop}
-use Rattle.semantics.specs.Text.{decimal}
-use Rattle.writer.proofs.Written.{put-same}
-use Rattle.writer.proofs.Decimals.{decimal-one, row-more, row-end, row-room}
+-- `writer::put_decimal` meets its contract: the digits before the last two are those of the hundredth. Assumes nothing.
+use Rattle.semantics.proofs.Prelude.{needs, arith, refl, _/_}
+use Rattle.writer.proofs.Decimals.{put-pair}
 use Rattle.writer.proofs.put_decimal.Statement.{statement}
 use Rattle.writer.proofs.put_decimal.Tie as tie
 
-abbrev Inv-loop : tie.InvT-loop
-Inv-loop out at n digits₀ from₀ left₀ digits from left = (length digits ≡ 20) × (from ≤ 20) × (1 ≤ from) × (left < 10 ^ from) × (decimal n ≡ decimal left ++ drop from digits)
-
-abbrev μ-loop : tie.MeasureT-loop
-μ-loop out at n digits₀ from₀ left₀ digits from left = left
-
-returns : tie.Need-returns Inv-loop μ-loop
-returns c =
-    let d = c .before .before .before in
-    let t = d .before .before in
-    put-same (ap (λ (d : ℕ). d ∷ []) (d .last-digit .ensures) ∙ sym (decimal-one (t .before .before .args .n) (t .if1 .taken))) (c .before .before .put-byte .ensures)
-
-loop-holds : tie.Need-loop-holds Inv-loop μ-loop
-loop-holds c = (refl, omega arith, omega arith, omega arith, sym (append-nil _))
-
-loop-again : tie.Need-loop-again Inv-loop μ-loop
-loop-again c =
-    let l = c .before .before .loop in
-    let t = c .before .loop-test .taken in
-    let r = row-room (l .left) (l .from) t (l .inv .3) in
-    (simp length-set (l .inv .0), omega arith, omega (arith, r .0), r .1, rw (c .last-digit2 .ensures) (row-more _ (l .left) (l .from) (l .digits) (l .inv .2) (omega (arith, l .inv .0, l .inv .1)) (l .inv .4) t))
-
-part-end : tie.Need-part-put-bytes-end Inv-loop μ-loop
-part-end c = simp length-set (omega (arith, c .before .before .before .before .loop .inv .0))
-
-returns-2 : tie.Need-returns-2 Inv-loop μ-loop
+returns-2 : tie.Need-returns-2
 returns-2 c =
-    let d = c .before .before .before .before .before .before in
-    let l = d .before .before .loop in
-    let e = row-end _ (l .left) (l .from) (l .digits) (l .inv .2) (omega (arith, l .inv .0, l .inv .1)) (l .inv .4) (omega (arith, d .before .loop-test .left)) 20 (omega (arith, l .inv .0)) in
-    put-same (rw (d .last-digit3 .ensures) e) (c .before .before .put-bytes .ensures)
+    let p = c .before .before .before .before .before .before in
+    let t = p .before .before .before in
+    put-pair (t .before .before .args .n) _ (t .if1 .left) refl (p .put-below-hundred2 .ensures) (c .before .before .put-two .ensures)
+
+returns-3 : tie.Need-returns-3
+returns-3 c =
+    let q = c .before .before .before .before .before .before in
+    let p = q .before .before .before .before in
+    let t = p .before .before .before in
+    let n = t .before .before .before .args .n in
+    put-pair n (n / 100) (omega (arith, t .if2 .left)) refl (put-pair (n / 100) (n / 10000) (omega (arith, t .if2 .left)) (omega arith) (p .put-below-hundred3 .ensures) (q .put-two2 .ensures)) (c .before .before .put-two3 .ensures)
 
 pub put-decimal-spec : {M : Type 1} → statement M
 put-decimal-spec =
     tie.close
     (tie.spec
-    Inv-loop
-    μ-loop
+    (λ c κs. search needs) (λ c. search needs) (λ c. search needs)
     (λ c κs. search needs) (λ c κs. search needs) (λ c. search needs)
-    returns
-    loop-holds
-    (λ c. search needs) (λ c κs. search needs) (λ c. search needs) (λ c. search needs)
-    loop-again
-    (λ c. search needs) (λ c κs. search needs) (λ c. search needs)
-    (λ c. search needs) (λ c. search needs) part-end (λ c κs. search needs) (λ c. search needs)
-    returns-2)
+    returns-2
+    (λ c κs. search needs) (λ c κs. search needs) (λ c κs. search needs) (λ c. search needs)
+    returns-3
+    (λ c κs. search needs) (λ c. search needs) (λ c. search needs))
