@@ -5,6 +5,7 @@ use Rattle.semantics.specs.Reading.{fail, ok, nth, So-far, nothing-read, var-li
 use Rattle.text.specs.Fields.{up-to}
 use Rattle.text.proofs.LineEnds.{lines-at, lines-done}
 use Rattle.text.specs.Places.{line-at, place-after}
+use Rattle.text.specs.declared.lines.Form.{Form}
 use Rattle.text.specs.declared.lines.Line.{Line}
 use Rattle.text.proofs.Places.{Lies, line-some}
 use Rattle.reader.specs.ReadSoFar.{LineJudged, goes-on, nothing-judged, Along, Through, Goes, Stands-by, Stands, Few-of, Judgeable}
@@ -57,7 +58,7 @@ module _ {text : List ℕ} {at line : ℕ} {t : Tally} {rows names : List ℤ} (
   all-judged h = record { chart = a .read .chart; few = a .few; held = a .held; is = a .is ∙ judged-end text at (line + 1) (a .read) h }
 
   -- one line more
-  pub line-judged : {start end next : ℕ} → Lies text at start end next → (r : Judgement) (rows′ names′ : List ℤ) → LineJudged r (judge (a .read) (fields (take (end - start) (drop start text)))) rows′ names′
+  pub line-judged : {start end next : ℕ} {form : Form} → Lies text at start end next form → (r : Judgement) (rows′ names′ : List ℤ) → LineJudged r (judge (a .read) (fields (take (end - start) (drop start text)))) rows′ names′
       → Stands-by (goes-on r) text next (line + 1) r rows′ names′
   line-judged l (judgement.Refused k) rows′ names′ h = a .is ∙ judged-stop text at _ (line + 1) (a .read) (l .here) (l .ends) (rw (l .begins) at h)
   line-judged l (judgement.Passed u) rows′ names′ h = record {

@@ -1,6 +1,7 @@
 -- What the answers of the functions over a file and a line say: each enum as the definitions' refusal or value.
 -- Assumes nothing.
 use mathlib.Core.Option.{Option, none, some}
+use mathlib.Core.List.{List}
 use Prim.Native.Nat.{ℕ}
 use Rattle.semantics.specs.Chart.{Var, Op, Edge}
 use Rattle.semantics.specs.Operations.{the-operation}
@@ -13,6 +14,8 @@ use Rattle.reader.specs.declared.variable.VarLine.{VarLine}
 use Rattle.reader.specs.declared.variable.VarLine.the-variants as var-line
 use Rattle.reader.specs.declared.operation.OperationRead.{OperationRead}
 use Rattle.reader.specs.declared.operation.OperationRead.the-variants as operation
+use Rattle.text.specs.Fields.{field-at}
+use Rattle.reader.specs.declared.edge.EdgeFields.{EdgeFields}
 use Rattle.reader.specs.declared.edge.EdgeRead.{EdgeRead}
 use Rattle.reader.specs.declared.edge.EdgeRead.the-variants as edge
 
@@ -39,3 +42,7 @@ op-res (operation.Is o) = ok (the-operation o)
 abbrev pub edge-res : EdgeRead → Res Edge
 edge-res (edge.Refused k) = fail k
 edge-res (edge.Is g) = ok (the-edge (g .from .0) (g .to .0) (g .op))
+
+-- where the fields of an E line lie, up to its operation's word
+abbrev pub edge-fields : List ℕ → EdgeFields
+edge-fields line = record { from = field-at line 1; to = field-at line 2; word = field-at line 3 }

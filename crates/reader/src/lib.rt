@@ -9,6 +9,7 @@ ghost use Rattle.semantics.specs.Chart.{Chart};
 ghost use Rattle.semantics.specs.Encoding.{encode};
 ghost use Rattle.semantics.specs.Reading.{So-far, judge, at-end, refused-at, bad-byte-line, open-line};
 ghost use Rattle.semantics.specs.Outcomes.{chart-outcome, held-by, read-outcome};
+ghost use Rattle.text.specs.Places.{form-of};
 ghost use Rattle.reader.specs.ReadSoFar.{Few, Rows, Names, LineJudged, lines-judged, goes-on, nothing-judged, Came, Judgeable, Advanced, most-rows, most-names};
 
 mod edge;
@@ -55,19 +56,26 @@ fn at_end(t: Tally, rows: &[i32], words: &mut [i32]) -> semantics::Answer
 }
 
 // One line, by its kind.
-fn judge_line(t: Tally, rows: &mut [i32], names: &mut [i32], line: &[u8]) -> Judgement
-    requires { ⌜ Few t × (length (now rows) ≡ most-rows) × (length (now names) ≡ most-names) ⌝ }
+fn judge_line(
+    t: Tally,
+    rows: &mut [i32],
+    names: &mut [i32],
+    line: &[u8],
+    form: text::lines::Form,
+) -> Judgement
+    requires { ⌜ Few t × (length (now rows) ≡ most-rows) × (length (now names) ≡ most-names) × (form ≡ form-of (now line)) ⌝ }
     ensures { λ r. ⌜ ((s : So-far) → Rows t (now (rows .entry)) (s .chart) → Names (t .vars) (now (names .entry)) (s .names) → LineJudged r (judge s (fields (now (line .entry)))) (now (rows .exit)) (now (names .exit))) ⌝ }
 {
-    let kind = text::field(line, 0);
+    let first = text::first_field(line);
+    let kind = text::field_bytes(line, first);
     if text::same_bytes(kind, b"V") {
-        return variable::read_line(t, rows, names, line);
+        return variable::read_line(t, rows, names, line, form, first);
     }
     if text::same_bytes(kind, b"L") {
-        return location::read_line(t, rows, line);
+        return location::read_line(t, rows, line, form, first);
     }
     if text::same_bytes(kind, b"E") {
-        return edge::read_line(t, rows, line);
+        return edge::read_line(t, rows, line, form, first);
     }
     Judgement::Refused(4)
 }
@@ -104,14 +112,20 @@ fn advance(
     let Judgement::Passed(t) = s else {
         return p;
     };
-    let text::lines::Line::Text { start, end, .. } = l else {
+    let text::lines::Line::Text {
+        start,
+        end,
+        form,
+        ..
+    } = l
+    else {
         return Descent {
             going: false,
             line: p.line,
             last: s,
         };
     };
-    let after = judge_line(t, rows, names, &text[start..end]);
+    let after = judge_line(t, rows, names, &text[start..end], form);
     Descent {
         going: goes(after),
         line: p.line + 1,

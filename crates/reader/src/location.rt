@@ -1,5 +1,7 @@
 // `L name kind`: the line is judged, and its row stored.
 use semantics::MOST_LOCATIONS;
+use text::Field;
+use text::lines::Form;
 ghost use mathlib.Core.Path.{_≡_};
 ghost use lib.Dec.{T};
 ghost use mathlib.Core.List.{List};
@@ -9,7 +11,8 @@ ghost use lib.ListN.{length};
 ghost use Rattle.semantics.specs.Layout.{most-locations};
 ghost use Rattle.semantics.specs.Text.{fields, name-ok};
 ghost use Rattle.semantics.specs.Reading.{So-far, loc-line};
-ghost use Rattle.text.specs.Fields.{kind-res};
+ghost use Rattle.text.specs.Fields.{kind-res, field-at};
+ghost use Rattle.text.specs.Places.{form-of};
 ghost use Rattle.reader.specs.Lines.{loc-judged, loc-named};
 ghost use Rattle.reader.specs.ReadSoFar.{Few, Rows, Names, LineJudged, most-rows};
 use super::tally::Judgement;
@@ -17,16 +20,18 @@ use super::tally::Tally;
 use super::tally::used_words;
 
 // All the fields: their count, then the name, then the kind, which is the answer.
-fn judged(line: &[u8]) -> text::KindRead
+fn judged(line: &[u8], form: Form, name: Field) -> text::KindRead
+    requires { ⌜ (form ≡ form-of (now line)) × (name ≡ field-at (now line) 1) ⌝ }
     ensures { λ r. ⌜ kind-res r ≡ loc-judged (fields (now (line .entry))) ⌝ }
 {
-    if !text::filled(line, 3) {
+    if !form.has(3) {
         return text::KindRead::Refused(5);
     }
-    if !text::name_ok(text::field(line, 1)) {
+    if !text::name_ok(text::field_bytes(line, name)) {
         return text::KindRead::Refused(6);
     }
-    text::kind_field(text::field(line, 2))
+    let kind = text::field_after(line, name);
+    text::kind_field(text::field_bytes(line, kind))
 }
 
 // A location, if its name is new.
@@ -48,8 +53,8 @@ fn named(t: Tally, rows: &mut [i32], error: bool, name: &[u8]) -> Judgement
 }
 
 // An L line, which stands before every E.
-pub fn read_line(t: Tally, rows: &mut [i32], line: &[u8]) -> Judgement
-    requires { ⌜ Few t × (length (now rows) ≡ most-rows) ⌝ }
+pub fn read_line(t: Tally, rows: &mut [i32], line: &[u8], form: Form, kind: Field) -> Judgement
+    requires { ⌜ Few t × (length (now rows) ≡ most-rows) × (form ≡ form-of (now line)) × (kind ≡ field-at (now line) 0) ⌝ }
     ensures { λ r. ⌜ ((s : So-far) (names : List ℤ) → Rows t (now (rows .entry)) (s .chart) → Names (t .vars) names (s .names) → LineJudged r (loc-line s (fields (now (line .entry)))) (now (rows .exit)) names) ⌝ }
 {
     if t.edges != 0 {
@@ -58,8 +63,9 @@ pub fn read_line(t: Tally, rows: &mut [i32], line: &[u8]) -> Judgement
     if MOST_LOCATIONS <= t.locs {
         return Judgement::Refused(8);
     }
-    match judged(line) {
+    let name = text::field_after(line, kind);
+    match judged(line, form, name) {
         text::KindRead::Refused(k) => Judgement::Refused(k),
-        text::KindRead::Is(error) => named(t, rows, error, text::field(line, 1)),
+        text::KindRead::Is(error) => named(t, rows, error, text::field_bytes(line, name)),
     }
 }

@@ -1,5 +1,7 @@
 // `V name lo hi init`: the line is judged, and its row stored.
 use semantics::MOST_VARIABLES;
+use text::Field;
+use text::lines::Form;
 ghost use mathlib.Core.Path.{_≡_};
 ghost use lib.Dec.{T};
 ghost use Prim.Native.Nat.{_<_};
@@ -7,6 +9,8 @@ ghost use lib.ListN.{length};
 ghost use Rattle.semantics.specs.Layout.{most-variables};
 ghost use Rattle.semantics.specs.Text.{fields, name-ok};
 ghost use Rattle.semantics.specs.Reading.{So-far, var-line};
+ghost use Rattle.text.specs.Fields.{field-at};
+ghost use Rattle.text.specs.Places.{form-of};
 ghost use Rattle.reader.specs.Answers.{var-of, var-res};
 ghost use Rattle.reader.specs.Lines.{var-init, var-high, var-low, var-judged, var-named};
 ghost use Rattle.reader.specs.ReadSoFar.{Few, Rows, Names, LineJudged, most-rows, most-names};
@@ -42,14 +46,16 @@ fn init(lo: i32, hi: i32, f: &[u8]) -> VarLine
 }
 
 // The fields from `hi` on, which is not below lo.
-fn high(lo: i32, line: &[u8]) -> VarLine
+fn high(lo: i32, line: &[u8], at: Field) -> VarLine
+    requires { ⌜ at ≡ field-at (now line) 3 ⌝ }
     ensures { λ r. ⌜ var-res r ≡ var-high lo (fields (now (line .entry))) ⌝ }
 {
-    match text::number_field(text::field(line, 3)) {
+    match text::number_field(text::field_bytes(line, at)) {
         text::WordRead::Refused(k) => VarLine::Refused(k),
         text::WordRead::Is(hi) => {
             if lo <= hi {
-                return init(lo, hi, text::field(line, 4));
+                let next = text::field_after(line, at);
+                return init(lo, hi, text::field_bytes(line, next));
             }
             VarLine::Refused(7)
         }
@@ -57,26 +63,28 @@ fn high(lo: i32, line: &[u8]) -> VarLine
 }
 
 // The fields from `lo` on.
-fn low(line: &[u8]) -> VarLine
+fn low(line: &[u8], at: Field) -> VarLine
+    requires { ⌜ at ≡ field-at (now line) 2 ⌝ }
     ensures { λ r. ⌜ var-res r ≡ var-low (fields (now (line .entry))) ⌝ }
 {
-    match text::number_field(text::field(line, 2)) {
+    match text::number_field(text::field_bytes(line, at)) {
         text::WordRead::Refused(k) => VarLine::Refused(k),
-        text::WordRead::Is(lo) => high(lo, line),
+        text::WordRead::Is(lo) => high(lo, line, text::field_after(line, at)),
     }
 }
 
 // All the fields: their count, then the name, then the numbers.
-fn judged(line: &[u8]) -> VarLine
+fn judged(line: &[u8], form: Form, name: Field) -> VarLine
+    requires { ⌜ (form ≡ form-of (now line)) × (name ≡ field-at (now line) 1) ⌝ }
     ensures { λ r. ⌜ var-res r ≡ var-judged (fields (now (line .entry))) ⌝ }
 {
-    if !text::filled(line, 5) {
+    if !form.has(5) {
         return VarLine::Refused(5);
     }
-    if !text::name_ok(text::field(line, 1)) {
+    if !text::name_ok(text::field_bytes(line, name)) {
         return VarLine::Refused(6);
     }
-    low(line)
+    low(line, text::field_after(line, name))
 }
 
 // A variable, if its name is new. The name is kept as a location's is, so that one function looks for both.
@@ -98,8 +106,15 @@ fn named(t: Tally, rows: &mut [i32], names: &mut [i32], v: VarRow, name: &[u8]) 
 }
 
 // A V line, which stands before every L and E.
-pub fn read_line(t: Tally, rows: &mut [i32], names: &mut [i32], line: &[u8]) -> Judgement
-    requires { ⌜ Few t × (length (now rows) ≡ most-rows) × (length (now names) ≡ most-names) ⌝ }
+pub fn read_line(
+    t: Tally,
+    rows: &mut [i32],
+    names: &mut [i32],
+    line: &[u8],
+    form: Form,
+    kind: Field,
+) -> Judgement
+    requires { ⌜ Few t × (length (now rows) ≡ most-rows) × (length (now names) ≡ most-names) × (form ≡ form-of (now line)) × (kind ≡ field-at (now line) 0) ⌝ }
     ensures { λ r. ⌜ ((s : So-far) → Rows t (now (rows .entry)) (s .chart) → Names (t .vars) (now (names .entry)) (s .names) → LineJudged r (var-line s (fields (now (line .entry)))) (now (rows .exit)) (now (names .exit))) ⌝ }
 {
     if t.locs != 0 {
@@ -111,8 +126,9 @@ pub fn read_line(t: Tally, rows: &mut [i32], names: &mut [i32], line: &[u8]) -> 
     if MOST_VARIABLES <= t.vars {
         return Judgement::Refused(8);
     }
-    match judged(line) {
+    let name = text::field_after(line, kind);
+    match judged(line, form, name) {
         VarLine::Refused(k) => Judgement::Refused(k),
-        VarLine::Is(v) => named(t, rows, names, v, text::field(line, 1)),
+        VarLine::Is(v) => named(t, rows, names, v, text::field_bytes(line, name)),
     }
 }

@@ -3,6 +3,7 @@ use Rattle.semantics.proofs.Prelude.{_≡_, refl, ap, Bool, true, false, List, 
 use Rattle.semantics.specs.Lists.{pick}
 use Rattle.semantics.specs.Text.{onto, lines}
 use Rattle.text.specs.Fields.{up-to}
+use Rattle.text.specs.Places.{line-from}
 
 module _ (s : ℕ) (l : List ℕ) (i : ℕ) where
   pub up-to-here : i < length l → getD l i 0 ≡ s → up-to s (drop i l) ≡ 0
@@ -16,6 +17,12 @@ module _ (s : ℕ) (l : List ℕ) (i : ℕ) where
   pub up-to-end : length l ≤ i → up-to s (drop i l) ≡ 0
   unfolding up-to
   up-to-end h = rw (drop-of-length-le l h)
+
+-- ---- the line from a place on
+
+module _ (l : List ℕ) (i : ℕ) where
+  pub line-goes-on : i < length l → (getD l i 0 ≡ 10 → ⊥) → line-from l i ≡ getD l i 0 ∷ line-from l (i + 1)
+  line-goes-on h e = rw (up-to-skip 10 l i h e, add-one, drop-cons l i 0)
 
 up-to-le-step : (t : Bool) (u n : ℕ) → u ≤ n → pick t 0 (suc u) ≤ suc n
 up-to-le-step true u n h = zero-le

@@ -4,7 +4,7 @@ use mathlib.Core.Path.{_≡_}
 use mathlib.Core.Bool.{Bool}
 use mathlib.Core.List.{List, [], _∷_}
 use mathlib.Core.Option.{Option, none, some}
-use Prim.Native.Nat.{ℕ, suc, _+_, _-_, _≤_, min, max}
+use Prim.Native.Nat.{ℕ, zero, suc, _+_, _-_, _≤_, min, max}
 use lib.Dec.{eqb}
 use lib.ListN.{length, drop}
 use lib.IntN.{ℤ, pos, negsuc}
@@ -14,6 +14,7 @@ use Rattle.semantics.specs.Encoding.{val}
 use Rattle.semantics.specs.Reading.{Res, fail, ok, OpWord, do-set, do-add, do-sub, do-in, do-if, do-skip}
 use Rattle.semantics.specs.Operations.{the-operand, the-relation}
 use Rattle.semantics.specs.declared.Arithmetic.the-variants as arithmetic
+use Rattle.text.specs.declared.Field.{Field}
 use Rattle.text.specs.declared.Natural.{Natural}
 use Rattle.text.specs.declared.Natural.the-variants as natural
 use Rattle.text.specs.declared.NumberRead.{NumberRead}
@@ -49,6 +50,15 @@ pub record Found (s : ℕ) (l : List ℕ) (from r : ℕ) : Type 0 where
   pub is : r ≡ from + up-to s (drop from l)
   pub after : from ≤ r
   pub within : r ≤ max from (length l)
+
+-- the field of a line that begins at a place
+abbrev pub field-from : List ℕ → ℕ → Field
+field-from line at = record { start = at; end = at + up-to 9 (drop at line) }
+
+-- where field k of a line lies; past the last, at the line's end
+unfoldable pub field-at : List ℕ → ℕ → Field
+field-at line zero = field-from line 0
+field-at line (suc k) = field-from line (min (field-at line k .end + 1) (length line))
 
 -- ---- numbers, of any length, with the magnitude cut
 

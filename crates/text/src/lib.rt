@@ -4,16 +4,14 @@ use semantics::LocationId;
 use semantics::Operand;
 use semantics::Relation;
 ghost use mathlib.Core.Path.{_≡_};
-ghost use Prim.Native.Nat.{_≤_, min};
-ghost use lib.Dec.{eqb};
+ghost use Prim.Native.Nat.{ℕ, suc, _+_, _≤_, min};
 ghost use lib.ListN.{length, getD};
 ghost use Rattle.semantics.specs.Layout.{byte-limit};
-ghost use Rattle.semantics.specs.Lists.{pick, all};
+ghost use Rattle.semantics.specs.Lists.{all};
 ghost use Rattle.semantics.specs.Text.{between, same-bytes, fields, name-byte, name-ok, digits, natural-of, nonnegative, negative, number-of};
 ghost use Rattle.semantics.specs.Chart.{within, known, num, var};
-ghost use Rattle.semantics.specs.Reading.{ok, check, if-ok, nth, none-empty, small-or, number-field, below-or, location-field, target-field, operand-field, init-field, kind-field, rel-field, op-word-field};
-ghost use Rattle.semantics.specs.Reading.{filled as filled-with};
-ghost use Rattle.text.specs.Fields.{Found, number-cut, natural-read, IsCut, number-read, natural-said, number-said, variable-res, location-res, word-res, init-res, operand-res, kind-res, rel-res, op-word-res};
+ghost use Rattle.semantics.specs.Reading.{ok, check, if-ok, nth, small-or, number-field, below-or, location-field, target-field, operand-field, init-field, kind-field, rel-field, op-word-field};
+ghost use Rattle.text.specs.Fields.{Found, field-from, field-at, number-cut, natural-read, IsCut, number-read, natural-said, number-said, variable-res, location-res, word-res, init-res, operand-res, kind-res, rel-res, op-word-res};
 
 pub mod lines;
 
@@ -47,76 +45,55 @@ fn find(text: &[u8], from: usize, b: u8) -> usize
     i
 }
 
-// The place of the first LF at or after `from`, or the length.
-pub fn line_end(text: &[u8], from: usize) -> usize
-    ensures { λ r. ⌜ Found 10 (now (text .entry)) from r ⌝ }
-{
-    find(text, from, semantics::LF)
+// ---- the fields of a line, left to right
+
+// Where a field of a line lies: line[start..end].
+pub struct Field {
+    pub start: usize,
+    pub end: usize,
 }
 
-// Field k of a line, as a part of it; empty past the last.
-pub fn field(line: &[u8], k: usize) -> &[u8]
-    ensures { λ r. ⌜ now r ≡ nth (fields (now (line .entry))) k ⌝ }
+// The field that begins at a place.
+fn field_from(line: &[u8], at: usize) -> Field
+    ensures { λ r. ⌜ r ≡ field-from (now (line .entry)) at ⌝ }
 {
-    let mut at = 0;
-    let mut left = k;
-    loop {
-        let end = find(line, at, semantics::TAB);
-        if left == 0 {
-            return &line[at..end];
-        }
-        if end == line.len() {
-            return &line[end..];
-        }
-        at = end + 1;
-        left -= 1;
+    Field {
+        start: at,
+        end: find(line, at, semantics::TAB),
     }
 }
 
-// One more field where the byte is a tab.
-fn parted(b: u8) -> usize
-    ensures { λ r. ⌜ r ≡ pick (eqb b 9) 1 0 ⌝ }
+pub fn first_field(line: &[u8]) -> Field
+    ensures { λ r. ⌜ r ≡ field-at (now (line .entry)) 0 ⌝ }
 {
-    if b == semantics::TAB {
-        return 1;
-    }
-    0
+    field_from(line, 0)
 }
 
-pub fn count_fields(line: &[u8]) -> usize
-    ensures { λ r. ⌜ r ≡ length (fields (now (line .entry))) ⌝ }
+// The place after the tab that ends a field; the line's end where none does.
+fn place_after_tab(line: &[u8], end: usize) -> usize
+    ensures { λ r. ⌜ r ≡ min (end + 1) (length (now (line .entry))) ⌝ }
 {
-    let mut n = 1;
-    let mut i = 0;
-    while i < line.len() {
-        n += parted(line[i]);
-        i += 1;
+    if end < line.len() {
+        return end + 1;
     }
-    n
+    line.len()
 }
 
-// No field of the line is empty.
-pub fn none_empty(line: &[u8]) -> bool
-    ensures { λ r. ⌜ r ≡ none-empty (fields (now (line .entry))) ⌝ }
+// The field after one, found from where that ends; empty past the last.
+pub fn field_after(line: &[u8], f: Field) -> Field
+    ensures { λ r. ⌜ ((k : ℕ) → f ≡ field-at (now (line .entry)) k → r ≡ field-at (now (line .entry)) (suc k)) ⌝ }
 {
-    let mut at = 0;
-    loop {
-        let end = find(line, at, semantics::TAB);
-        if end == at {
-            return false;
-        }
-        if end == line.len() {
-            return true;
-        }
-        at = end + 1;
-    }
+    field_from(line, place_after_tab(line, f.end))
 }
 
-// So many fields, none of them empty.
-pub fn filled(line: &[u8], count: usize) -> bool
-    ensures { λ r. ⌜ r ≡ filled-with count (fields (now (line .entry))) ⌝ }
+// The bytes of a field, as a part of the line.
+pub fn field_bytes(line: &[u8], f: Field) -> &[u8]
+    requires { ⌜ (f .start ≤ f .end) × (f .end ≤ length (now line)) ⌝ }
+    ensures { λ r. ⌜ ((k : ℕ) → f ≡ field-at (now (line .entry)) k → now r ≡ nth (fields (now (line .entry))) k) ⌝ }
 {
-    (count_fields(line) == count) & none_empty(line)
+    let from = f.start;
+    let to = f.end;
+    &line[from..to]
 }
 
 // The most bytes of a name.

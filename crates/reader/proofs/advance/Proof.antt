@@ -20,7 +20,7 @@ module _ (c : tie.After-l) where
   went-on = c .before .before .before .s .given .1
 
   -- where the line lies
-  lies : Lies (now (start .args .text)) (start .pre .0 .at) (c .l .given .0 .0) (c .l .given .0 .1 .0) (c .l .given .0 .1 .1 .0)
+  lies : Lies (now (start .args .text)) (start .pre .0 .at) (c .l .given .0 .0) (c .l .given .0 .1 .0) (c .l .given .0 .1 .1 .0) (c .l .given .0 .1 .1 .1 .0)
   lies = some-line _ _ (sym (start .pre .0 .is) ∙ c .l .given .1)
 
 abbrev line-at : tie.After-goes → tie.After-l
@@ -35,7 +35,7 @@ returns-2 c = λ at e g h. (all-judged (rw (g, c .before .before .before .s .giv
 judge-line-requires : tie.Need-judge-line-requires
 judge-line-requires c κs = let k = c .before .before .before .before in
     let r = start k .pre in
-    (rw (went-on k) at (r .0 .few), r .1, r .2)
+    (rw (went-on k) at (r .0 .few), r .1, r .2, lies k .cut)
 
 returns-3 : tie.Need-returns-3
 returns-3 c = λ at e g h.

@@ -2,25 +2,26 @@
 use Rattle.semantics.proofs.Prelude.{List, _≡_, Bool, false, ℕ, now, needs}
 use Rattle.semantics.specs.Text.{bytes, same-bytes, fields}
 use Rattle.semantics.specs.Reading.{nth}
+use Rattle.text.proofs.LineFields.{field-lies-at}
 use Rattle.text.proofs.FieldTests.{field-said}
 use Rattle.reader.proofs.NextLine.{kind-var, kind-loc, kind-edge, kind-none}
 use Rattle.reader.proofs.judge_line.Statement.{statement}
 use Rattle.reader.proofs.judge_line.Tie as tie
 
 -- the line, whose first field is its kind
-abbrev line : tie.After-field → List ℕ
-line c = now (c .before .before .args .line)
+abbrev line : tie.After-field-bytes → List ℕ
+line c = now (c .before .before .before .args .line)
 
 -- where that field is taken, from the second test of it and from the third
-abbrev second : tie.After-same-bytes2 → tie.After-field
+abbrev second : tie.After-same-bytes2 → tie.After-field-bytes
 second c = c .before .before .before .before .before
 
-abbrev third : tie.After-same-bytes3 → tie.After-field
+abbrev third : tie.After-same-bytes3 → tie.After-field-bytes
 third c = second (c .before .before .before)
 
 -- a test of the kind
-kind-is : (c : tie.After-field) (k : List ℕ) {r b : Bool} → r ≡ same-bytes (now (c .field .result)) k → r ≡ b → same-bytes (nth (fields (line c)) 0) k ≡ b
-kind-is c k e t = field-said (λ (f : List ℕ). same-bytes f k) (λ b. b) (c .field .ensures) e t
+kind-is : (c : tie.After-field-bytes) (k : List ℕ) {r b : Bool} → r ≡ same-bytes (now (c .field-bytes .result)) k → r ≡ b → same-bytes (nth (fields (line c)) 0) k ≡ b
+kind-is c k e t = field-said (λ (f : List ℕ). same-bytes f k) (λ b. b) (c .field-bytes .ensures 0 (c .before .first-field .ensures)) e t
 
 no-var : (c : tie.Else1) → same-bytes (nth (fields (line (c .before .before .before))) 0) (bytes "V") ≡ false
 no-var c = kind-is (c .before .before .before) _ (c .before .same-bytes .ensures) (c .if1 .left)
@@ -49,8 +50,10 @@ pub judge-line-spec : {M : Type 1} → statement M
 judge-line-spec =
     tie.close
     (tie.spec
-    (λ c κs. search needs) (λ c. search needs) (λ c κs. search needs) (λ c κs. search needs) (λ c. search needs)
-    (λ c. search needs)
+    (λ c κs. search needs)
+    (λ c κs. field-lies-at _ 0 (c .first-field .ensures))
+    (λ c. search needs) (λ c κs. search needs)
+    (λ c κs. search needs) (λ c. search needs) (λ c. search needs)
     returns
     (λ c. search needs) (λ c κs. search needs) (λ c κs. search needs) (λ c. search needs)
     returns-2

@@ -18,7 +18,7 @@ use Rattle.reader.proofs.edge.worded.Tie as tie
 -- the fields are judged
 module _ (c : tie.After-judged) where
   abbrev start : tie.Start
-  start = c .before .before .before .before .before .before
+  start = c .before .before .before .before .before
 
   abbrev fs : List (List ℕ)
   fs = fields (now (start .args .line))
@@ -27,7 +27,7 @@ module _ (c : tie.After-judged) where
   word = start .args .w
 
   counted : eqb (length fs) (field-count (the-word word)) ≡ true
-  counted = let k = c .before .before in eq-eqb _ _ (sym (k .before .before .count-fields .ensures) ∙ k .if1 .left ∙ k .before .field-count .ensures)
+  counted = let k = c .before .before in eq-eqb _ _ (sym (start .pre .3) ∙ k .if1 .left ∙ k .before .field-count .ensures)
 
 -- to an edge
 module _ (c : tie.After-g) where
@@ -47,7 +47,7 @@ put-edge-requires c κs = let g = c .before .before .before in
     (omega (arith, n .0, p), omega (arith, n .1, p), omega (arith, c .used-words .ensures, p))
 
 returns : tie.Need-returns
-returns c = λ s names h g. check-no _ _ (ne-eqb _ _ (λ e. c .if1 .taken (c .before .before .count-fields .ensures ∙ e ∙ sym (c .before .field-count .ensures))))
+returns c = λ s names h g. check-no _ _ (ne-eqb _ _ (λ e. c .if1 .taken (c .before .before .before .pre .3 ∙ e ∙ sym (c .before .field-count .ensures))))
 
 returns-2 : tie.Need-returns-2
 returns-2 c = λ s names h g.
@@ -71,7 +71,7 @@ pub worded-spec : {M : Type 1} → statement M
 worded-spec =
     tie.close
     (tie.spec
-    (λ c κs. search needs) (λ c κs. search needs)
+    (λ c κs. search needs)
     returns
     (λ c κs. search needs) (λ c. search needs) (λ c. search needs) (λ c κs. search needs)
     put-edge-requires

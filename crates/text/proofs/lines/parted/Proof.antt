@@ -1,7 +1,7 @@
--- `text::parted` meets its contract. Assumes nothing.
+-- `text::lines::parted` meets its contract. Assumes nothing.
 use Rattle.semantics.proofs.Prelude.{eq-eqb, ne-eqb}
-use Rattle.text.proofs.parted.Statement.{statement}
-use Rattle.text.proofs.parted.Tie as tie
+use Rattle.text.proofs.lines.parted.Statement.{statement}
+use Rattle.text.proofs.lines.parted.Tie as tie
 
 returns : tie.Need-returns
 returns c = simp (eq-eqb _ _ (c .if1 .taken))
