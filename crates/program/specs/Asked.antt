@@ -10,6 +10,8 @@ use Rattle.semantics.specs.declared.Order.{Order}
 use Rattle.semantics.specs.declared.Settings.{Settings}
 use Rattle.semantics.specs.Program.{go-line, past-line}
 use Rattle.semantics.specs.Program.{Go as Asking}
+use Rattle.text.specs.Fields.{field-at}
+use Rattle.program.specs.declared.go_line.GoFields.{GoFields}
 use Rattle.program.specs.declared.go_line.Go.{Go}
 use Rattle.program.specs.declared.go_line.GoLine.{GoLine}
 use Rattle.program.specs.declared.go_line.Asked.{Asked}
@@ -21,6 +23,16 @@ use Rattle.program.specs.declared.go_line.Asked.the-variants as asked
 use Rattle.program.specs.declared.go_line.ModeRead.the-variants as mode-read
 use Rattle.program.specs.declared.go_line.OrderRead.the-variants as order-read
 use Rattle.program.specs.declared.go_line.SettingsRead.the-variants as settings-read
+
+-- where the fields of a go line lie, after its first
+abbrev pub places-of : List ℕ → GoFields
+places-of line = record {
+  merge = field-at line 1;
+  stop = field-at line 2;
+  order = field-at line 3;
+  capacity = field-at line 4;
+  budget = field-at line 5;
+}
 
 -- what a go line asks, as the definitions have it
 abbrev pub asking : Go → Asking

@@ -2,13 +2,16 @@
 use semantics::Mode;
 use semantics::Order;
 use semantics::Settings;
+use text::Field;
 use text::NumberRead;
+use text::lines::Form;
 ghost use mathlib.Core.Path.{_≡_};
 ghost use Rattle.semantics.specs.Lists.{all};
 ghost use Rattle.semantics.specs.Text.{fields};
 ghost use Rattle.semantics.specs.Program.{mode-field, order-field, settings-fields, sized, amounts, go-fields, line-byte};
-ghost use Rattle.text.specs.Fields.{number-said};
-ghost use Rattle.program.specs.Asked.{mode-res, order-res, settings-res, asked-res, GoRead};
+ghost use Rattle.text.specs.Fields.{number-said, field-at};
+ghost use Rattle.text.specs.Places.{form-of};
+ghost use Rattle.program.specs.Asked.{mode-res, order-res, settings-res, asked-res, places-of, GoRead};
 
 // The most bytes of a go line, with its LF.
 pub const GO_LINE_BYTES: usize = 64;
@@ -71,17 +74,49 @@ fn order_field(f: &[u8]) -> OrderRead
     OrderRead::Malformed
 }
 
+// Where the fields of a go line lie, after its first.
+struct GoFields {
+    merge: Field,
+    stop: Field,
+    order: Field,
+    capacity: Field,
+    budget: Field,
+}
+
+// They are found from the first on, each from where the last ended.
+fn find_fields(line: &[u8], first: Field) -> GoFields
+    requires { ⌜ first ≡ field-at (now line) 0 ⌝ }
+    ensures { λ r. ⌜ r ≡ places-of (now (line .entry)) ⌝ }
+{
+    let merge = text::field_after(line, first);
+    let stop = text::field_after(line, merge);
+    let order = text::field_after(line, stop);
+    let capacity = text::field_after(line, order);
+    let budget = text::field_after(line, capacity);
+    GoFields {
+        merge,
+        stop,
+        order,
+        capacity,
+        budget,
+    }
+}
+
 // Merge, stop and order.
-fn settings_fields(line: &[u8]) -> SettingsRead
+fn settings_fields(line: &[u8], at: GoFields) -> SettingsRead
+    requires { ⌜ at ≡ places-of (now line) ⌝ }
     ensures { λ r. ⌜ settings-res r ≡ settings-fields (fields (now (line .entry))) ⌝ }
 {
-    let ModeRead::Is(merge) = mode_field(text::field(line, 1)) else {
+    let merge_at = at.merge;
+    let stop_at = at.stop;
+    let order_at = at.order;
+    let ModeRead::Is(merge) = mode_field(text::field_bytes(line, merge_at)) else {
         return SettingsRead::Malformed;
     };
-    let ModeRead::Is(stop) = mode_field(text::field(line, 2)) else {
+    let ModeRead::Is(stop) = mode_field(text::field_bytes(line, stop_at)) else {
         return SettingsRead::Malformed;
     };
-    let OrderRead::Is(order) = order_field(text::field(line, 3)) else {
+    let OrderRead::Is(order) = order_field(text::field_bytes(line, order_at)) else {
         return SettingsRead::Malformed;
     };
     SettingsRead::Is(Settings { merge, stop, order })
@@ -117,20 +152,25 @@ fn amounts(settings: Settings, capacity: NumberRead, budget: NumberRead) -> Aske
 }
 
 // The line without its LF, by 5 and what follows it.
-fn go_fields(line: &[u8]) -> Asked
+fn go_fields(line: &[u8], form: Form) -> Asked
+    requires { ⌜ form ≡ form-of (now line) ⌝ }
     ensures { λ r. ⌜ asked-res r ≡ go-fields (fields (now (line .entry))) ⌝ }
 {
-    if !text::filled(line, 6) {
+    if !form.has(6) {
         return Asked::Refused(5);
     }
-    if !text::same_bytes(text::field(line, 0), b"go") {
+    let first = text::first_field(line);
+    if !text::same_bytes(text::field_bytes(line, first), b"go") {
         return Asked::Refused(6);
     }
-    let SettingsRead::Is(settings) = settings_fields(line) else {
+    let at = find_fields(line, first);
+    let SettingsRead::Is(settings) = settings_fields(line, at) else {
         return Asked::Refused(6);
     };
-    let capacity = text::number(text::field(line, 4));
-    let budget = text::number(text::field(line, 5));
+    let capacity_at = at.capacity;
+    let budget_at = at.budget;
+    let capacity = text::number(text::field_bytes(line, capacity_at));
+    let budget = text::number(text::field_bytes(line, budget_at));
     amounts(settings, capacity, budget)
 }
 
@@ -158,7 +198,9 @@ fn bytes_ok(line: &[u8]) -> bool
 pub fn read(input: &[u8]) -> GoLine
     ensures { λ r. ⌜ GoRead (now (input .entry)) r ⌝ }
 {
-    let end = text::line_end(input, 0);
+    let shape = text::lines::measure(input, 0);
+    let end = shape.end;
+    let form = shape.form;
     if (GO_LINE_BYTES < input.len()) & (GO_LINE_BYTES <= end) {
         return GoLine::Refused(1);
     }
@@ -168,7 +210,7 @@ pub fn read(input: &[u8]) -> GoLine
     if end == input.len() {
         return GoLine::Refused(3);
     }
-    match go_fields(&input[..end]) {
+    match go_fields(&input[..end], form) {
         Asked::Refused(n) => GoLine::Refused(n),
         Asked::Is(go) => GoLine::Accepted { go, chart: end + 1 },
     }
