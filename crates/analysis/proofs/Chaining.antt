@@ -1,17 +1,7 @@
 -- The chains of no edge, and one more edge at the head of its chain. Assumes nothing.
 use Rattle.semantics.proofs.Prelude.{_≡_, refl, sym, ap, _∙_, Bool, true, false, List, [], _∷_, ℕ, zero, suc, _+_, _-_, _≤_, arith, eqb-true, eqb-false, eqb, ℤ, getD, set, replicate, getD-set-other}
+use Rattle.words.proofs.LentNumbers.{replicate-most, set-most}
 use Rattle.analysis.specs.Chains.{from-at, Passed, Chained}
-
--- past the end a number is 0
-replicate-most : (n i a : ℕ) → getD (replicate n a) i 0 ≤ a
-replicate-most zero i a = omega arith
-replicate-most (suc n) zero a = omega arith
-replicate-most (suc n) (suc i) a = replicate-most n i a
-
-set-most : (s : List ℕ) (i a : ℕ) → getD (set s i a) i 0 ≤ a
-set-most [] i a = omega arith
-set-most (x ∷ xs) zero a = omega arith
-set-most (x ∷ xs) (suc i) a = set-most xs i a
 
 module _ (c : List ℤ) where
   pub unchained : (edges n m : ℕ) → Chained c edges (replicate n (edges + 1)) (replicate m 0)

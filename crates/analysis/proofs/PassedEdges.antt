@@ -4,6 +4,7 @@ use Rattle.semantics.specs.declared.Settings.{Settings}
 use Rattle.semantics.specs.Algorithm.{Domain, Step, blocked, then, taking, visit, visit-all, takers}
 use Rattle.semantics.specs.Lists.{pick}
 use Rattle.state.specs.Rows.{location-in}
+use Rattle.words.proofs.LentNumbers.{over-all}
 use Rattle.transfer.specs.Transfer.{edges-from, post-at, post-words}
 use Rattle.analysis.specs.Chains.{from-at, Passed}
 use Rattle.analysis.specs.Loaded.{domain-of}
@@ -26,17 +27,9 @@ module _ (c e : List ℤ) (n : ℕ) {A : Type 0} (F : List ℕ → A) (skip : (g
       go true t = ap F (edges-turn g n (ltb-true g n t)) ∙ skip g (edges-from (g + 1) (n - (g + 1))) h
       go false t = ap F (edges-none g n (ltb-false g n t) ∙ sym (edges-none (g + 1) n (omega (arith, ltb-false g n t))))
 
-  pass-some : (k g : ℕ) → Passed c (location-in e) g (g + k) → rest g ≡ rest (g + k)
-  pass-some zero g h = let z : g ≡ g + 0 = omega arith in ap rest z
-  pass-some (suc k) g h =
-      let m : g + suc k ≡ g + 1 + k = omega arith in
-      pass-one g (h g (omega arith) (omega arith)) ∙ pass-some k (g + 1) (λ j lo hi q. h j (omega arith) (omega arith) q) ∙ ap rest (sym m)
-
   -- edges from g, and from m on, where none up to m leaves the location
   passed-by : (g m : ℕ) → g ≤ m → Passed c (location-in e) g m → rest g ≡ rest m
-  passed-by g m h p =
-      let k : g + (m - g) ≡ m = omega arith in
-      pass-some (m - g) g (λ j lo hi q. p j lo (omega arith) q) ∙ ap rest k
+  passed-by = over-all rest (λ g. from-at c g ≡ location-in e → ⊥) pass-one
 
 module _ (c : List ℤ) (s : Settings) (r : ℕ) (e : List ℤ) (n : ℕ) (en : List (List ℤ)) (wa : List ℕ) where
   abbrev D : Domain (List ℤ) ℕ

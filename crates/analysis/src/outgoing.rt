@@ -6,31 +6,13 @@
 use chart::EdgeRow;
 use semantics::EdgeId;
 use semantics::LocationId;
+use words::numbers;
 ghost use mathlib.Core.Path.{_≡_};
 ghost use Prim.Native.Nat.{_-_, _<_, _≤_, max};
-ghost use lib.ListN.{getD, set};
+ghost use lib.ListN.{getD};
 ghost use Rattle.semantics.specs.Layout.{index-limit};
 ghost use Rattle.transfer.specs.Transfer.{edge-at};
 ghost use Rattle.analysis.specs.Chains.{from-at, Passed, Chained};
-
-// The number at a place; 0 past the end.
-fn number_in(s: &[usize], i: usize) -> usize
-    ensures { λ r. ⌜ r ≡ getD (now (s .entry)) i 0 ⌝ }
-{
-    if i < s.len() {
-        return s[i];
-    }
-    0
-}
-
-// A number is put at a place; past the end nothing is.
-fn put(s: &mut [usize], i: usize, x: usize)
-    ensures { λ _. ⌜ now (s .exit) ≡ set (now (s .entry)) i x ⌝ }
-{
-    if i < s.len() {
-        s[i] = x;
-    }
-}
 
 // Chains all edges, from the last to the first.
 pub fn chain(chart: &[i32], edges: usize, heads: &mut [usize], nexts: &mut [usize])
@@ -43,9 +25,9 @@ pub fn chain(chart: &[i32], edges: usize, heads: &mut [usize], nexts: &mut [usiz
         let edge = chart::edge_of(first, EdgeId(number));
         let from = chart::edge_from(chart, edge);
         let l = from.0;
-        let head = number_in(heads, l);
-        put(nexts, number - 1, head);
-        put(heads, l, number);
+        let head = numbers::number_in(heads, l);
+        numbers::put(nexts, number - 1, head);
+        numbers::put(heads, l, number);
         number -= 1;
     }
 }
@@ -54,7 +36,7 @@ pub fn chain(chart: &[i32], edges: usize, heads: &mut [usize], nexts: &mut [usiz
 pub fn first(heads: &[usize], l: LocationId) -> EdgeId
     ensures { λ r. ⌜ r .0 ≡ max 1 (getD (now (heads .entry)) (l .0) 0) ⌝ }
 {
-    EdgeId(1).or_later(EdgeId(number_in(heads, l.0)))
+    EdgeId(1).or_later(EdgeId(numbers::number_in(heads, l.0)))
 }
 
 // The edge to look at next. The chain of this one serves if it leaves the location.
@@ -69,5 +51,5 @@ pub fn next(chart: &[i32], edge: EdgeRow, nexts: &[usize], l: LocationId) -> Edg
     if !from.equals(l) {
         return after;
     }
-    after.or_later(EdgeId(number_in(nexts, id.0 - 1)))
+    after.or_later(EdgeId(numbers::number_in(nexts, id.0 - 1)))
 }

@@ -27,7 +27,7 @@ module _ (y : Layout) where
   fits-next : (n : ℕ) (t : List ℤ) → suc n * d ≤ length t → (d ≤ length t) × (n * d ≤ length (drop d t))
   fits-next n t h = let e = suc-mul n d in (omega (arith, e, h), rw length-drop (omega (arith, e, h)))
 
-  drop-next : (n : ℕ) (t : List ℤ) → drop (suc n * d) t ≡ drop (n * d) (drop d t)
+  pub drop-next : (n : ℕ) (t : List ℤ) → drop (suc n * d) t ≡ drop (n * d) (drop d t)
   drop-next n t = let e : suc n * d ≡ d + n * d = suc-mul n d ∙ add-comm (n * d) d in rw e (sym (drop-drop (n * d) d t))
 
   -- what f makes of each slot; it looks at the slot alone where a rest x past it changes nothing
@@ -57,6 +57,9 @@ module _ (y : Layout) where
 
   pub rows-length : (n : ℕ) (t : List ℤ) → length (rows-of y n t) ≡ n
   rows-length n t = by-length (take w) n t
+
+  pub rows-next : (n : ℕ) (t : List ℤ) → rows-of y (n + 1) t ≡ rows-of y n t ++ (row-of y n t ∷ [])
+  rows-next n t = rw add-one (by-snoc (take w) n t)
 
   -- the state of slot s
   pub rows-get : (n s : ℕ) (t : List ℤ) → s < n → get (rows-of y n t) s ≡ some (row-of y s t)

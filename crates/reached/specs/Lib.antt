@@ -1,2 +1,3 @@
--- Table and waitlist together, as words.
+-- Table and waitlist together, as words; links between the slots of a location.
 pub mod Reached
+pub mod Links

@@ -15,6 +15,8 @@ ghost use Rattle.state.specs.Rows.{row-leq, rows-merge, rows-of, tail-words, La
 ghost use Rattle.waitlist.specs.Waits.{waits, Stored};
 ghost use Rattle.reached.specs.Reached.{rewaits};
 
+pub mod links;
+
 // Merges the row e into each slot in use; each slot that changes waits again. How many are waiting then.
 pub fn merge_slots(
     layout: Layout,

@@ -9,6 +9,8 @@ ghost use Rattle.semantics.specs.Chart.{eqZ, within, small};
 ghost use Rattle.semantics.specs.Encoding.{count};
 ghost use Rattle.semantics.specs.Memory.{below, zeros};
 
+pub mod numbers;
+
 // The least and the most number of a chart: document 01 has them from −32,768 to 32,767.
 const LEAST_NUMBER: i32 = -32768;
 

@@ -1,7 +1,7 @@
--- `analysis::outgoing::put` meets its contract. Assumes nothing.
+-- `words::numbers::put` meets its contract. Assumes nothing.
 use Rattle.semantics.proofs.Prelude.{sym, needs, set-out}
-use Rattle.analysis.proofs.outgoing.put.Statement.{statement}
-use Rattle.analysis.proofs.outgoing.put.Tie as tie
+use Rattle.words.proofs.numbers.put.Statement.{statement}
+use Rattle.words.proofs.numbers.put.Tie as tie
 
 returns-2 : tie.Need-returns-2
 returns-2 c = let a = c .before .args in sym (set-out (a .s .now) (a .i) (a .x) (c .if1 .left))
