@@ -14,10 +14,12 @@ ghost use Rattle.semantics.specs.Tidy.{Queue};
 ghost use Rattle.state.specs.Rows.{row-leq, rows-merge, rows-of, tail-words, Laid};
 ghost use Rattle.waitlist.specs.Waits.{waits, Stored};
 ghost use Rattle.reached.specs.Reached.{rewaits};
+ghost use Rattle.reached.specs.Links.{chains-of, Linked};
 
 pub mod links;
 
-// Merges the row e into each slot in use; each slot that changes waits again. How many are waiting then.
+// Merges the row e into each slot in use; each slot that changes waits again. How many are waiting then. Slots of another
+// location would not change: the links pass over them.
 pub fn merge_slots(
     layout: Layout,
     table: &mut [i32],
@@ -25,35 +27,43 @@ pub fn merge_slots(
     e: &[i32],
     list: &mut [i32],
     waiting: usize,
+    links: &[usize],
 ) -> usize
     requires laid { ⌜ Laid layout used (now e) (now table) ⌝ }
     requires waits { ⌜ Stored (now list) waiting (waits waiting (now list)) × Queue used (waits waiting (now list)) × (used ≤ length (now list)) × (length (now list) < index-limit) ⌝ }
+    requires linked { ⌜ Linked (chains-of layout used (now table)) (now links) ⌝ }
     ensures table { λ r. ⌜ now (table .exit) ≡ rows-merge (now (e .entry)) layout used (now (table .entry)) ⌝ }
     ensures waits { λ r. ⌜ Stored (now (list .exit)) r (rewaits (now (e .entry)) 0 (rows-of layout used (now (table .entry))) (waits waiting (now (list .entry)))) ⌝ }
 {
     let width = e.len();
+    let l = state::location_of(e);
     let mut count = waiting;
-    let mut slot = layout.slot(SlotId(0));
-    while slot.id.is_below(used) {
+    let mut id = links::first(links, l);
+    while id.is_below(used) {
+        let slot = layout.slot(id);
+        let at = state::location_of(state::row_of(layout, table, slot));
         let from = slot.at;
         let same = state::merge_row(&mut table[from..from + width], e);
-        count = waitlist::wait_unless(same, list, count, slot.id);
-        slot = layout.after(slot);
+        count = waitlist::wait_unless(same, list, count, id);
+        id = links::next(links, id, at, l);
     }
     count
 }
 
-// Whether the row e lies under a slot in use.
-pub fn covered(layout: Layout, table: &[i32], used: usize, e: &[i32]) -> bool
-    requires { ⌜ Laid layout used (now e) (now table) ⌝ }
+// Whether the row e lies under a slot in use; it lies under none of another location.
+pub fn covered(layout: Layout, table: &[i32], used: usize, e: &[i32], links: &[usize]) -> bool
+    requires laid { ⌜ Laid layout used (now e) (now table) × (used < index-limit) ⌝ }
+    requires linked { ⌜ Linked (chains-of layout used (now table)) (now links) ⌝ }
     ensures { λ r. ⌜ r ≡ some-of (row-leq (now (e .entry))) (rows-of layout used (now (table .entry))) ⌝ }
 {
-    let mut slot = layout.slot(SlotId(0));
-    while slot.id.is_below(used) {
-        if state::leq_row(e, state::row_of(layout, table, slot)) {
+    let l = state::location_of(e);
+    let mut id = links::first(links, l);
+    while id.is_below(used) {
+        let row = state::row_of(layout, table, layout.slot(id));
+        if state::leq_row(e, row) {
             return true;
         }
-        slot = layout.after(slot);
+        id = links::next(links, id, state::location_of(row), l);
     }
     false
 }
