@@ -16,7 +16,7 @@ use Rattle.analysis.specs.Loaded.{Ready, Merged}
 use Rattle.analysis.proofs.Merges.{stop-same}
 
 -- the successor e is merged; what arrives is decided by the test against the slots
-module _ {y : Layout} {a : Analysis} {t l e t′ l′ : List ℤ} {r : ℕ} (g : Ready y a t l e) (m : Merged y a e t l t′ l′ r) where
+module _ {y : Layout} {a : Analysis} {t l e t′ l′ : List ℤ} {k : List ℕ} {r : ℕ} (g : Ready y a t l e k) (m : Merged y a e t l t′ l′ r) where
   abbrev arrived : Out (List ℤ)
   arrived = arrive rows-only (a .settings) (length l) e (rows-of y (a .used) t) (waits (a .waiting) l)
 

@@ -44,10 +44,10 @@ module _ (y : Layout) (last : ℕ) (a : Analysis) (t l : List ℤ) (h : Resumabl
   iteration-is c gs = rw (s .taken, rows-get y (a .used) k t (taken-from .1))
 
   -- the end of an iteration holds the rules' iteration
-  pub iteration-sound : (c : List ℤ) (p : Progress) (t₂ l₂ : List ℤ) → length l₂ ≡ length l → Progressed y t₂ l₂ p (play-of c (edges-from 0 last)) → origins-of y (p .used) t₂ ≡ origins-of y (a .used) t ++ brought-by c (edges-from 0 last)
+  pub iteration-sound : (c : List ℤ) (p : Progress) (t₂ l₂ : List ℤ) (k₂ : List ℕ) → length l₂ ≡ length l → Progressed y t₂ l₂ k₂ p (play-of c (edges-from 0 last)) → origins-of y (p .used) t₂ ≡ origins-of y (a .used) t ++ brought-by c (edges-from 0 last)
       → (r : Analysis) (l₃ : List ℤ) → length l₃ ≡ length l₂ → Finished a k p l₂ r l₃
       → Loaded y last r t₂ l₃ (iteration (domain-of c) (edges-from 0 last) (load-of y a t l))
-  iteration-sound c p t₂ l₂ l₂l g os r l₃ ll f = record { load = load; form = record { kept = kept; capacity = ll ∙ l₂l ∙ h .capacity ∙ sym (f .capacity); allowed = rw (f .settings) (h .allowed); tidy = tidy } }
+  iteration-sound c p t₂ l₂ k₂ l₂l g os r l₃ ll f = record { load = load; form = record { kept = kept; capacity = ll ∙ l₂l ∙ h .capacity ∙ sym (f .capacity); allowed = rw (f .settings) (h .allowed); tidy = tidy } }
     where
       load : load-of y r t₂ l₃ ≡ iteration (domain-of c) (edges-from 0 last) (load-of y a t l)
       load = f .load y t₂ t l (brought-by c (edges-from 0 last)) (sym os) ∙ ap (finish (domain-of c) (with-origins (domain-of c) (load-of y a t l) (brought-by c (edges-from 0 last))) k) (g .out) ∙ sym (iteration-is c (edges-from 0 last))

@@ -13,6 +13,7 @@ use Rattle.state.specs.declared.Layout.{Layout}
 use Rattle.state.specs.Rows.{width-of, most-width, rows-of, origins-of, row-domain}
 use Rattle.waitlist.specs.Waits.{waits}
 use Rattle.reached.specs.Reached.{Kept}
+use Rattle.reached.specs.Links.{chains-of, Linked}
 use Rattle.chart.specs.declared.EdgeRow.{EdgeRow}
 use Rattle.transfer.specs.Transfer.{edge-at, post-words, error-row}
 use Rattle.analysis.specs.Chains.{Chained}
@@ -39,29 +40,33 @@ pub record Outlined (c : List ℤ) (o : Outline) (heads nexts : List ℕ) : Type
   pub narrow : width-of (o .layout) ≤ most-width
   pub chained : Chained c 0 heads nexts
 
--- what an arrival asks: table and waitlist in form by the record's counts, settings that 12 lets pass, a row e
-pub record Ready (y : Layout) (a : Analysis) (t l e : List ℤ) : Type 0 where
+-- what an arrival asks: table and waitlist in form by the record's counts, settings that 12 lets pass, a row e, and the
+-- links k of the slots
+pub record Ready (y : Layout) (a : Analysis) (t l e : List ℤ) (k : List ℕ) : Type 0 where
   pub kept : Kept y t l (a .used) (a .waiting)
   pub allowed : Allowed (a .settings)
   pub row : length e ≡ width-of y
+  pub linked : Linked (chains-of y (a .used) t) k
 
 -- the words t and l after the merge of e with each slot, t′ and l′; r slots are waiting then
 pub record Merged (y : Layout) (a : Analysis) (e t l t′ l′ : List ℤ) (r : ℕ) : Type 0 where
   pub rows : rows-of y (a .used) t′ ≡ merged rows-only (a .settings .merge) e (rows-of y (a .used) t)
   pub waiting : waits r l′ ≡ rewait rows-only (a .settings .merge) e (rows-of y (a .used) t) (waits (a .waiting) l)
   pub origins : origins-of y (a .used) t′ ≡ origins-of y (a .used) t
+  pub chains : chains-of y (a .used) t′ ≡ chains-of y (a .used) t
   pub kept : Kept y t′ l′ (a .used) r
 
--- the words t, l and the counts p are in form and hold the outcome o
-pub record Progressed (y : Layout) (t l : List ℤ) (p : Progress) (o : Out (List ℤ)) : Type 0 where
+-- the words t, l and the counts p are in form and hold the outcome o, and k are the links of the slots
+pub record Progressed (y : Layout) (t l : List ℤ) (k : List ℕ) (p : Progress) (o : Out (List ℤ)) : Type 0 where
   pub out : out-of y t l p ≡ o
   pub kept : Kept y t l (p .used) (p .waiting)
+  pub linked : Linked (chains-of y (p .used) t) k
 
--- the same of one edge n followed from slot k, over the n₀ slots of t₀: their origins stay, and where the edge took a slot
--- k and n follow
-pub record Noted (y : Layout) (n₀ : ℕ) (t₀ : List ℤ) (k n : ℕ) (t l : List ℤ) (p : Progress) (o : Out (List ℤ)) : Type 0 where
-  pub progressed : Progressed y t l p o
-  pub origins : origins-of y (p .used) t ≡ origins-of y n₀ t₀ ++ brought k (taking n n₀ o (λ en wa. []))
+-- the same of one edge n followed from slot s, over the n₀ slots of t₀: their origins stay, and where the edge took a slot
+-- s and n follow
+pub record Noted (y : Layout) (n₀ : ℕ) (t₀ : List ℤ) (s n : ℕ) (t l : List ℤ) (k : List ℕ) (p : Progress) (o : Out (List ℤ)) : Type 0 where
+  pub progressed : Progressed y t l k p o
+  pub origins : origins-of y (p .used) t ≡ origins-of y n₀ t₀ ++ brought s (taking n n₀ o (λ en wa. []))
 
 -- ---- between iterations
 

@@ -2,6 +2,7 @@
 // of iterations and the start. Record and counts go by value.
 use chart::EdgeRow;
 use progress::Progress;
+use reached::links;
 use semantics::Analysis;
 use semantics::EdgeId;
 use semantics::Mode;
@@ -18,6 +19,7 @@ ghost use Rattle.semantics.specs.Algorithm.{arrive, visit, visit-all, takers, b
 ghost use Rattle.semantics.specs.Tidy.{Allowed};
 ghost use Rattle.state.specs.Rows.{width-of, most-width, word-limit, rows-of, origins-of};
 ghost use Rattle.waitlist.specs.Waits.{waits};
+ghost use Rattle.reached.specs.Links.{chains-of, Linked};
 ghost use Rattle.transfer.specs.Transfer.{edge-at, edges-from, post-at};
 ghost use Rattle.progress.specs.Progress.{rows-only, load-of};
 ghost use Rattle.analysis.specs.Loaded.{Outlined, Ready, Merged, domain-of, Progressed, Noted, Resumable, Loaded};
@@ -32,15 +34,22 @@ struct Outline {
 }
 
 // The merge of a successor with each slot, by the setting. How many slots are waiting then.
-fn merge_by(layout: Layout, a: Analysis, e: &[i32], table: &mut [i32], list: &mut [i32]) -> usize
-    requires { ⌜ Ready layout a (now table) (now list) (now e) ⌝ }
+fn merge_by(
+    layout: Layout,
+    a: Analysis,
+    e: &[i32],
+    table: &mut [i32],
+    list: &mut [i32],
+    links: &[usize],
+) -> usize
+    requires { ⌜ Ready layout a (now table) (now list) (now e) (now links) ⌝ }
     ensures { λ r. ⌜ Merged layout a (now (e .entry)) (now (table .entry)) (now (list .entry)) (now (table .exit)) (now (list .exit)) r ⌝ }
 {
     let settings = a.settings;
     let merge = settings.merge;
     match merge {
         Mode::Sep => a.waiting,
-        Mode::Join => reached::merge_slots(layout, table, a.used, e, list, a.waiting),
+        Mode::Join => reached::merge_slots(layout, table, a.used, e, list, a.waiting, links),
     }
 }
 
@@ -55,17 +64,19 @@ fn arrive(
     edge: EdgeId,
     table: &mut [i32],
     list: &mut [i32],
+    links: &mut [usize],
 ) -> Progress
-    requires { ⌜ Ready layout a (now table) (now list) (now e) × (parent .0 < word-limit) × (edge .0 < word-limit) ⌝ }
-    ensures { λ p. ⌜ Noted layout (a .used) (now (table .entry)) (parent .0) (edge .0) (now (table .exit)) (now (list .exit)) p (arrive rows-only (a .settings) (length (now (list .entry))) (now (e .entry)) (rows-of layout (a .used) (now (table .entry))) (waits (a .waiting) (now (list .entry)))) ⌝ }
+    requires { ⌜ Ready layout a (now table) (now list) (now e) (now links) × (parent .0 < word-limit) × (edge .0 < word-limit) ⌝ }
+    ensures { λ p. ⌜ Noted layout (a .used) (now (table .entry)) (parent .0) (edge .0) (now (table .exit)) (now (list .exit)) (now (links .exit)) p (arrive rows-only (a .settings) (length (now (list .entry))) (now (e .entry)) (rows-of layout (a .used) (now (table .entry))) (waits (a .waiting) (now (list .entry)))) ⌝ }
 {
     let used = a.used;
-    let count = merge_by(layout, a, e, table, list);
-    if reached::covered(layout, table, used, e) {
+    let count = merge_by(layout, a, e, table, list, links);
+    if reached::covered(layout, table, used, e, links) {
         return progress::went_on(used, count);
     }
     if used < list.len() {
         reached::store_slot(layout, table, SlotId(used), e, parent, edge);
+        links::add(links, SlotId(used), state::location_of(e));
         let more = waitlist::append(list, count, SlotId(used));
         return progress::went_on(used + 1, more);
     }
@@ -83,9 +94,10 @@ fn visit(
     next: &mut [i32],
     table: &mut [i32],
     list: &mut [i32],
+    links: &mut [usize],
 ) -> Progress
-    requires { ⌜ Ready layout a (now table) (now list) (now copy) × (length (now next) ≡ length (now copy)) × (edge .at < index-limit) × (slot .0 < word-limit) × (edge .id .0 < word-limit) ⌝ }
-    ensures { λ p. ⌜ Noted layout (a .used) (now (table .entry)) (slot .0) (edge .id .0) (now (table .exit)) (now (list .exit)) p (visit (domain-of (now (chart .entry))) (a .settings) (length (now (list .entry))) (edge .id .0) (post-at (now (chart .entry)) (edge .at) (now (copy .entry))) (rows-of layout (a .used) (now (table .entry))) (waits (a .waiting) (now (list .entry)))) ⌝ }
+    requires { ⌜ Ready layout a (now table) (now list) (now copy) (now links) × (length (now next) ≡ length (now copy)) × (edge .at < index-limit) × (slot .0 < word-limit) × (edge .id .0 < word-limit) ⌝ }
+    ensures { λ p. ⌜ Noted layout (a .used) (now (table .entry)) (slot .0) (edge .id .0) (now (table .exit)) (now (list .exit)) (now (links .exit)) p (visit (domain-of (now (chart .entry))) (a .settings) (length (now (list .entry))) (edge .id .0) (post-at (now (chart .entry)) (edge .at) (now (copy .entry))) (rows-of layout (a .used) (now (table .entry))) (waits (a .waiting) (now (list .entry)))) ⌝ }
 {
     match transfer::successor(chart, edge, copy, next) {
         Move::Blocked => progress::went_on(a.used, a.waiting),
@@ -94,7 +106,7 @@ fn visit(
             if transfer::is_error(chart, next) {
                 return progress::alarm_by(edge.id, a.used, a.waiting);
             }
-            arrive(layout, a, next, slot, edge.id, table, list)
+            arrive(layout, a, next, slot, edge.id, table, list, links)
         }
     }
 }
@@ -110,9 +122,10 @@ fn visit_all(
     copy: &[i32],
     table: &mut [i32],
     list: &mut [i32],
+    links: &mut [usize],
 ) -> Progress
-    requires { ⌜ Ready (outline .layout) a (now table) (now list) (now copy) × Outlined (now chart) outline (now heads) (now nexts) × (slot .0 < word-limit) ⌝ }
-    ensures progressed { λ p. ⌜ Progressed (outline .layout) (now (table .exit)) (now (list .exit)) p (visit-all (domain-of (now (chart .entry))) (a .settings) (length (now (list .entry))) (now (copy .entry)) (edges-from 0 (outline .edges)) (rows-of (outline .layout) (a .used) (now (table .entry))) (waits (a .waiting) (now (list .entry)))) ⌝ }
+    requires { ⌜ Ready (outline .layout) a (now table) (now list) (now copy) (now links) × Outlined (now chart) outline (now heads) (now nexts) × (slot .0 < word-limit) ⌝ }
+    ensures progressed { λ p. ⌜ Progressed (outline .layout) (now (table .exit)) (now (list .exit)) (now (links .exit)) p (visit-all (domain-of (now (chart .entry))) (a .settings) (length (now (list .entry))) (now (copy .entry)) (edges-from 0 (outline .edges)) (rows-of (outline .layout) (a .used) (now (table .entry))) (waits (a .waiting) (now (list .entry)))) ⌝ }
     ensures origins { λ p. ⌜ origins-of (outline .layout) (p .used) (now (table .exit)) ≡ origins-of (outline .layout) (a .used) (now (table .entry)) ++ brought (slot .0) (takers (domain-of (now (chart .entry))) (a .settings) (length (now (list .entry))) (now (copy .entry)) (edges-from 0 (outline .edges)) (rows-of (outline .layout) (a .used) (now (table .entry))) (waits (a .waiting) (now (list .entry)))) ⌝ }
 {
     let layout = outline.layout;
@@ -135,6 +148,7 @@ fn visit_all(
             &mut next[..width],
             table,
             list,
+            links,
         );
         let exit = p.exit;
         if exit.has_ended() {
@@ -156,10 +170,12 @@ fn iteration_with(
     copy: &mut [i32],
     table: &mut [i32],
     list: &mut [i32],
+    links: &mut [usize],
 ) -> Analysis
-    requires { ⌜ Resumable (outline .layout) (outline .edges) a (now table) (now list) × (a .iterations < most-iterations) × (0 < a .waiting) × (length (now copy) ≡ width-of (outline .layout)) × Outlined (now chart) outline (now heads) (now nexts) ⌝ }
+    requires { ⌜ Resumable (outline .layout) (outline .edges) a (now table) (now list) × (a .iterations < most-iterations) × (0 < a .waiting) × (length (now copy) ≡ width-of (outline .layout)) × Outlined (now chart) outline (now heads) (now nexts) × Linked (chains-of (outline .layout) (a .used) (now table)) (now links) ⌝ }
     ensures loaded { λ r. ⌜ Loaded (outline .layout) (outline .edges) r (now (table .exit)) (now (list .exit)) (iteration (domain-of (now (chart .entry))) (edges-from 0 (outline .edges)) (load-of (outline .layout) a (now (table .entry)) (now (list .entry)))) ⌝ }
     ensures iterations { λ r. ⌜ r .iterations ≡ a .iterations + 1 ⌝ }
+    ensures linked { λ r. ⌜ Linked (chains-of (outline .layout) (r .used) (now (table .exit))) (now (links .exit)) ⌝ }
 {
     let layout = outline.layout;
     let settings = a.settings;
@@ -167,7 +183,9 @@ fn iteration_with(
     let slot = waitlist::take_slot(order, list, a.waiting);
     reached::get_row(layout, table, slot, copy);
     let taken = progress::with_counts(a, a.used, a.waiting - 1);
-    let p = visit_all(chart, outline, heads, nexts, taken, slot, copy, table, list);
+    let p = visit_all(
+        chart, outline, heads, nexts, taken, slot, copy, table, list, links,
+    );
     progress::finish(a, slot, p, list)
 }
 
@@ -180,10 +198,12 @@ fn iteration(
     a: Analysis,
     table: &mut [i32],
     list: &mut [i32],
+    links: &mut [usize],
 ) -> Analysis
-    requires { ⌜ Resumable (outline .layout) (outline .edges) a (now table) (now list) × (a .iterations < most-iterations) × (0 < a .waiting) × Outlined (now chart) outline (now heads) (now nexts) ⌝ }
+    requires { ⌜ Resumable (outline .layout) (outline .edges) a (now table) (now list) × (a .iterations < most-iterations) × (0 < a .waiting) × Outlined (now chart) outline (now heads) (now nexts) × Linked (chains-of (outline .layout) (a .used) (now table)) (now links) ⌝ }
     ensures loaded { λ r. ⌜ Loaded (outline .layout) (outline .edges) r (now (table .exit)) (now (list .exit)) (iteration (domain-of (now (chart .entry))) (edges-from 0 (outline .edges)) (load-of (outline .layout) a (now (table .entry)) (now (list .entry)))) ⌝ }
     ensures iterations { λ r. ⌜ r .iterations ≡ a .iterations + 1 ⌝ }
+    ensures linked { λ r. ⌜ Linked (chains-of (outline .layout) (r .used) (now (table .exit))) (now (links .exit)) ⌝ }
 {
     let layout = outline.layout;
     let width = layout.width();
@@ -197,6 +217,7 @@ fn iteration(
         &mut copy[..width],
         table,
         list,
+        links,
     )
 }
 
@@ -222,8 +243,9 @@ fn play(
     most: u32,
     table: &mut [i32],
     list: &mut [i32],
+    links: &mut [usize],
 ) -> Analysis
-    requires { ⌜ Resumable (outline .layout) (outline .edges) a (now table) (now list) × (a .iterations + most ≤ most-iterations) × Outlined (now chart) outline (now heads) (now nexts) ⌝ }
+    requires { ⌜ Resumable (outline .layout) (outline .edges) a (now table) (now list) × (a .iterations + most ≤ most-iterations) × Outlined (now chart) outline (now heads) (now nexts) × Linked (chains-of (outline .layout) (a .used) (now table)) (now links) ⌝ }
     ensures { λ r. ⌜ Loaded (outline .layout) (outline .edges) r (now (table .exit)) (now (list .exit)) (run (domain-of (now (chart .entry))) (edges-from 0 (outline .edges)) most (load-of (outline .layout) a (now (table .entry)) (now (list .entry)))) ⌝ }
 {
     let mut rest = most;
@@ -233,7 +255,7 @@ fn play(
         if semantics::has_verdict(verdict) {
             return at;
         }
-        at = iteration(chart, outline, heads, nexts, at, table, list);
+        at = iteration(chart, outline, heads, nexts, at, table, list, links);
         rest -= 1;
     }
     at
@@ -263,8 +285,10 @@ pub fn run_core(
     let mut heads = [none; semantics::MOST_LOCATIONS];
     let mut nexts = [0usize; semantics::MOST_EDGES];
     outgoing::chain(chart, edges, &mut heads, &mut nexts);
+    let mut links = [links::NONE; links::SIZE];
+    links::link_all(layout, table, a.used, &mut links);
     let most = iterations_allowed(budget, a.iterations);
-    play(chart, outline, &heads, &nexts, a, most, table, list)
+    play(chart, outline, &heads, &nexts, a, most, table, list, &mut links)
 }
 
 // An analysis begins with the initial state, in the row lent, in slot 0, waiting.

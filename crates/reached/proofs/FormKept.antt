@@ -7,12 +7,13 @@ use Rattle.semantics.specs.Tidy.{Queue}
 use Rattle.semantics.proofs.Tidy.{queue-in-more, join-queue}
 use Rattle.words.proofs.Rows.{row-in}
 use Rattle.state.specs.declared.Layout.{Layout}
-use Rattle.state.specs.Rows.{width-of, word-limit, tail-words, tails-of, origins-of, Laid}
+use Rattle.state.specs.Rows.{width-of, word-limit, tail-words, rows-of, tails-of, origins-of, Laid}
 use Rattle.state.proofs.Layouts.{id-fits}
 use Rattle.waitlist.specs.Waits.{waits, Stored}
 use Rattle.waitlist.proofs.WaitWords.{waits-are, kept}
 use Rattle.reached.specs.Reached.{Kept}
-use Rattle.reached.proofs.Table.{tails-stored, stored-length, rest-stored, stored-next}
+use Rattle.reached.specs.Links.{chain-in, chains-of}
+use Rattle.reached.proofs.Table.{rows-stored, tails-stored, stored-length, rest-stored, stored-next}
 
 -- nothing in use yet
 pub empty-kept : (y : Layout) (t l : List ℤ) → 0 < width-of y → y .stride ≡ width-of y + origin-size → length l < index-limit → length t ≡ length l * y .stride
@@ -84,6 +85,9 @@ module _ {y : Layout} {t l : List ℤ} {used waiting : ℕ} (k : Kept y t l used
 
       pub origins-stored : origins-of y (used + 1) stored ≡ origins-of y used t ++ (origin ∷ [])
       origins-stored = ap (map origin-in) tails ∙ map-append origin-in (tails-of y used t) (tail-words n m ∷ []) ∙ ap (λ (o : Origin). origins-of y used t ++ (o ∷ [])) says
+
+      pub chains-stored : chains-of y (used + 1) stored ≡ chains-of y used t ++ (chain-in e ∷ [])
+      chains-stored = ap (map chain-in) (rows-stored y used t e (tail-words n m) next-slot-in (k .tailed) len refl) ∙ map-append chain-in (rows-of y used t) (e ∷ [])
 
       pub kept-stored : {l′ : List ℤ} {n′ : ℕ} → Stored l′ n′ (waits waiting l ++ (used ∷ [])) → length l′ ≡ length l → Kept y stored l′ (used + 1) n′
       kept-stored p ll = record {

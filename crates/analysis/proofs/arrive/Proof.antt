@@ -1,12 +1,15 @@
 -- `analysis::arrive` meets its contract. Assumes nothing.
 use Rattle.semantics.proofs.Prelude.{_≡_, refl, sym, ap, _∙_, List, [], _∷_, _++_, ℕ, _<_, arith, needs, ℤ, length}
+use Rattle.semantics.specs.Layout.{index-limit}
 use Rattle.semantics.proofs.Tidy.{queue-few}
 use Rattle.waitlist.specs.Waits.{waits}
 use Rattle.waitlist.proofs.WaitWords.{waits-are}
 use Rattle.semantics.specs.Algorithm.{Origin, Out, taking, brought}
 use Rattle.state.specs.Rows.{tail-words, rows-of, origins-of}
+use Rattle.reached.specs.Links.{chains-of, Linked}
 use Rattle.reached.proofs.Table.{rows-stored}
-use Rattle.reached.proofs.FormKept.{laid, next-slot-in, origins-stored, kept-stored}
+use Rattle.reached.proofs.SlotChains.{chains-length}
+use Rattle.reached.proofs.FormKept.{laid, next-slot-in, origins-stored, chains-stored, kept-stored}
 use Rattle.analysis.specs.Loaded.{Merged}
 use Rattle.analysis.proofs.Arrival.{arrive-drop, arrive-store, arrive-full, noted-none, noted-one, noted-full}
 use Rattle.analysis.proofs.arrive.Statement.{statement}
@@ -15,7 +18,7 @@ use Rattle.analysis.proofs.arrive.Tie as tie
 -- what is known once the slots are merged
 module _ (c : tie.After-merge-by) where
   abbrev start : tie.Start
-  start = c .before .before .before
+  start = c .before .before .before .before .before
 
   abbrev table : List ℤ
   table = c .merge-by .last .1 .1 .1 .0
@@ -29,16 +32,23 @@ module _ (c : tie.After-merge-by) where
   after : Merged (start .args .layout) (start .args .a) (start .args .e .now) (start .args .table .now) (start .args .list .now) table list count
   after = c .merge-by .ensures
 
+  -- the slots are linked as before
+  linked : Linked (chains-of (start .args .layout) (start .args .a .used) table) (start .args .links .now)
+  linked = rw (after .chains) (start .pre .0 .linked)
+
+  few : start .args .a .used < index-limit
+  few = omega (arith, after .kept .capacity, after .kept .small)
+
   -- the list has as many words as before
   size : length list ≡ length (start .args .list .now)
   size = c .merge-by .kept .1 .1 .1 .1 .0
 
 -- the merged slots, seen from the test whether they cover the state
 abbrev merged-at : tie.After-covered → tie.After-merge-by
-merged-at v = v .before .before .before .before
+merged-at v = v .before .before .before .before .before
 
 covered-requires : tie.Need-covered-requires
-covered-requires c κs = let d = c .before .before .before in laid (after d .kept) _ (start d .pre .0 .row)
+covered-requires c κs = let d = c .before .before .before .before in ((laid (after d .kept) _ (start d .pre .0 .row), few d), linked d)
 
 -- the origins before it, and how they grow by what arrives
 module _ (d : tie.After-merge-by) where
@@ -55,7 +65,7 @@ returns c =
     let a = start d .args in
     let out = arrive-drop (start d .pre .0) (after d) (sym (v .covered .ensures) ∙ c .before .if1 .taken) in
     rw (c .went-on .ensures) (record {
-      progressed = record { out = out; kept = after d .kept };
+      progressed = record { out = out; kept = after d .kept; linked = linked d };
       origins = after d .origins ∙ noted-none (os d) (a .parent .0) (a .edge .0) (a .layout) (a .a .used) (table d) (waits (count d) (list d)) ∙ ap (note d) out;
     })
 
@@ -64,9 +74,12 @@ store-slot-requires c κs =
     let d = merged-at (c .before .before .before) in
     (next-slot-in (after d .kept) (c .before .if2 .taken), omega (arith, start d .pre .0 .row, after d .kept .tailed))
 
+add-requires : tie.Need-add-requires
+add-requires c κs = few (merged-at (c .before .before .before .before .before .before .before))
+
 append-requires : tie.Need-append-requires
 append-requires c κs =
-    let i = c .before .before .before .before in
+    let i = c .before .before .before .before .before .before .before .before .before in
     let d = merged-at (i .before .before) in
     let k = after d .kept in
     let u : start d .args .a .used < length (list d) = i .if2 .taken in
@@ -75,8 +88,9 @@ append-requires c κs =
 returns-2 : tie.Need-returns-2
 returns-2 c =
     let app = c .before .before .append in
-    let put = c .before .before .before .before .before .store-slot in
-    let i = c .before .before .before .before .before .before .before in
+    let loc = c .before .before .before .before .before .before .before in
+    let put = loc .before .before .before .store-slot in
+    let i = loc .before .before .before .before .before in
     let v = i .before .before in
     let d = merged-at v in
     let k = after d .kept in
@@ -90,6 +104,8 @@ returns-2 c =
       progressed = record {
         out = rw (rows-stored (s .layout) (s .a .used) (table d) e tail (next-slot-in k u) (k .tailed) row refl, waits-are (app .ensures)) stored;
         kept = kept-stored k u e row (s .parent .0) (s .edge .0) (start d .pre .1) (start d .pre .2) (app .ensures) (app .kept .0);
+        linked = rw (chains-stored k u e row (s .parent .0) (s .edge .0) (start d .pre .1) (start d .pre .2), ← loc .location-of .ensures .0)
+            (c .before .before .before .before .before .before .add .ensures (chains-of (s .layout) (s .a .used) (table d)) (chains-length (s .layout) (s .a .used) (table d)) (linked d));
       };
       origins = origins-stored k u e row (s .parent .0) (s .edge .0) (start d .pre .1) (start d .pre .2)
           ∙ ap (λ (l : List Origin). l ++ (record { parent = s .parent .0; edge = s .edge .0 } ∷ [])) (after d .origins)
@@ -105,7 +121,7 @@ returns-3 c =
     let a = start d .args in
     let out = arrive-full (start d .pre .0) (after d) (sym (v .covered .ensures) ∙ i .before .if1 .left) (omega (arith, i .if2 .left, size d)) in
     rw (c .table-full .ensures) (record {
-      progressed = record { out = out; kept = after d .kept };
+      progressed = record { out = out; kept = after d .kept; linked = linked d };
       origins = after d .origins ∙ noted-full (os d) (a .parent .0) (a .edge .0) (a .a .used) (rows-of (a .layout) (a .a .used) (table d)) (waits (count d) (list d)) ∙ ap (note d) out;
     })
 
@@ -115,11 +131,13 @@ arrive-spec =
     (tie.spec
     (λ c κs. search needs)
     covered-requires
-    (λ c κs. search needs) (λ c. search needs) (λ c. search needs)
+    (λ c κs. search needs) (λ c. search needs) (λ c. search needs) (λ c. search needs)
     returns
     store-slot-requires
+    (λ c κs. search needs)
+    add-requires
     append-requires
-    (λ c. search needs) (λ c κs. search needs) (λ c. search needs) (λ c. search needs)
+    (λ c. search needs) (λ c κs. search needs) (λ c. search needs) (λ c. search needs) (λ c. search needs)
     returns-2
-    (λ c κs. search needs) (λ c. search needs) (λ c. search needs)
+    (λ c κs. search needs) (λ c. search needs) (λ c. search needs) (λ c. search needs)
     returns-3)

@@ -15,7 +15,7 @@ use Rattle.analysis.proofs.visit.Tie as tie
 -- the transfer's answer, and the row that it leaves
 module _ (d : tie.After-successor) where
   abbrev start : tie.Start
-  start = d .before .before
+  start = d .before .before .before
 
   abbrev row : List ℤ
   row = d .successor .last .1 .1 .1 .0
@@ -35,10 +35,10 @@ moved-at i = i .before .before .before .before .before
 
 -- an alarm of the edge leaves all as it is
 raised : (d : tie.After-successor) → let e = start d .args in
-    Noted (e .layout) (e .a .used) (e .table .now) (e .slot .0) (e .edge .id .0) (e .table .now) (e .list .now) (alarm-by (e .edge .id) (e .a .used) (e .a .waiting)) (alarmed (e .edge .id .0) (rows-of (e .layout) (e .a .used) (e .table .now)) (waits (e .a .waiting) (e .list .now)))
+    Noted (e .layout) (e .a .used) (e .table .now) (e .slot .0) (e .edge .id .0) (e .table .now) (e .list .now) (e .links .now) (alarm-by (e .edge .id) (e .a .used) (e .a .waiting)) (alarmed (e .edge .id .0) (rows-of (e .layout) (e .a .used) (e .table .now)) (waits (e .a .waiting) (e .list .now)))
 raised d =
     let e = start d .args in
-    record { progressed = record { out = refl; kept = start d .pre .0 .kept }; origins = noted-alarm (os d) (e .slot .0) (e .edge .id .0) (e .a .used) (e .edge .id .0) (rows-of (e .layout) (e .a .used) (e .table .now)) (waits (e .a .waiting) (e .list .now)) }
+    record { progressed = record { out = refl; kept = start d .pre .0 .kept; linked = start d .pre .0 .linked }; origins = noted-alarm (os d) (e .slot .0) (e .edge .id .0) (e .a .used) (e .edge .id .0) (rows-of (e .layout) (e .a .used) (e .table .now)) (waits (e .a .waiting) (e .list .now)) }
 
 returns : tie.Need-returns
 returns c =
@@ -52,15 +52,15 @@ returns-2 c =
     let d = c .before .before .before .before in
     let e = start d .args in
     rw (c .went-on .ensures, moved d Blocked (c .before .enum-told .given .1))
-    (record { progressed = record { out = refl; kept = start d .pre .0 .kept }; origins = noted-none (os d) (e .slot .0) (e .edge .id .0) (e .layout) (e .a .used) (e .table .now) (waits (e .a .waiting) (e .list .now)) })
+    (record { progressed = record { out = refl; kept = start d .pre .0 .kept; linked = start d .pre .0 .linked }; origins = noted-none (os d) (e .slot .0) (e .edge .id .0) (e .layout) (e .a .used) (e .table .now) (waits (e .a .waiting) (e .list .now)) })
 
 returns-3 : tie.Need-returns-3
 returns-3 c = let d = c .before .before .before .before in rw (c .alarm-by .ensures, moved d Fault (c .before .enum-told2 .given .1)) (raised d)
 
 returns-4 : tie.Need-returns-4
 returns-4 c =
-    let r = c .before .before in
-    let f = r .before .before .before .before in
+    let r = c .before .before .before .before in
+    let f = r .before .before .before .before .before in
     let i = f .before in
     let d = moved-at i in
     let b : error-row (start d .args .chart .now) (row d) ≡ false = sym (i .is-error .ensures) ∙ f .if1 .left in
@@ -68,15 +68,15 @@ returns-4 c =
 
 arrive-requires : tie.Need-arrive-requires
 arrive-requires c κs =
-    let d = moved-at (c .before .before .before .before) in
+    let d = moved-at (c .before .before .before .before .before) in
     let g = start d .pre .0 in
-    (record { kept = g .kept; allowed = g .allowed; row = row-length d ∙ g .row }, start d .pre .3, start d .pre .4)
+    (record { kept = g .kept; allowed = g .allowed; row = row-length d ∙ g .row; linked = g .linked }, start d .pre .3, start d .pre .4)
 
 pub visit-spec : {M : Type 1} → statement M
 visit-spec =
     tie.close
     (tie.spec
-    (λ c κs. let s = c .before in (omega (arith, s .pre .0 .row, s .pre .0 .kept .wide), s .pre .1, s .pre .2))
+    (λ c κs. let s = c .before .before in (omega (arith, s .pre .0 .row, s .pre .0 .kept .wide), s .pre .1, s .pre .2))
     (λ c. search needs) (λ c κs. search needs) (λ c. search needs) (λ c κs. search needs) (λ c. search needs)
     (λ c κs. search needs) (λ c κs. search needs) (λ c. search needs)
     returns
@@ -85,5 +85,5 @@ visit-spec =
     returns-2
     (λ c. search needs)
     returns-3
-    (λ c. search needs) (λ c. search needs) (λ c. search needs)
+    (λ c. search needs) (λ c. search needs) (λ c. search needs) (λ c. search needs)
     returns-4)

@@ -14,8 +14,8 @@ use Rattle.analysis.proofs.visit_all.Statement.{statement}
 use Rattle.analysis.proofs.visit_all.Tie as tie
 
 abbrev Inv-loop : tie.InvT-loop
-Inv-loop chart heads nexts slot copy table₀ list₀ layout first edges width next₀ at₀ location id₀ table list next at id =
-    Ready layout at table list copy
+Inv-loop chart heads nexts slot copy table₀ list₀ links₀ layout first edges width next₀ at₀ location id₀ table list links next at id =
+    Ready layout at table list copy links
     × (length table ≡ length table₀)
     × (length list ≡ length list₀)
     × (length next ≡ most-width)
@@ -26,13 +26,14 @@ Inv-loop chart heads nexts slot copy table₀ list₀ layout first edges width n
     ++ brought (slot .0) (takers (domain-of chart) (at₀ .settings) (length list₀) copy (edges-from 0 edges) (rows-of layout (at₀ .used) table₀) (waits (at₀ .waiting) list₀))
     ≡ origins-of layout (at .used) table
     ++ brought (slot .0) (takers (domain-of chart) (at .settings) (length list₀) copy (edges-from (id .0 - 1) (edges - (id .0 - 1))) (rows-of layout (at .used) table) (waits (at .waiting) list)))
+    × (length links ≡ length links₀)
 
 abbrev μ-loop : tie.MeasureT-loop
-μ-loop chart heads nexts slot copy table₀ list₀ layout first edges width next₀ at₀ location id₀ table list next at id = edges + 1 - id .0
+μ-loop chart heads nexts slot copy table₀ list₀ links₀ layout first edges width next₀ at₀ location id₀ table list links next at id = edges + 1 - id .0
 
 -- where the function begins, seen from its loop
 abbrev start : tie.At-loop Inv-loop μ-loop → tie.Start Inv-loop μ-loop
-start b = b .before .before .before .before .before .before .before
+start b = b .before .before .before .before .before .before .before .before
 
 -- the loop, seen from the edge that is played
 abbrev loop-at : tie.After-edge-of Inv-loop μ-loop → tie.At-loop Inv-loop μ-loop
@@ -40,7 +41,7 @@ loop-at d = d .before .before .before
 
 loop-holds : tie.Need-loop-holds Inv-loop μ-loop
 loop-holds c =
-    let s = c .before .before .before .before .before .before in
+    let s = c .before .before .before .before .before .before .before in
     let e = s .args .copy .now in
     let o = s .args .outline in
     let l = s .args .list .now in
@@ -58,6 +59,7 @@ loop-holds c =
       ap (λ (ns : List ℕ). origins-of (o .layout) (s .args .a .used) (s .args .table .now) ++ brought (s .args .slot .0) ns)
           (ap (λ (k : ℕ). takers (domain-of (s .args .chart .now)) (s .args .a .settings) (length l) e (edges-from 0 k) en wa) n
           ∙ passed-takers (s .args .chart .now) (s .args .a .settings) (length l) e (o .edges) en wa 0 (c .first2 .result .0 - 1) (omega arith) (λ j lo hi q. s .pre .1 .chained .head (location-in e) j lo (omega (arith, m)) q)),
+      refl,
     )
 
 -- the chain names an edge of the chart
@@ -89,17 +91,17 @@ module _ (d : tie.After-edge-of Inv-loop μ-loop) where
 
 visit-requires : tie.Need-visit-requires Inv-loop μ-loop
 visit-requires c κs =
-    let d = c .before .before .before in
+    let d = c .before .before .before .before in
     let b = loop-at d in
     (b .loop .inv .0, row-length d, omega (arith, edge-is d .at, b .loop .inv .4, start b .pre .1 .small, in-chart (d .before)), start b .pre .2, omega (arith, number-is d, start b .pre .1 .small, in-chart (d .before)))
 
 -- a turn, once the edge is played
 module _ (c : tie.After-has-ended Inv-loop μ-loop) where
   abbrev visited : tie.After-visit Inv-loop μ-loop
-  visited = c .before .before .before .before
+  visited = c .before .before .before .before .before .before
 
   abbrev edge-at-turn : tie.After-edge-of Inv-loop μ-loop
-  edge-at-turn = visited .before .before .before .before
+  edge-at-turn = visited .before .before .before .before .before
 
   abbrev b : tie.At-loop Inv-loop μ-loop
   b = loop-at edge-at-turn
@@ -121,6 +123,9 @@ module _ (c : tie.After-has-ended Inv-loop μ-loop) where
 
   same-list : length list ≡ length (start b .args .list .now)
   same-list = visited .visit .kept .1 .1 .1 .1 .1 .1 .1 .1 .0 ∙ b .loop .inv .2
+
+  same-links : length (visited .visit .last .1 .1 .1 .1 .1 .1 .1 .1 .1 .0) ≡ length (start b .args .links .now)
+  same-links = visited .visit .kept .1 .1 .1 .1 .1 .1 .1 .1 .1 .0 ∙ b .loop .inv .7
 
   abbrev rest-takers : List (List ℤ) → List ℕ → List ℕ
   rest-takers en wa =
@@ -186,7 +191,7 @@ returns c =
     let d = c .before in
     let m = visited d .visit in
     let over = sym (d .has-ended .ensures) ∙ c .if2 .taken in (
-      record { out = sym (turn d ∙ then-ended _ _ _ _ (m .result .exit) over); kept = m .ensures .progressed .kept },
+      record { out = sym (turn d ∙ then-ended _ _ _ _ (m .result .exit) over); kept = m .ensures .progressed .kept; linked = m .ensures .progressed .linked },
       sym (origins-turn d ∙ origins-ended _ _ _ (before-it d) (after-it d) _ _ _ (rest-takers d) (m .result .exit) over (noted d)),
     )
 
@@ -217,7 +222,7 @@ loop-again c =
     let en = rows-of (s .outline .layout) (m .result .used) (table h) in
     let wa = waits (m .result .waiting) (list h) in
     rw (c .before .with-counts .ensures) (
-      record { kept = m .ensures .progressed .kept; allowed = b .loop .inv .0 .allowed; row = b .loop .inv .0 .row },
+      record { kept = m .ensures .progressed .kept; allowed = b .loop .inv .0 .allowed; row = b .loop .inv .0 .row; linked = m .ensures .progressed .linked },
       same-table h,
       same-list h,
       length-front (b .loop .next) (m .last .1 .1 .1 .1 .1 .1 .0) (length (s .copy .now)) (m .kept .1 .1 .1 .1 .1 .1 .0) ∙ b .loop .inv .3,
@@ -227,6 +232,7 @@ loop-again c =
       origins-turn h ∙ origins-on _ _ _ (before-it h) (after-it h) _ _ _ (rest-takers h) (m .result .exit) going (noted h)
           ∙ ap (λ (ns : List ℕ). after-it h ++ brought (s .slot .0) ns)
           (passed-takers (s .chart .now) (b .loop .at .settings) (length (s .list .now)) (s .copy .now) (s .outline .edges) en wa (b .loop .id .0 - 1 + 1) (c .next3 .result .0 - 1) (omega (arith, c .next3 .ensures .0, k, b .loop .inv .4)) (λ j lo hi q. c .next3 .ensures .1 j (omega (arith, k, b .loop .inv .4)) hi (q ∙ sym (b .before .before .location-of .ensures .0)))),
+      same-links h,
     )
 
 returns-2 : tie.Need-returns-2 Inv-loop μ-loop
@@ -236,7 +242,7 @@ returns-2 c =
     let n = start b .args .outline .edges in
     let past = leb-false (b .loop .id .0) n (sym (d .is-within .ensures) ∙ c .before .if1 .left) in
     let none = edges-none (b .loop .id .0 - 1) n (omega (arith, past)) in
-    rw (c .went-on .ensures) (record { out = sym (b .loop .inv .5 ∙ rw none); kept = b .loop .inv .0 .kept }, sym (b .loop .inv .6 ∙ rw none (append-nil (origins-of (start b .args .outline .layout) (b .loop .at .used) (b .loop .table)))))
+    rw (c .went-on .ensures) (record { out = sym (b .loop .inv .5 ∙ rw none); kept = b .loop .inv .0 .kept; linked = b .loop .inv .0 .linked }, sym (b .loop .inv .6 ∙ rw none (append-nil (origins-of (start b .args .outline .layout) (b .loop .at .used) (b .loop .table)))))
 
 pub visit-all-spec : {M : Type 1} → statement M
 visit-all-spec =
@@ -254,6 +260,7 @@ visit-all-spec =
     (λ c κs. search needs)
     (λ c. same-table (c .before))
     (λ c. same-list (c .before))
+    (λ c. same-links (c .before))
     returns
     (λ c κs. search needs)
     next-requires
@@ -262,4 +269,5 @@ visit-all-spec =
     (λ c κs. search needs)
     (λ c. c .before .before .before .loop .inv .1)
     (λ c. c .before .before .before .loop .inv .2)
+    (λ c. c .before .before .before .loop .inv .7)
     returns-2)
