@@ -184,7 +184,16 @@ fn iteration_with(
     reached::get_row(layout, table, slot, copy);
     let taken = progress::with_counts(a, a.used, a.waiting - 1);
     let p = visit_all(
-        chart, outline, heads, nexts, taken, slot, copy, table, list, links,
+        chart,
+        outline,
+        heads,
+        nexts,
+        taken,
+        slot,
+        copy,
+        table,
+        list,
+        links,
     );
     progress::finish(a, slot, p, list)
 }
@@ -288,7 +297,17 @@ pub fn run_core(
     let mut links = [links::NONE; links::SIZE];
     links::link_all(layout, table, a.used, &mut links);
     let most = iterations_allowed(budget, a.iterations);
-    play(chart, outline, &heads, &nexts, a, most, table, list, &mut links)
+    play(
+        chart,
+        outline,
+        &heads,
+        &nexts,
+        a,
+        most,
+        table,
+        list,
+        &mut links,
+    )
 }
 
 // An analysis begins with the initial state, in the row lent, in slot 0, waiting.

@@ -51,9 +51,18 @@ loop-holds c =
       rw (z, n) at (passed-waits y (a .used) e t (waits (a .waiting) (a .list .now)) 0 m (omega arith) over),
     )
 
--- the row of slot s becomes ws; k is the slot that is looked at next
-module _ (y : Layout) (used : ℕ) (e t₀ t ws : List ℤ) (s k : ℕ) (in-use : s < used) (later : s < k) (apart : width-of y ≤ y .stride) (fits : used * y .stride ≤ length t) (rest : drop (s * y .stride) t ≡ drop (s * y .stride) t₀)
-    (len : length ws ≡ width-of y) (is-merged : ws ≡ row-merge e (row-of y s t)) (over : Passed (chains-of y used t₀) (chain-in e) (s + 1) k) where
+-- the row of slot s becomes ws, in a table t that is t₀ from there on; k is the slot that is looked at next
+record Turn (y : Layout) (used : ℕ) (e t₀ t ws : List ℤ) (s k : ℕ) : Type 0 where
+  in-use : s < used
+  later : s < k
+  apart : width-of y ≤ y .stride
+  fits : used * y .stride ≤ length t
+  rest : drop (s * y .stride) t ≡ drop (s * y .stride) t₀
+  len : length ws ≡ width-of y
+  is-merged : ws ≡ row-merge e (row-of y s t)
+  over : Passed (chains-of y used t₀) (chain-in e) (s + 1) k
+
+module _ {y : Layout} {used : ℕ} {e t₀ t ws : List ℤ} {s k : ℕ} (h : Turn y used e t₀ t ws s k) where
   abbrev a : ℕ
   a = s * y .stride
 
@@ -61,31 +70,31 @@ module _ (y : Layout) (used : ℕ) (e t₀ t ws : List ℤ) (s k : ℕ) (in-use 
   new = take a t ++ (ws ++ drop (width-of y) (drop a t))
 
   room : a + y .stride ≤ length t
-  room = omega (arith, row-in s used (y .stride) in-use)
+  room = omega (arith, h .fits, row-in s used (y .stride) (h .in-use))
 
   size : length new ≡ length t
-  size = length-put t a (width-of y) ws (omega (arith, room)) len
+  size = length-put t a (width-of y) ws (omega (arith, room, h .apart)) (h .len)
 
   next-place : (s + 1) * y .stride ≡ a + y .stride
   next-place = rw add-one (suc-mul s (y .stride))
 
   left : used - s ≡ suc (used - (s + 1))
-  left = omega arith
+  left = omega (arith, h .in-use)
 
   past : drop (a + y .stride) new ≡ drop (y .stride) (drop a t)
-  past = rw (put-slot t a (width-of y) (y .stride) ws room apart len) (drop-put t a (y .stride) (slot t a (width-of y) (y .stride) ws room apart len) room (slot-length t a (width-of y) (y .stride) ws room apart len))
+  past = rw (put-slot t a (width-of y) (y .stride) ws room (h .apart) (h .len)) (drop-put t a (y .stride) (slot t a (width-of y) (y .stride) ws room (h .apart) (h .len)) room (slot-length t a (width-of y) (y .stride) ws room (h .apart) (h .len)))
 
   rest-next : drop ((s + 1) * y .stride) new ≡ drop ((s + 1) * y .stride) t₀
-  rest-next = rw next-place (past ∙ drop-drop (y .stride) a t ∙ drop-later t t₀ a (a + y .stride) (omega arith) rest)
+  rest-next = rw next-place (past ∙ drop-drop (y .stride) a t ∙ drop-later t t₀ a (a + y .stride) (omega arith) (h .rest))
 
   rest-then : drop (k * y .stride) new ≡ drop (k * y .stride) t₀
-  rest-then = drop-later new t₀ ((s + 1) * y .stride) (k * y .stride) (mul-le-mul-right (y .stride) (omega arith)) rest-next
+  rest-then = drop-later new t₀ ((s + 1) * y .stride) (k * y .stride) (mul-le-mul-right (y .stride) (omega (arith, h .later))) rest-next
 
   merged-then : take a t ++ rows-merge e y (used - s) (drop a t) ≡ take (k * y .stride) new ++ rows-merge e y (used - k) (drop (k * y .stride) new)
   merged-then =
-      ap (λ (n : ℕ). take a t ++ rows-merge e y n (drop a t)) left ∙ merge-turn e t y a (used - (s + 1)) ws room apart len is-merged
+      ap (λ (n : ℕ). take a t ++ rows-merge e y n (drop a t)) left ∙ merge-turn e t y a (used - (s + 1)) ws room (h .apart) (h .len) (h .is-merged)
       ∙ ap (λ (n : ℕ). take n new ++ rows-merge e y (used - (s + 1)) (drop n new)) (sym next-place)
-      ∙ passed-merge y used e new apart (omega (arith, size)) (s + 1) k (omega arith) (passed-rows y used e t₀ new (s + 1) k over rest-next)
+      ∙ passed-merge y used e new (h .apart) (omega (arith, size, h .fits)) (s + 1) k (omega (arith, h .later)) (passed-rows y used e t₀ new (s + 1) k (h .over) rest-next)
 
   waits-then : (wa : List ℕ) → let r = row-of y s t in
       rewaits e s (rows-of y (used - s) (drop a t)) wa ≡ rewaits e k (rows-of y (used - k) (drop (k * y .stride) new)) (pick (same-words (row-merge e r) r) wa (wait s wa))
@@ -94,7 +103,7 @@ module _ (y : Layout) (used : ℕ) (e t₀ t ws : List ℤ) (s k : ℕ) (in-use 
       let wa′ = pick (same-words (row-merge e r) r) wa (wait s wa) in
       ap (λ (n : ℕ). rewaits e s (rows-of y n (drop a t)) wa) left
       ∙ (λ i. rewaits e (sym (add-one s) i) (rows-of y (used - (s + 1)) ((sym past ∙ ap (λ (n : ℕ). drop n new) (sym next-place)) i)) wa′)
-      ∙ passed-waits y used e new wa′ (s + 1) k (omega arith) (passed-rows y used e t₀ new (s + 1) k over rest-next)
+      ∙ passed-waits y used e new wa′ (s + 1) k (omega (arith, h .later)) (passed-rows y used e t₀ new (s + 1) k (h .over) rest-next)
 
 -- a turn, at a slot in use
 module _ (c : tie.Then1 Inv-loop μ-loop) where
@@ -188,22 +197,28 @@ loop-again c =
     let ws = m .last .0 in
     let cs = chains-of y (a .used) t₀ in
     let row = row-of y i t in
-    let size : length ws ≡ width-of y = (rw span at (m .kept .0)) ∙ part-length t (at d) (length e) (inside d) ∙ g .row in
-    let part : take (length e) (drop (at d) t) ≡ row = λ i. take (g .row i) (drop (place d i) t) in
-    let is-merged : ws ≡ row-merge e row = rw (span, part) at (m .ensures .1) in
+    let part : take (length e) (drop (at d) t) ≡ row = λ x. take (g .row x) (drop (place d x) t) in
     let flag : m .result ≡ same-words (row-merge e row) row = rw (span, part) at (m .ensures .0) in
     let here : getD cs i 0 ≡ chain-of (l .location-of2 .result .0) = chains-get y (a .used) i t₀ (below p) ∙ ap (λ (x : List ℤ). chain-in (take (width-of y) x)) (sym (b .loop .inv .0)) ∙ ap chain-in (sym (row-is l)) ∙ ap chain-of (sym (l .location-of2 .ensures .0)) in
-    let over : Passed cs (chain-in e) (i + 1) k = subst (λ (x : ℕ). Passed cs (chain-of x) (i + 1) k) (b .before .before .location-of .ensures .0) (c .next .ensures .1 cs (start p .pre .1 .1) (omega (arith, below p, chains-length y (a .used) t₀)) here) in
-    let fits : a .used * y .stride ≤ length t = omega (arith, g .table, b .loop .inv .1) in
+    let turn : Turn y (a .used) e t₀ t ws i k = record {
+      in-use = below p;
+      later = c .next .ensures .0;
+      apart = g .apart;
+      fits = omega (arith, g .table, b .loop .inv .1);
+      rest = b .loop .inv .0;
+      len = (rw span at (m .kept .0)) ∙ part-length t (at d) (length e) (inside d) ∙ g .row;
+      is-merged = rw (span, part) at (m .ensures .1);
+      over = subst (λ (x : ℕ). Passed cs (chain-of x) (i + 1) k) (b .before .before .location-of .ensures .0) (c .next .ensures .1 cs (start p .pre .1 .1) (omega (arith, below p, chains-length y (a .used) t₀)) here);
+    } in
     let now-waits = waits-are (j .ensures) in
-    let is-new : take (at d) t ++ (ws ++ drop (width-of y) (drop (at d) t)) ≡ take (i * y .stride) t ++ (ws ++ drop (width-of y) (drop (i * y .stride) t)) = λ x. take (place d x) t ++ (ws ++ drop (width-of y) (drop (place d x) t)) in (
-      rw (span, g .row, is-new) (rest-then y (a .used) e t₀ t ws i k (below p) (c .next .ensures .0) (g .apart) fits (b .loop .inv .0) size is-merged over),
-      rw (span, g .row, is-new) (length-put t (i * y .stride) (width-of y) ws (omega (arith, in-slot p, g .apart)) size ∙ b .loop .inv .1),
-      rw (span, g .row, is-new) (b .loop .inv .2 ∙ merged-then y (a .used) e t₀ t ws i k (below p) (c .next .ensures .0) (g .apart) fits (b .loop .inv .0) size is-merged over),
+    let is-new : take (at d) t ++ (ws ++ drop (width-of y) (drop (at d) t)) ≡ new turn = λ x. take (place d x) t ++ (ws ++ drop (width-of y) (drop (place d x) t)) in (
+      rw (span, g .row, is-new) (rest-then turn),
+      rw (span, g .row, is-new) (size turn ∙ b .loop .inv .1),
+      rw (span, g .row, is-new) (b .loop .inv .2 ∙ merged-then turn),
       j .kept .1 .0 ∙ b .loop .inv .3,
       kept (j .ensures),
       rw now-waits (unless-queue (m .result) (a .used) i (waits (b .loop .count) (b .loop .list)) (below p) (b .loop .inv .5)),
-      rw (span, g .row, is-new, now-waits, flag) (b .loop .inv .6 ∙ waits-then y (a .used) e t₀ t ws i k (below p) (c .next .ensures .0) (g .apart) fits (b .loop .inv .0) size is-merged over (waits (b .loop .count) (b .loop .list))),
+      rw (span, g .row, is-new, now-waits, flag) (b .loop .inv .6 ∙ waits-then turn (waits (b .loop .count) (b .loop .list))),
     )
 
 returns : tie.Need-returns Inv-loop μ-loop
