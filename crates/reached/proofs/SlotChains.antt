@@ -1,7 +1,7 @@
 -- The chains of the slots of a table; and slots on another chain than that of a state are passed over: its test and its
 -- merge change nothing there. Assumes nothing.
 use Rattle.semantics.proofs.Prelude.{_≡_, refl, sym, ap, subst, _∙_, Bool, true, false, List, [], _∷_, _++_, map, map-append, ℕ, zero, suc, _+_, _-_, _*_, _≤_, _<_, mul-le-mul-right, suc-mul, add-one, ltb, ltb-true, ltb-false, arith, natAbs, ℤ, length, getD, take, drop, length-map, drop-drop, take-append-drop}
-use Rattle.semantics.specs.Lists.{pick, some-of}
+use Rattle.semantics.specs.Lists.{pick}
 use Rattle.semantics.specs.Algorithm.{wait}
 use Rattle.words.proofs.Rows.{row-in, part-length}
 use Rattle.words.proofs.Words.{eqZ-true}
@@ -10,9 +10,9 @@ use Rattle.state.specs.declared.Layout.{Layout}
 use Rattle.state.specs.Rows.{width-of, location-word, row-of, rows-of, same-place, row-leq, row-join, row-merge, rows-merge, same-words}
 use Rattle.state.proofs.RowLoops.{same-refl}
 use Rattle.state.proofs.Slots.{drop-slot, merge-turn}
-use Rattle.reached.specs.Reached.{rewaits}
+use Rattle.reached.specs.Reached.{lies-from, rewaits}
 use Rattle.reached.specs.Links.{chain-of, chain-in, chains-of, Passed}
-use Rattle.reached.proofs.SlotLoops.{covered-turn}
+use Rattle.reached.proofs.SlotLoops.{slot-tested}
 use Rattle.reached.proofs.Table.{drop-next, rows-length, rows-next}
 
 module _ (y : Layout) where
@@ -89,13 +89,13 @@ module _ (y : Layout) (used : ℕ) (e : List ℤ) where
     Over s = s < used → chain-in (row-of y s t) ≡ chain-in e → ⊥
 
     abbrev tested : ℕ → Bool
-    tested s = some-of (row-leq e) (rows-of y (used - s) (drop (s * y .stride) t))
+    tested = lies-from y used e t
 
     test-one : (s : ℕ) → Over s → tested s ≡ tested (s + 1)
     test-one s o = go (ltb s used) refl
       where
         go : (b : Bool) → ltb s used ≡ b → tested s ≡ tested (s + 1)
-        go true b = let i = ltb-true s used b in rw (left s i) (covered-turn e t y s (used - (s + 1)) false (not-under e (row-of y s t) (o i)))
+        go true b = let i = ltb-true s used b in slot-tested y used e t s false i (not-under e (row-of y s t) (o i))
         go false b = let i = ltb-false s used b in rw (none s i, none (s + 1) (omega (arith, i)))
 
     pub passed-test : (s m : ℕ) → s ≤ m → ((j : ℕ) → s ≤ j → j < m → Over j) → tested s ≡ tested m

@@ -1,18 +1,23 @@
 -- The reached table and the waitlist together, as lent words: which slots wait again after a merge, and the form that
 -- both keep. Assumes nothing.
 use mathlib.Core.Path.{_≡_}
+use mathlib.Core.Bool.{Bool}
 use mathlib.Core.List.{List, [], _∷_, map}
 use Prim.Native.Nat.{ℕ, suc, _+_, _-_, _*_, _≤_, _<_}
 use lib.IntN.{ℤ, pos}
 use lib.ListN.{length, drop, replicate}
 use Rattle.semantics.specs.Layout.{index-limit, origin-size}
-use Rattle.semantics.specs.Lists.{pick}
+use Rattle.semantics.specs.Lists.{pick, some-of}
 use Rattle.semantics.specs.Algorithm.{wait}
 use Rattle.semantics.specs.Tidy.{Queue}
 use Rattle.semantics.specs.Memory.{tail}
 use Rattle.state.specs.declared.Layout.{Layout}
-use Rattle.state.specs.Rows.{width-of, same-words, row-merge, tails-of, origins-of}
+use Rattle.state.specs.Rows.{width-of, same-words, row-leq, rows-of, row-merge, tails-of, origins-of}
 use Rattle.waitlist.specs.Waits.{waits, Stored}
+
+-- whether e lies under one of the first n slots, of these from slot s on
+abbrev pub lies-from : Layout → ℕ → List ℤ → List ℤ → ℕ → Bool
+lies-from y n e t s = some-of (row-leq e) (rows-of y (n - s) (drop (s * y .stride) t))
 
 -- the slots wait again that the merge with e changes; i is the first slot's number
 abbrev pub rewaits : List ℤ → ℕ → List (List ℤ) → List ℕ → List ℕ

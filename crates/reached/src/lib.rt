@@ -4,6 +4,7 @@
 use semantics::EdgeId;
 use semantics::SlotId;
 use state::Layout;
+use state::SlotRow;
 ghost use mathlib.Core.Path.{_≡_};
 ghost use mathlib.Core.List.{_++_};
 ghost use Prim.Native.Nat.{_+_, _*_, _<_, _≤_};
@@ -11,9 +12,9 @@ ghost use lib.ListN.{length, take, drop};
 ghost use Rattle.semantics.specs.Lists.{some-of};
 ghost use Rattle.semantics.specs.Layout.{index-limit, origin-size};
 ghost use Rattle.semantics.specs.Tidy.{Queue};
-ghost use Rattle.state.specs.Rows.{row-leq, rows-merge, rows-of, tail-words, Laid};
+ghost use Rattle.state.specs.Rows.{row-leq, rows-merge, rows-of, tail-words, Placed, Laid};
 ghost use Rattle.waitlist.specs.Waits.{waits, Stored};
-ghost use Rattle.reached.specs.Reached.{rewaits};
+ghost use Rattle.reached.specs.Reached.{lies-from, rewaits};
 ghost use Rattle.reached.specs.Links.{chains-of, Linked};
 
 pub mod links;
@@ -50,20 +51,59 @@ pub fn merge_slots(
     count
 }
 
+// The last of the slots from this one on that the word at place i tells e apart from: e lies under none of those after it up
+// to there. Slots of one location that follow each other mostly differ in one word, which is then looked at first.
+fn pass(layout: Layout, table: &[i32], used: usize, e: &[i32], i: usize, slot: SlotRow) -> SlotRow
+    requires { ⌜ Laid layout used (now e) (now table) × (used < index-limit) × (i < length (now e)) × Placed layout slot × (slot .id .0 < used) ⌝ }
+    ensures slot { λ r. ⌜ Placed layout r × (slot .id .0 ≤ r .id .0) × (r .id .0 < used) ⌝ }
+    ensures apart { λ r. ⌜ lies-from layout used (now (e .entry)) (now (table .entry)) (slot .id .0 + 1) ≡ lies-from layout used (now (e .entry)) (now (table .entry)) (r .id .0 + 1) ⌝ }
+{
+    let mut last = slot;
+    let mut next = layout.after(slot);
+    while next.id.is_below(used) {
+        if !state::told_apart(e, state::row_of(layout, table, next), i) {
+            return last;
+        }
+        last = next;
+        next = layout.after(next);
+    }
+    last
+}
+
+// The slot to look at after this one, which the word at place i tells e apart from: past those after it that this word tells
+// apart too, along the links.
+fn on_from(
+    layout: Layout,
+    table: &[i32],
+    used: usize,
+    e: &[i32],
+    links: &[usize],
+    i: usize,
+    slot: SlotRow,
+) -> SlotId
+    requires { ⌜ Laid layout used (now e) (now table) × (used < index-limit) × (i < length (now e)) × Placed layout slot × (slot .id .0 < used) × Linked (chains-of layout used (now table)) (now links) ⌝ }
+    ensures later { λ r. ⌜ slot .id .0 < r .0 ⌝ }
+    ensures apart { λ r. ⌜ lies-from layout used (now (e .entry)) (now (table .entry)) (slot .id .0 + 1) ≡ lies-from layout used (now (e .entry)) (now (table .entry)) (r .0) ⌝ }
+{
+    let last = pass(layout, table, used, e, i, slot);
+    let at = state::location_of(state::row_of(layout, table, last));
+    links::next(links, last.id, at, state::location_of(e))
+}
+
 // Whether the row e lies under a slot in use; it lies under none of another location.
 pub fn covered(layout: Layout, table: &[i32], used: usize, e: &[i32], links: &[usize]) -> bool
     requires laid { ⌜ Laid layout used (now e) (now table) × (used < index-limit) ⌝ }
     requires linked { ⌜ Linked (chains-of layout used (now table)) (now links) ⌝ }
     ensures { λ r. ⌜ r ≡ some-of (row-leq (now (e .entry))) (rows-of layout used (now (table .entry))) ⌝ }
 {
-    let l = state::location_of(e);
-    let mut id = links::first(links, l);
+    let mut id = links::first(links, state::location_of(e));
     while id.is_below(used) {
-        let row = state::row_of(layout, table, layout.slot(id));
-        if state::leq_row(e, row) {
+        let slot = layout.slot(id);
+        let i = state::first_over(e, state::row_of(layout, table, slot));
+        if i == e.len() {
             return true;
         }
-        id = links::next(links, id, state::location_of(row), l);
+        id = on_from(layout, table, used, e, links, i, slot);
     }
     false
 }

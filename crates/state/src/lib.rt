@@ -6,13 +6,16 @@ use semantics::EdgeId;
 use semantics::LocationId;
 use semantics::SlotId;
 ghost use mathlib.Core.Path.{_≡_};
+ghost use mathlib.Core.Bool.{_&&_, not};
 ghost use Prim.Native.Nat.{_+_, _-_, _*_, _<_, _≤_};
+ghost use lib.Dec.{eqb};
 ghost use lib.ListN.{length};
 ghost use lib.Signed.{nonNeg};
 ghost use Rattle.semantics.specs.Lists.{all};
 ghost use Rattle.semantics.specs.Layout.{index-limit, place-limit, origin-size};
+ghost use Rattle.semantics.specs.Encoding.{word-at};
 ghost use Rattle.semantics.specs.Memory.{origin-in};
-ghost use Rattle.state.specs.Rows.{layout-of, width-of, Placed, row-of, tail-of, tail-words, location-word, location-in, values-of, value-at, id-word, with-location, with-value, word-leq, word-join, words-leq, same-words, row-leq, row-join, row-merge};
+ghost use Rattle.state.specs.Rows.{layout-of, width-of, Placed, row-of, tail-of, tail-words, location-word, location-in, values-of, value-at, id-word, with-location, with-value, word-leq, word-join, words-leq, same-words, same-place, row-leq, row-join, row-merge};
 
 // ---- where the words stand
 
@@ -232,11 +235,11 @@ pub fn set_origin(tail: &mut [i32], parent: SlotId, edge: EdgeId)
 
 // ---- order, join and merge
 
-// Whether the word x lies under y: y is top, or they are equal.
+// Whether the word x lies under y: they are equal, or y is top.
 fn leq_word(x: i32, y: i32) -> bool
     ensures { λ r. ⌜ r ≡ word-leq x y ⌝ }
 {
-    (y == words::TOP) | (x == y)
+    (x == y) | (y == words::TOP)
 }
 
 // The join of two words: equal words stay, all else becomes top.
@@ -249,33 +252,49 @@ pub fn join_word(x: i32, y: i32) -> i32
     words::TOP
 }
 
-// Whether the values of e lie under those of s. No branch: rows are short.
-fn leq_values(e: &[i32], s: &[i32]) -> bool
+// The place of the first value of e that does not lie under that of s; or the length.
+fn first_value_over(e: &[i32], s: &[i32]) -> usize
     requires { ⌜ (length (now s) ≡ length (now e)) × (0 < length (now e)) ⌝ }
-    ensures { λ r. ⌜ r ≡ words-leq (values-of (now (e .entry))) (values-of (now (s .entry))) ⌝ }
+    ensures within { λ r. ⌜ r ≤ length (now (e .entry)) ⌝ }
+    ensures under { λ r. ⌜ eqb r (length (now (e .entry))) ≡ words-leq (values-of (now (e .entry))) (values-of (now (s .entry))) ⌝ }
 {
-    let mut ok = true;
     let mut i = HEAD;
     while i < s.len() {
         let x = e[i];
         let y = s[i];
-        ok = ok & leq_word(x, y);
+        if !leq_word(x, y) {
+            return i;
+        }
         i += 1;
     }
-    ok
+    i
 }
 
-// Whether the row e lies under the row s.
-pub fn leq_row(e: &[i32], s: &[i32]) -> bool
+// The place of the first word that tells the row e apart from s, the location or a value that does not lie under that of
+// s; or the length, where e lies under s.
+pub fn first_over(e: &[i32], s: &[i32]) -> usize
     requires { ⌜ (length (now s) ≡ length (now e)) × (0 < length (now e)) ⌝ }
-    ensures { λ r. ⌜ r ≡ row-leq (now (e .entry)) (now (s .entry)) ⌝ }
+    ensures within { λ r. ⌜ r ≤ length (now (e .entry)) ⌝ }
+    ensures under { λ r. ⌜ eqb r (length (now (e .entry))) ≡ row-leq (now (e .entry)) (now (s .entry)) ⌝ }
 {
-    let l = e[0];
-    let m = s[0];
+    let l = e[LOCATION_PLACE];
+    let m = s[LOCATION_PLACE];
     if l == m {
-        return leq_values(e, s);
+        return first_value_over(e, s);
     }
-    false
+    LOCATION_PLACE
+}
+
+// Whether the word at a place tells the row e apart from s, a row of the same location.
+pub fn told_apart(e: &[i32], s: &[i32], i: usize) -> bool
+    requires { ⌜ (length (now s) ≡ length (now e)) × (i < length (now e)) ⌝ }
+    ensures { λ r. ⌜ r ≡ (same-place (now (e .entry)) (now (s .entry)) && not (word-leq (word-at (now (e .entry)) i) (word-at (now (s .entry)) i))) ⌝ }
+{
+    let l = e[LOCATION_PLACE];
+    let m = s[LOCATION_PLACE];
+    let x = e[i];
+    let y = s[i];
+    (l == m) & !leq_word(x, y)
 }
 
 // Joins e into s, a row of the same location. Whether s is the same as before.
