@@ -1,15 +1,16 @@
 -- Facts behind the form check: the loops' turns, the two parts of rule 21, and what 20, 14 and 21 ask.
 -- Assumes nothing.
-use Rattle.semantics.proofs.Prelude.{_≡_, refl, ap, sym, _∙_, Bool, true, false, _&&_, _||_, not, and-assoc, and-true, List, [], _∷_, _++_, ℕ, suc, _+_, _*_, _<_, add-zero, add-one, arith, leb, ℤ, pos, length, take, drop, drop-cons, drop-drop, getD-drop, take-take, nonNeg}
+use Rattle.semantics.proofs.Prelude.{_≡_, refl, ap, sym, _∙_, Bool, true, false, _&&_, _||_, not, and-assoc, and-true, List, [], _∷_, _++_, ℕ, suc, _+_, _*_, _<_, _≤_, add-zero, add-one, arith, eqb, leb, ℤ, pos, length, take, drop, drop-cons, drop-drop, getD-drop, take-take, nonNeg}
 use Rattle.semantics.specs.Lists.{some-of, all, all-pairs, all-of}
 use Rattle.semantics.specs.Chart.{Chart, eqZ, within}
-use Rattle.semantics.specs.Layout.{top-word, counts-size, variable-size, high-place}
+use Rattle.semantics.specs.Layout.{top-word, counts-size, variable-size, high-place, most-iterations, most-slots}
 use Rattle.semantics.specs.Encoding.{word-at, several, var-in, decode, well-formed, variable-count, location-count, edge-count}
 use Rattle.semantics.specs.declared.Analysis.{Analysis}
-use Rattle.semantics.specs.Memory.{Memory, value-ok, below, width, stride, row-ok, states-in, origins-in, slots-ok, locations, origins-ok, each-once, zeros, lent-tests, record-tests, analysis-ok}
+use Rattle.semantics.specs.Memory.{Memory, value-ok, below, width, stride, row-ok, states-in, origins-in, slots-ok, locations, origins-ok, each-once, zeros, is-alarm, capacity-ok, lent-tests, record-tests, analysis-ok}
 use Rattle.semantics.specs.Outcomes.{too-few}
 use Rattle.semantics.proofs.Decoded.{vars-count, locs-count, edges-count}
-use Rattle.semantics.proofs.Bools.{passed}
+use Rattle.semantics.proofs.MemoryOf.{counted}
+use Rattle.semantics.proofs.Bools.{from-true, left-true, right-true, passed}
 use Rattle.semantics.proofs.FirstCase.{enough}
 use Rattle.chart.proofs.Rows.{interchange}
 use Rattle.state.specs.declared.Layout.{Layout}
@@ -23,13 +24,6 @@ use Rattle.checks.specs.Form.{lent, InForm}
 module _ (l : List ℤ) (i : ℕ) (h : i < length l) (b : Bool) where
   abbrev word : ℤ
   word = word-at l i
-
-  -- a waiting slot: in use, and named nowhere after it
-  pub waits-turn : (n : ℕ) → (below n word && not (some-of (eqZ word) (drop (i + 1) l))) ≡ b →
-      (all (below n) (drop i l) && each-once (drop i l)) ≡ b && (all (below n) (drop (i + 1) l) && each-once (drop (i + 1) l))
-  waits-turn n e =
-      rw (add-one i, drop-cons l i (pos 0) h)
-      (interchange (below n word) (all (below n) (drop (suc i) l)) (not (some-of (eqZ word) (drop (suc i) l))) (each-once (drop (suc i) l)) ∙ ap (λ (x : Bool). x && (all (below n) (drop (suc i) l) && each-once (drop (suc i) l))) (rw add-one at e))
 
   -- a value, and its variable's words at `at`
   pub values-ok-turn : (ws : List ℤ) (at n : ℕ) → (eqZ word top-word || within (word-at ws at) (word-at ws (at + high-place)) word) ≡ b →
@@ -65,6 +59,14 @@ unfolding analysis-ok
 both-parts ws t l a =
     all-of-append (lent-tests (decode ws) (a .capacity) (a .used) (a .waiting) t l) (record-tests (edge-count ws) a)
     ∙ ap (λ (n : ℕ). all-of (lent-tests (decode ws) (a .capacity) (a .used) (a .waiting) t l ++ record-tests n a)) (sym (edges-count ws))
+
+-- a record that passes has a capacity that 11 lets pass
+pub few-slots : (n : ℕ) (a : Analysis) → all-of (record-tests n a) ≡ true → a .capacity ≤ most-slots
+few-slots n a e =
+    let i = right-true (leb (a .iterations) most-iterations) _ e in
+    let j = right-true (leb (a .edge .0) n) _ i in
+    let k = right-true (eqb (a .edge .0) 0 || is-alarm (a .verdict)) _ j in
+    counted (pos (a .capacity)) (from-true (left-true (capacity-ok (pos (a .capacity))) _ k)) .few
 
 in-order : (s o a e u f : Bool) → (((s && o) && (a && e)) && u) && f ≡ s && (o && (a && (e && (u && (f && true)))))
 in-order s o a e u f = simp (and-assoc, and-true)

@@ -18,7 +18,7 @@ ghost use lib.Dec.{T, eqb, ltb};
 ghost use lib.ListN.{length, drop};
 ghost use Rattle.semantics.specs.Lists.{all, all-pairs, all-of};
 ghost use Rattle.semantics.specs.Chart.{eqZ, within};
-ghost use Rattle.semantics.specs.Layout.{top-word, counts-size, variable-size, index-limit};
+ghost use Rattle.semantics.specs.Layout.{top-word, counts-size, variable-size, index-limit, most-slots};
 ghost use Rattle.semantics.specs.Algorithm.{allowed};
 ghost use Rattle.semantics.specs.Encoding.{several, var-in, decode, well-formed};
 ghost use Rattle.semantics.specs.Memory.{width, capacity-ok, value-ok, below, row-ok, slots-ok, joins, locations, origin-ok, origins-ok, origin-in, origins-in, states-in, each-once, is-alarm, empty-if-safe, lent-tests, record-tests, analysis-ok};
@@ -135,18 +135,25 @@ fn origins_ok(chart: &[i32], layout: Layout, table: &[i32], used: usize) -> bool
 
 // ---- the waitlist
 
-// Slots in use, each named once.
+// Slots in use, each named once: where one is named it is marked, so that one marked already is named twice.
 fn waits_ok(list: &[i32], used: usize) -> bool
+    requires { ⌜ used ≤ most-slots ⌝ }
     ensures { λ r. ⌜ r ≡ (all (below used) (now (list .entry)) && each-once (now (list .entry))) ⌝ }
 {
+    let mut marks = [false; semantics::MOST_SLOTS];
     let mut i = 0;
     while i < list.len() {
         let x = list[i];
-        i += 1;
-        let again = words::contains(&list[i..], x);
-        if !(words::is_below(used, x) & !again) {
+        if !words::is_below(used, x) {
             return false;
         }
+        let slot = words::magnitude(x);
+        let named = marks[slot];
+        if named {
+            return false;
+        }
+        marks[slot] = true;
+        i += 1;
     }
     true
 }
@@ -155,7 +162,7 @@ fn waits_ok(list: &[i32], used: usize) -> bool
 
 // The tests of a table and a waitlist, by the record's three counts.
 fn lent_ok(chart: &[i32], layout: Layout, table: &[i32], list: &[i32], a: Analysis) -> bool
-    requires { ⌜ Enough (now chart) layout (a .capacity) (now table) (now list) ⌝ }
+    requires { ⌜ Enough (now chart) layout (a .capacity) (now table) (now list) × (a .capacity ≤ most-slots) ⌝ }
     ensures { λ r. ⌜ r ≡ all-of (lent-tests (decode (now (chart .entry))) (a .capacity) (a .used) (a .waiting) (now (table .entry)) (now (list .entry))) ⌝ }
 {
     let capacity = a.capacity as usize;
@@ -267,12 +274,15 @@ fn too_few(layout: Layout, capacity: u32, table_length: usize, list_length: usiz
     (table_length < slots * layout.stride) | (list_length < slots)
 }
 
-// Form rule 21. That the words lent are enough (14) is judged before.
+// Form rule 21: the record first, since its capacity bounds the slots. That the words lent are enough (14) is judged before.
 fn analysis_ok(chart: &[i32], layout: Layout, table: &[i32], list: &[i32], a: Analysis) -> bool
     requires { ⌜ Enough (now chart) layout (a .capacity) (now table) (now list) ⌝ }
     ensures { λ r. ⌜ r ≡ analysis-ok (decode (now (chart .entry))) (lent (now (table .entry)) (now (list .entry)) a) ⌝ }
 {
-    lent_ok(chart, layout, table, list, a) & record_ok(a, chart::edge_count(chart))
+    if !record_ok(a, chart::edge_count(chart)) {
+        return false;
+    }
+    lent_ok(chart, layout, table, list, a)
 }
 
 // ---- the refusals that calls share

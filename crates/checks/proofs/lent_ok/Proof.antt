@@ -27,10 +27,10 @@ module _ (c : tie.Else2) where
   below-room = mul-le-mul-right stride (c .before .if1 .left)
 
   room : capacity * stride ≤ length (start .args .table .now)
-  room = start .pre .table
+  room = start .pre .0 .table
 
   in-list : start .args .a .waiting ≤ length (start .args .list .now)
-  in-list = omega (arith, c .if2 .left, c .before .if1 .left, start .pre .list)
+  in-list = omega (arith, c .if2 .left, c .before .if1 .left, start .pre .0 .list)
 
 -- once the slots, their origins and the list are tested
 module _ (w : tie.After-waits-ok) where
@@ -57,7 +57,7 @@ returns-3 c =
     let r = o .before in
     let f = r .before .before .before in
     let a = start f .args in
-    let n = is-layout (a .chart .now) _ (start f .pre .layout .0) .stride in
+    let n = is-layout (a .chart .now) _ (start f .pre .0 .layout .0) .stride in
     let slots =
     (rw (from w) at (z .all-zero .ensures)) ∙ ap zeros (sym (drop-take (used f * stride f) (capacity f * stride f) (a .table .now)))
     ∙ λ j. zeros (drop (used f * n j) (take (capacity f * n j) (a .table .now))) in
@@ -73,10 +73,10 @@ lent-ok-spec =
     returns-2
     (λ c κs. omega (arith, below-room c, room c, start c .good))
     (λ c. omega (arith, room (c .before .before), start (c .before .before) .good))
-    (λ c κs. let f = c .before .before in (start f .pre .layout, omega (arith, below-room f, room f)))
-    (λ c κs. let f = c .before .before .before in (start f .pre .chart, start f .pre .layout, omega (arith, below-room f, room f)))
+    (λ c κs. let f = c .before .before in (start f .pre .0 .layout, omega (arith, below-room f, room f)))
+    (λ c κs. let f = c .before .before .before in (start f .pre .0 .chart, start f .pre .0 .layout, omega (arith, below-room f, room f)))
     (λ c. let f = c .before .before .before .before .before in sym (length-take-le _ _ (in-list f)))
-    (λ c κs. search needs)
+    (λ c κs. let f = c .before .before .before .before .before in omega (arith, f .before .if1 .left, start f .pre .1))
     (λ c. let f = counted c in omega (arith, from c, below-room f, room f, start f .good))
     (λ c. let f = counted c in omega (arith, from c, below-room f))
     (λ c. let f = counted c in omega (arith, from c, below-room f))
