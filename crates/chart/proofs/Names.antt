@@ -1,11 +1,12 @@
 -- The name in a location's words, byte by byte: the turns of the loops over it. Assumes nothing.
-use Rattle.semantics.proofs.Prelude.{_≡_, refl, sym, ap, _∙_, Bool, true, false, _&&_, not, List, [], _∷_, ℕ, zero, suc, _+_, _-_, _<_, arith, add-one, eq-eqb, ne-eqb, eqb-true, eqb, eqb·suc-zero, ℤ, pos, negsuc, natAbs, length, drop, drop-nil, drop-cons, drop-drop}
+use Rattle.semantics.proofs.Prelude.{_≡_, refl, sym, ap, _∙_, Bool, true, false, _&&_, not, List, [], _∷_, ℕ, zero, suc, _+_, _-_, _*_, _<_, arith, add-one, eq-eqb, ne-eqb, eqb-true, eqb, eqb·suc-zero, ℤ, pos, negsuc, natAbs, length, drop, drop-nil, drop-cons, drop-drop}
 use Rattle.semantics.specs.Layout.{name-size, location-size, name-place}
 use Rattle.semantics.specs.Lists.{all, pick}
 use Rattle.semantics.specs.Text.{same-bytes}
 use Rattle.semantics.specs.Chart.{Loc, eqZ}
 use Rattle.semantics.specs.Encoding.{word-at, name-in, loc-in, several, distinct-names, count}
 use Rattle.semantics.proofs.Bools.{and-regroup}
+use Rattle.chart.specs.Encoded.{byte-of, number-from}
 
 -- the first word left, and the words after it; past the end there is no byte more
 pub name-step : (n : ℕ) (ws : List ℤ) (i : ℕ) → name-in (suc n) (drop i ws) ≡ pick (eqZ (word-at ws i) (pos 0)) [] (natAbs (word-at ws i) ∷ (name-in n (drop (suc i) ws)))
@@ -31,6 +32,16 @@ module _ (ws : List ℤ) (i : ℕ) (more : i < name-size) where
 
   pub name-goes : (n : ℕ) → n ≡ i + length (name-in (name-size - i) (drop (i + name-place) ws)) → eqZ (word-at ws (i + name-place)) (pos 0) ≡ false → n ≡ i + 1 + length (name-in (name-size - (i + 1)) (drop (i + 1 + name-place) ws))
   name-goes n e t = let z : eqb (count ws (i + name-place)) 0 ≡ false = sym (abs-zero (word-at ws (i + name-place))) ∙ t in omega (arith, rw (name-left, z) at e)
+
+  -- the same of its number, where the bytes before make n
+  pub number-ends : (v n : ℕ) → v ≡ number-from n (name-in (name-size - i) (drop (i + name-place) ws)) → eqZ (word-at ws (i + name-place)) (pos 0) ≡ true → n ≡ v
+  unfolding number-from
+  number-ends v n e t = let z : eqb (count ws (i + name-place)) 0 ≡ true = sym (abs-zero (word-at ws (i + name-place))) ∙ t in sym (rw (name-left, z) at e)
+
+  pub number-goes : (v n : ℕ) → v ≡ number-from n (name-in (name-size - i) (drop (i + name-place) ws)) → eqZ (word-at ws (i + name-place)) (pos 0) ≡ false
+      → v ≡ number-from (2 * n + byte-of (count ws (i + name-place))) (name-in (name-size - (i + 1)) (drop (i + 1 + name-place) ws))
+  unfolding number-from
+  number-goes v n e t = let z : eqb (count ws (i + name-place)) 0 ≡ false = sym (abs-zero (word-at ws (i + name-place))) ∙ t in rw (name-left, z) at e
 
 -- words of different numbers begin different names
 apart : (a b : ℤ) (s t : List ℕ) → (natAbs a ≡ natAbs b → ⊥) → same-bytes (pick (eqb (natAbs a) 0) [] (natAbs a ∷ s)) (pick (eqb (natAbs b) 0) [] (natAbs b ∷ t)) ≡ false

@@ -5,10 +5,10 @@ use Rattle.semantics.specs.Lists.{all, each}
 use Rattle.semantics.specs.Text.{name-ok}
 use Rattle.semantics.specs.Chart.{eqZ, in-range}
 use Rattle.semantics.specs.Encoding.{word-at, var-words, loc-words, edge-words, encode, var-in, loc-in, edge-in, name-in, several, past, decode, var-ok, distinct-names, edge-ok, chart-ok, begins-with, well-formed, variable-count, location-count, edge-count}
-use Rattle.semantics.proofs.Bools.{and-left, and-right, to-false, both-true}
+use Rattle.semantics.proofs.Bools.{and-left, and-right, left-true, right-true, to-false, both-true}
 use Rattle.semantics.proofs.MemoryOf.{padded-length}
 use Rattle.semantics.proofs.Encoded.{edge-wide}
-use Rattle.chart.specs.Encoded.{rows, counts-fine, locations-at, edges-at, location-fine, ranged, edge-fine, rows-fine}
+use Rattle.chart.specs.Encoded.{rows, is-at-most, counts-fine, locations-at, edges-at, location-fine, ranged, edge-fine, rows-fine}
 use Rattle.semantics.proofs.Decoded.{vars-count, locs-count, edges-count}
 use Rattle.chart.proofs.Rows.{iff, all-and, past-drop, rows-same, all-rows, begins-rows, several-length-of}
 use Rattle.chart.proofs.RowTests.{said, var-row, name-few, location-row, edge-row}
@@ -42,6 +42,15 @@ no-room ws h =
     to-false (well-formed ws) (λ t. omega (arith, encode-length ws, begins-length (encode (decode ws)) ws (and-left (begins-with (encode (decode ws)) ws) (chart-ok (decode ws)) t)))
 
 -- ---- the counts, and then the rows
+
+-- counts in order are no more than a chart has
+pub few-locations : (ws : List ℤ) → counts-fine ws ≡ true → location-count ws ≤ most-locations
+unfolding counts-fine
+few-locations ws e =
+    let v = is-at-most most-variables (word-at ws variables-place) in
+    let l = is-at-most most-locations (word-at ws locations-place) in
+    let m = right-true v l (left-true (v && l) _ (left-true (v && l && leb 1 (location-count ws)) _ e)) in
+    leb-true _ _ (right-true (nonNeg (word-at ws locations-place)) _ m)
 
 shuffle-chart : (x y z p a b c d v n s g : Bool) → (x && (y && (z && p))) && (a && (b && c) && d && v && n && s && g)
     ≡ ((x && a) && (y && c) && b && (z && d)) && (p && (v && n && s && g))

@@ -2,7 +2,7 @@
 -- words after it. `..-fine` tests words; `..-ok` (semantics, Encoding) tests the chart that they decode to. Assumes
 -- nothing.
 use mathlib.Core.Bool.{Bool, true, false, _&&_, _||_}
-use mathlib.Core.List.{List}
+use mathlib.Core.List.{List, [], _∷_}
 use Prim.Native.Nat.{ℕ, _+_, _-_, _*_}
 use lib.Dec.{leb, ltb, eqb}
 use lib.ListN.{length, take, drop}
@@ -110,3 +110,12 @@ rows-fine ws =
 -- the number as a byte; bytes of a name in form are as they were
 abbrev pub byte-of : ℕ → ℕ
 byte-of n = pick (ltb n byte-limit) n 0
+
+-- a number for a name, n what the bytes before make: equal names have equal numbers
+unfoldable pub number-from : ℕ → List ℕ → ℕ
+number-from n [] = n
+number-from n (b ∷ bs) = number-from (2 * n + byte-of b) bs
+
+-- that of the location in the first words, as a word
+abbrev pub name-number : List ℤ → ℤ
+name-number ws = pos (number-from 0 (loc-in ws .name))

@@ -14,7 +14,7 @@ ghost use mathlib.Core.Bool.{true, not};
 ghost use mathlib.Core.List.{_∷_, map};
 ghost use Prim.Native.Nat.{_+_, _-_, _*_, _<_, _≤_};
 ghost use lib.IntN.{pos, natAbs};
-ghost use lib.ListN.{length};
+ghost use lib.ListN.{length, drop};
 ghost use Rattle.semantics.specs.Lists.{all};
 ghost use Rattle.semantics.specs.Text.{same-bytes};
 ghost use Rattle.semantics.specs.Chart.{eqZ};
@@ -22,7 +22,7 @@ ghost use Rattle.semantics.specs.Layout.{counts-size, variable-size, name-size,
 ghost use Rattle.semantics.specs.Encoding.{word-at, count, val, kind-word, rel-code, tag, operand-word, var-words, loc-words, op-words, edge-words, init-ok, var-in, var-ok, loc-in, several, distinct-names, decode, well-formed, variable-count, location-count, edge-count};
 ghost use Rattle.semantics.specs.Operations.{the-operand, the-relation, the-operation};
 ghost use Rattle.semantics.specs.Listing.{loc-text};
-ghost use Rattle.chart.specs.Encoded.{rows, is-at-most, name-word, counts-fine, locations-at, edges-at, location-fine, operand-fine, ranged, two-fine, one-fine, input-fine, operands-fine, operation-fine, edge-fine, rows-fine, byte-of};
+ghost use Rattle.chart.specs.Encoded.{rows, is-at-most, name-word, counts-fine, locations-at, edges-at, location-fine, operand-fine, ranged, two-fine, one-fine, input-fine, operands-fine, operation-fine, edge-fine, rows-fine, byte-of, name-number};
 ghost use Rattle.chart.specs.Rows.{stored, rows-size, the-variable, the-location, the-edge, sum-code, split-words};
 
 // ---- the layout, under the names of semantics/specs/Layout
@@ -482,21 +482,94 @@ pub fn name_is_new(row: &[i32], locations: &[i32], n: usize) -> bool
     ok
 }
 
-// Whether no two of n locations have one name.
-fn names_differ(locations: &[i32], n: usize) -> bool
-    requires { ⌜ location-size * n ≤ length (now locations) ⌝ }
-    ensures { λ r. ⌜ r ≡ distinct-names (several loc-in location-size n (now (locations .entry))) ⌝ }
+// A number for the name in a location's words. Equal names have equal numbers: where two numbers differ, no word of the
+// names needs a look. Each byte doubles what the bytes before it make, so that all 16 stay far below what a word holds.
+pub fn name_number(row: &[i32]) -> i32
+    ensures { λ r. ⌜ r ≡ name-number (now (row .entry)) ⌝ }
+{
+    let mut n = 0;
+    let mut i = 0;
+    while i < NAME_SIZE {
+        let w = words::word_at(row, i + NAME_PLACE);
+        if w == 0 {
+            return n as i32;
+        }
+        n = 2 * n + byte_of(w) as usize;
+        i += 1;
+    }
+    n as i32
+}
+
+// The numbers of as many locations' names.
+fn number_names(numbers: &mut [i32], locations: &[i32])
+    requires { ⌜ location-size * length (now numbers) ≤ length (now locations) ⌝ }
+    ensures { λ _. ⌜ now (numbers .exit) ≡ several name-number location-size (length (now (numbers .entry))) (now (locations .entry)) ⌝ }
+{
+    let mut i = 0;
+    let mut at = 0;
+    while i < numbers.len() {
+        numbers[i] = name_number(&locations[at..]);
+        at += LOCATION_SIZE;
+        i += 1;
+    }
+}
+
+// Whether the location whose words begin at a place has the name of the one given. The words are looked at only where the
+// names' numbers are equal.
+fn has_name(row: &[i32], number: i32, locations: &[i32], at: usize, other: i32) -> bool
+    requires { ⌜ (at ≤ length (now locations)) × (number ≡ name-number (now row)) × (other ≡ name-number (drop at (now locations))) ⌝ }
+    ensures { λ r. ⌜ r ≡ same-bytes (loc-in (now (row .entry)) .name) (loc-in (drop at (now (locations .entry))) .name) ⌝ }
+{
+    if number != other {
+        return false;
+    }
+    let there = &locations[at..];
+    same_name(row, there)
+}
+
+// Whether none of the locations, the numbers of whose names are given, has the name of the one given, with its number.
+pub fn name_differs(row: &[i32], number: i32, locations: &[i32], numbers: &[i32]) -> bool
+    requires { ⌜ (location-size * length (now numbers) ≤ length (now locations)) × (number ≡ name-number (now row)) × (now numbers ≡ several name-number location-size (length (now numbers)) (now locations)) ⌝ }
+    ensures { λ r. ⌜ r ≡ all (λ m. not (same-bytes (loc-in (now (row .entry)) .name) (m .name))) (several loc-in location-size (length (now (numbers .entry))) (now (locations .entry))) ⌝ }
 {
     let mut ok = true;
-    let mut left = n;
+    let mut i = 0;
     let mut at = 0;
-    while left > 0 {
+    while i < numbers.len() {
+        let other = numbers[i];
+        ok = ok & !has_name(row, number, locations, at, other);
+        at += LOCATION_SIZE;
+        i += 1;
+    }
+    ok
+}
+
+// Whether no two of the locations, the numbers of whose names are given, have one name.
+fn all_differ(locations: &[i32], numbers: &[i32]) -> bool
+    requires { ⌜ (location-size * length (now numbers) ≤ length (now locations)) × (now numbers ≡ several name-number location-size (length (now numbers)) (now locations)) ⌝ }
+    ensures { λ r. ⌜ r ≡ distinct-names (several loc-in location-size (length (now (numbers .entry))) (now (locations .entry))) ⌝ }
+{
+    let mut ok = true;
+    let mut i = 0;
+    let mut at = 0;
+    while i < numbers.len() {
+        let number = numbers[i];
         let next = at + LOCATION_SIZE;
-        left -= 1;
-        ok = ok & name_is_new(&locations[at..], &locations[next..], left);
+        i += 1;
+        ok = ok & name_differs(&locations[at..], number, &locations[next..], &numbers[i..]);
         at = next;
     }
     ok
+}
+
+// Whether no two of n locations have one name.
+fn names_differ(locations: &[i32], n: usize) -> bool
+    requires { ⌜ (location-size * n ≤ length (now locations)) × (n ≤ most-locations) ⌝ }
+    ensures { λ r. ⌜ r ≡ distinct-names (several loc-in location-size n (now (locations .entry))) ⌝ }
+{
+    let mut numbers = [0i32; MOST_LOCATIONS];
+    number_names(&mut numbers[..n], locations);
+    all_differ(locations, &numbers[..n])
 }
 
 // ---- edges
@@ -833,7 +906,7 @@ fn edges_fine(vars: &[i32], v: usize, l: usize, edges: &[i32], n: usize) -> bool
 
 // All rows, once the counts are known to be in order.
 fn rows_fine(chart: &[i32]) -> bool
-    requires { ⌜ edges-at (now chart) + edge-size * edge-count (now chart) ≤ length (now chart) ⌝ }
+    requires { ⌜ (edges-at (now chart) + edge-size * edge-count (now chart) ≤ length (now chart)) × (location-count (now chart) ≤ most-locations) ⌝ }
     ensures { λ r. ⌜ r ≡ rows-fine (now (chart .entry)) ⌝ }
 {
     let v = variable_count(chart);

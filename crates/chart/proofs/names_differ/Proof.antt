@@ -1,47 +1,42 @@
--- `chart::names_differ` meets its contract: each location left is compared with those after it. Assumes nothing.
-use Rattle.semantics.proofs.Prelude.{_≡_, refl, sym, ap, _∙_, _&&_, and-true, List, _+_, _-_, _*_, _≤_, arith, ℤ, length, take, drop, length-take, length-drop}
-use Rattle.semantics.specs.Layout.{location-size}
-use Rattle.semantics.specs.Lists.{all}
-use Rattle.semantics.specs.Encoding.{loc-in, several, distinct-names}
-use Rattle.words.proofs.Rows.{tail}
-use Rattle.chart.proofs.Names.{other-name, differ-turn}
+-- `chart::names_differ` meets its contract: the numbers are put into a local array, and looked at there. Assumes nothing.
+use Rattle.semantics.proofs.Prelude.{_≡_, sym, ap, _∙_, List, _++_, ℕ, arith, needs, ℤ, pos, length, length-append, length-take-le, take, take-at, drop, replicate}
+use Rattle.semantics.specs.Layout.{most-locations, location-size}
+use Rattle.semantics.specs.Encoding.{several}
+use Rattle.chart.specs.Encoded.{name-number}
 use Rattle.chart.proofs.names_differ.Statement.{statement}
 use Rattle.chart.proofs.names_differ.Tie as tie
 
-abbrev Inv-loop : tie.InvT-loop
-Inv-loop locations n ok₀ left₀ at₀ ok left at =
-    (at + location-size * left ≤ length locations)
-    × (distinct-names (several loc-in location-size n locations) ≡ ok && distinct-names (several loc-in location-size left (drop at locations)))
+lent : (c : tie.Start) → length (take (c .args .n) (replicate most-locations (pos 0))) ≡ c .args .n
+lent c = length-take-le (c .args .n) (replicate most-locations (pos 0)) (c .pre .1)
 
-abbrev μ-loop : tie.MeasureT-loop
-μ-loop locations n ok₀ left₀ at₀ ok left at = left
+-- once the numbers are stored
+module _ (c : tie.After-number-names) where
+  abbrev start : tie.Start
+  start = c .before .before
 
-loop-again : tie.Need-loop-again Inv-loop μ-loop
-loop-again c =
-    let b = c .before .before .before .before in
-    let ws = b .before .args .locations .now in
-    let l = b .loop in
-    let m = l .left - 1 in
-    let next = l .at + location-size in
-    let e = c .name-is-new .ensures ∙ ap (λ (r : List ℤ). all (other-name r) (several loc-in location-size m (take (length ws - next) (drop next ws)))) (tail ws (l .at)) ∙ ap (λ (r : List ℤ). all (other-name (drop (l .at) ws)) (several loc-in location-size m r)) (tail ws next) in
-    (omega arith, l .inv .1 ∙ differ-turn ws (l .ok) (l .left) (l .at) (c .name-is-new .result) (c .before .before .before .loop-test .taken) e)
+  abbrev n : ℕ
+  n = start .args .n
 
-returns : tie.Need-returns Inv-loop μ-loop
-returns c =
-    let l = c .before .loop in
-    let e : l .left ≡ 0 = omega arith in
-    sym (rw e at (l .inv .1) ∙ and-true (l .ok))
+  abbrev numbers : List ℤ
+  numbers = c .number-names .last .0
+
+  count : length numbers ≡ n
+  count = c .number-names .kept .0 ∙ lent start
+
+  filled : numbers ≡ several name-number location-size n (start .args .locations .now)
+  filled = c .number-names .ensures ∙ ap (λ (k : ℕ). several name-number location-size k (start .args .locations .now)) (lent start)
+
+  first : take n (numbers ++ drop n (replicate most-locations (pos 0))) ≡ numbers
+  first = take-at numbers _ n count
 
 pub names-differ-spec : {M : Type 1} → statement M
 names-differ-spec =
     tie.close
     (tie.spec
-    Inv-loop
-    μ-loop
-    (λ c. (omega arith, refl))
-    (λ c. omega arith) (λ c. omega arith) (λ c. omega arith) (λ c. omega arith) (λ c. omega arith)
-    (λ c. omega arith) (λ c. omega arith) (λ c. omega arith) (λ c. omega arith) (λ c. omega arith)
-    (λ c κs. simp (length-take, length-drop) (omega arith))
-    (λ c. omega arith)
-    loop-again
-    returns)
+    (λ c. search needs)
+    (λ c. sym (lent (c .before)))
+    (λ c κs. rw (lent (c .before)) (c .before .pre .0))
+    (λ c. simp length-append (omega (arith, count (c .before))))
+    (λ c. rw (first (c .before .before)) (sym (count (c .before .before))))
+    (λ c κs. let m = c .before .before in rw (first m, count m) (start m .pre .0, filled m))
+    (λ c. let m = c .before .before .before in rw (first m, count m) at (c .all-differ .ensures)))
