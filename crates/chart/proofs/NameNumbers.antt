@@ -1,11 +1,11 @@
 -- The numbers of names: names of different numbers differ, a number is small, and the numbers stand beside the rows that
 -- they are of. Assumes nothing.
-use Rattle.semantics.proofs.Prelude.{_≡_, refl, sym, ap, _∙_, Bool, false, List, [], _∷_, _++_, append-assoc, ℕ, zero, suc, _+_, _-_, _*_, _<_, _≤_, add-zero, add-one, arith, T, eqb, eqb→eq, ℤ, pos, length, take, drop, drop-drop, getD, getD-drop, set, take-suc-set}
+use Rattle.semantics.proofs.Prelude.{_≡_, refl, sym, ap, _∙_, Bool, false, List, [], _∷_, _++_, append-assoc, map, ℕ, zero, suc, _+_, _-_, _*_, _<_, _≤_, add-zero, add-one, arith, T, eqb, eqb→eq, ℤ, pos, length, take, drop, drop-drop, getD, getD-drop, set, take-suc-set}
 use Rattle.semantics.specs.Layout.{name-size, location-size, byte-limit}
 use Rattle.semantics.specs.Text.{same-bytes}
 use Rattle.semantics.specs.Encoding.{word-at, loc-in, several}
 use Rattle.semantics.proofs.Bools.{and-left, and-right, to-false}
-use Rattle.chart.specs.Encoded.{number-from, name-number}
+use Rattle.chart.specs.Encoded.{number-from, number-of, name-number}
 
 -- ---- two numbers
 
@@ -53,6 +53,11 @@ small-turn i n b h k s =
     omega (arith, rw m at s, grown-more (name-size - (i + 1)) (2 * n + b) (2 * n + 255) (omega arith))
 
 -- ---- the numbers of rows
+
+-- they are the numbers of the locations that the rows say
+pub numbers-of : (n : ℕ) (ws : List ℤ) → several name-number location-size n ws ≡ map number-of (several loc-in location-size n ws)
+numbers-of zero ws = refl
+numbers-of (suc n) ws = ap (λ (l : List ℤ). name-number ws ∷ l) (numbers-of n (drop location-size ws))
 
 -- one more is stored
 pub number-stored : (ns ws : List ℤ) (n i at : ℕ) → i < n → i < length ns → (z : ℤ) → z ≡ name-number (drop at ws)

@@ -1,5 +1,5 @@
 -- What is left where a row was stored, and a name's bytes stored one by one. Assumes nothing.
-use Rattle.semantics.proofs.Prelude.{_≡_, refl, sym, _∙_, List, _++_, append-assoc, map, ℕ, suc, _+_, _≤_, _<_, add-one, length, getD, take, drop, set, replicate, length-append, length-map, ℤ, pos, drop-cons, drop-drop, take-suc-set, append-snoc}
+use Rattle.semantics.proofs.Prelude.{_≡_, refl, sym, _∙_, List, _++_, append-assoc, map, ℕ, suc, _+_, _-_, _≤_, _<_, arith, add-one, length, getD, take, drop, set, replicate, length-append, length-map, ℤ, pos, drop-cons, drop-drop, take-suc-set, append-snoc}
 use Rattle.semantics.specs.Encoding.{padded}
 use Rattle.words.proofs.Rows.{drop-zeros, take-put, drop-put}
 use Rattle.chart.specs.Rows.{stored}
@@ -16,6 +16,13 @@ module _ (at : ℕ) (row ws : List ℤ) (fits : at + length row ≤ length ws) w
   stored-drop : drop (at + length row) (stored at row ws) ≡ drop (length row) (drop at ws)
   unfolding stored
   stored-drop = drop-put ws at (length row) row fits refl
+
+  -- the words past the row are as before
+  pub stored-past : (n : ℕ) → at + length row ≤ n → drop n (stored at row ws) ≡ drop n ws
+  stored-past n h =
+      let m = n - (at + length row) in
+      let e : n ≡ at + length row + m = omega arith in
+      rw (e, ← drop-drop m (at + length row) (stored at row ws), stored-drop, drop-drop (length row) at ws, drop-drop m (at + length row) ws)
 
   -- two rows, one after the other, are one
   pub stored-then : (more : List ℤ) → stored (at + length row) more (stored at row ws) ≡ stored at (row ++ more) ws

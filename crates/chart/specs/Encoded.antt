@@ -9,7 +9,7 @@ use lib.ListN.{length, take, drop}
 use lib.IntN.{ℤ, pos, natAbs}
 use lib.Signed.{nonNeg, leZ}
 use Rattle.semantics.specs.Lists.{pick, all}
-use Rattle.semantics.specs.Chart.{eqZ, within, small}
+use Rattle.semantics.specs.Chart.{Loc, eqZ, within, small}
 use Rattle.semantics.specs.Layout.{most-variables, most-locations, most-edges, counts-size, variable-size, name-size, location-size, edge-size, variables-place, locations-place, edges-place, variable-at, high-place, kind-place, name-place, from-place, to-place, operation-place, target-place, first-tag-place, first-value-place, second-tag-place, second-value-place, skip-code, add-code, sub-code, in-code, ge-code, number-tag, variable-tag, byte-limit}
 use Rattle.semantics.specs.Encoding.{word-at, count, kind-word, var-in, var-ok, loc-in, distinct-names, several, variable-count, location-count, edge-count}
 use Rattle.semantics.specs.Memory.{below, zeros}
@@ -116,6 +116,10 @@ unfoldable pub number-from : ℕ → List ℕ → ℕ
 number-from n [] = n
 number-from n (b ∷ bs) = number-from (2 * n + byte-of b) bs
 
--- that of the location in the first words, as a word
+-- that of a location, as a word
+abbrev pub number-of : Loc → ℤ
+number-of l = pos (number-from 0 (l .name))
+
+-- that of the location in the first words
 abbrev pub name-number : List ℤ → ℤ
-name-number ws = pos (number-from 0 (loc-in ws .name))
+name-number ws = number-of (loc-in ws)

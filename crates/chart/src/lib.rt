@@ -514,11 +514,11 @@ fn number_names(numbers: &mut [i32], locations: &[i32])
     }
 }
 
-// Whether the location whose words begin at a place has the name of the one given. The words are looked at only where the
-// names' numbers are equal.
+// Whether the location whose words begin at a place has the name of the one given, by the numbers of the two names: only
+// where these are equal are the words looked at.
 fn has_name(row: &[i32], number: i32, locations: &[i32], at: usize, other: i32) -> bool
-    requires { ⌜ (at ≤ length (now locations)) × (number ≡ name-number (now row)) × (other ≡ name-number (drop at (now locations))) ⌝ }
-    ensures { λ r. ⌜ r ≡ same-bytes (loc-in (now (row .entry)) .name) (loc-in (drop at (now (locations .entry))) .name) ⌝ }
+    requires { ⌜ at ≤ length (now locations) ⌝ }
+    ensures { λ r. ⌜ (number ≡ name-number (now (row .entry)) → other ≡ name-number (drop at (now (locations .entry))) → r ≡ same-bytes (loc-in (now (row .entry)) .name) (loc-in (drop at (now (locations .entry))) .name)) ⌝ }
 {
     if number != other {
         return false;
@@ -527,10 +527,10 @@ fn has_name(row: &[i32], number: i32, locations: &[i32], at: usize, other: i32) 
     same_name(row, there)
 }
 
-// Whether none of the locations, the numbers of whose names are given, has the name of the one given, with its number.
+// Whether none of the locations has the name of the one given, by the number of that name and those of their names.
 pub fn name_differs(row: &[i32], number: i32, locations: &[i32], numbers: &[i32]) -> bool
-    requires { ⌜ (location-size * length (now numbers) ≤ length (now locations)) × (number ≡ name-number (now row)) × (now numbers ≡ several name-number location-size (length (now numbers)) (now locations)) ⌝ }
-    ensures { λ r. ⌜ r ≡ all (λ m. not (same-bytes (loc-in (now (row .entry)) .name) (m .name))) (several loc-in location-size (length (now (numbers .entry))) (now (locations .entry))) ⌝ }
+    requires { ⌜ location-size * length (now numbers) ≤ length (now locations) ⌝ }
+    ensures { λ r. ⌜ (number ≡ name-number (now (row .entry)) → now (numbers .entry) ≡ several name-number location-size (length (now (numbers .entry))) (now (locations .entry)) → r ≡ all (λ m. not (same-bytes (loc-in (now (row .entry)) .name) (m .name))) (several loc-in location-size (length (now (numbers .entry))) (now (locations .entry)))) ⌝ }
 {
     let mut ok = true;
     let mut i = 0;
@@ -544,7 +544,7 @@ pub fn name_differs(row: &[i32], number: i32, locations: &[i32], numbers: &[i32]
     ok
 }
 
-// Whether no two of the locations, the numbers of whose names are given, have one name.
+// Whether no two of the locations have one name, by the numbers of their names.
 fn all_differ(locations: &[i32], numbers: &[i32]) -> bool
     requires { ⌜ (location-size * length (now numbers) ≤ length (now locations)) × (now numbers ≡ several name-number location-size (length (now numbers)) (now locations)) ⌝ }
     ensures { λ r. ⌜ r ≡ distinct-names (several loc-in location-size (length (now (numbers .entry))) (now (locations .entry))) ⌝ }

@@ -74,7 +74,7 @@ pub at-first : (text : List ℕ) (rows names : List ℤ) → Stands text 0 nothi
 at-first text rows names = record {
   read = nothing-read;
   few = record { vars = omega arith; locs = omega arith; edges = omega arith };
-  held = record { vars = refl; locs = refl; edges = refl; rows = refl; named = tt };
+  held = record { vars = refl; locs = refl; edges = refl; rows = refl; numbers = refl; named = tt };
   names-held = record { count = refl; rows = refl; named = tt };
   counted = omega arith;
   is = refl;

@@ -1,5 +1,6 @@
 -- The rows and the names after one more variable, location or edge. Assumes nothing.
-use Rattle.semantics.proofs.Prelude.{_≡_, refl, sym, ap, _∙_, false, List, [], _∷_, _++_, append-assoc, append-nil, ℕ, zero, suc, _+_, _*_, _≤_, _<_, arith, T, length, take, drop, length-append, take-append-drop, getD-append-add, ℤ, pos}
+use Rattle.semantics.proofs.Prelude.{_≡_, refl, sym, ap, _∙_, false, List, [], _∷_, _++_, append-assoc, append-nil, map, map-append, ℕ, zero, suc, _+_, _*_, _≤_, _<_, add-one, arith, T, length, take, drop, set, length-append, length-drop, take-suc-set, take-append-drop, getD-append-add, ℤ, pos}
+use lib.Seq.{take-set-le, drop-set-add}
 use Rattle.semantics.specs.Lists.{all, each}
 use Rattle.semantics.specs.Text.{name-ok}
 use Rattle.semantics.specs.Layout.{variable-size, location-size, edge-size, high-place}
@@ -9,10 +10,10 @@ use Rattle.semantics.specs.Reading.{So-far, with-var, with-loc, with-edge}
 use Rattle.semantics.proofs.Bools.{both-true}
 use Rattle.semantics.proofs.ReadInBounds.{all-snoc}
 use Rattle.semantics.proofs.Encoded.{loc-wide, edge-wide}
-use Rattle.chart.specs.Encoded.{ranged}
+use Rattle.chart.specs.Encoded.{ranged, number-of}
 use Rattle.chart.specs.Rows.{stored, rows-size, the-location}
-use Rattle.chart.proofs.Storing.{stored-take}
-use Rattle.reader.specs.ReadSoFar.{chart-rows, used-words, Rows, as-locations, Names}
+use Rattle.chart.proofs.Storing.{stored-take, stored-past}
+use Rattle.reader.specs.ReadSoFar.{chart-rows, used-words, numbers-at, Rows, as-locations, Names}
 use Rattle.reader.specs.declared.tally.Tally.{Tally}
 
 module _ {A : Type 0} (f : A → List ℤ) where
@@ -31,6 +32,10 @@ length-snoc xs x = length-append xs (x ∷ [])
 rows-more : {t : Tally} {ws ws′ : List ℤ} {c : Chart} {at : ℕ} → Rows t ws c → at ≡ used-words t → (row : List ℤ) → ws′ ≡ stored at row ws → used-words t + length row ≤ length ws → (n : ℕ) → n ≡ used-words t + length row → take n ws′ ≡ chart-rows c ++ row
 rows-more {t} {ws} h a row w fits n e = rw (w, a, e) (stored-take (used-words t) row ws fits ∙ ap (λ (l : List ℤ). l ++ row) (h .rows))
 
+-- it does not reach the numbers
+pub numbers-kept : {t : Tally} {ws ws′ : List ℤ} {c : Chart} {at : ℕ} → Rows t ws c → at ≡ used-words t → (row : List ℤ) → ws′ ≡ stored at row ws → used-words t + length row ≤ numbers-at → numbers-at ≤ length ws → take (t .locs) (drop numbers-at ws′) ≡ map number-of (c .locs)
+numbers-kept {t} {ws} h a row w k fits = rw (w, a, stored-past (used-words t) row ws (omega arith) numbers-at k) (h .numbers)
+
 -- ---- the rows
 
 module _ {t : Tally} {ws ws′ : List ℤ} {at : ℕ} (s : So-far) (h : Rows t ws (s .chart)) (a : at ≡ used-words t) where
@@ -43,24 +48,30 @@ module _ {t : Tally} {ws ws′ : List ℤ} {at : ℕ} (s : So-far) (h : Rows t w
     rows =
         rows-more h a (var-words v) w fits (rows-size (t .vars + 1) 0 0) (omega arith)
         ∙ rw (each-none loc-words (s .chart .locs) (omega (arith, h .locs)), each-none edge-words (s .chart .edges) (omega (arith, h .edges)), each-snoc var-words (s .chart .vars) v) (simp append-nil);
+    numbers = rw l at (h .numbers);
     named = h .named;
   }
 
-  pub rows-loc : (l : Loc) → ws′ ≡ stored at (loc-words l) ws → T (name-ok (l .name)) → t .edges ≡ 0 → used-words t + location-size ≤ length ws
-      → Rows (record { vars = t .vars; locs = t .locs + 1; edges = 0 }) ws′ (with-loc s l .chart)
-  rows-loc l w o g fits =
+  -- the number of its name is stored too
+  pub rows-loc : (l : Loc) → ws′ ≡ stored at (loc-words l) ws → T (name-ok (l .name)) → t .edges ≡ 0 → {z : ℤ} → z ≡ number-of l → (used-words t + location-size ≤ numbers-at) × (numbers-at ≤ length ws) × (numbers-at + t .locs < length ws′)
+      → Rows (record { vars = t .vars; locs = t .locs + 1; edges = 0 }) (set ws′ (numbers-at + t .locs) z) (with-loc s l .chart)
+  rows-loc l w o g {z} e fits =
       let n = loc-wide l o in
       record {
         vars = h .vars;
         locs = omega (arith, h .locs, length-snoc (s .chart .locs) l);
         edges = omega (arith, h .edges);
         rows =
-            rows-more h a (loc-words l) w (omega arith) (rows-size (t .vars) (t .locs + 1) 0) (omega arith)
+            take-set-le (rows-size (t .vars) (t .locs + 1) 0) ws′ (numbers-at + t .locs) z (omega arith)
+            ∙ rows-more h a (loc-words l) w (omega arith) (rows-size (t .vars) (t .locs + 1) 0) (omega arith)
             ∙ rw (each-none edge-words (s .chart .edges) (omega (arith, h .edges)), each-snoc loc-words (s .chart .locs) l) (simp (append-nil, append-assoc));
+        numbers =
+            rw (drop-set-add numbers-at ws′ (t .locs) z, add-one (t .locs), take-suc-set (drop numbers-at ws′) (t .locs) z (simp length-drop (omega arith)), e, numbers-kept h a (loc-words l) w (omega arith) (omega arith))
+            (sym (map-append number-of (s .chart .locs) (l ∷ [])));
         named = all-snoc (λ (m : Loc). name-ok (m .name)) (s .chart .locs) l (h .named) o;
       }
 
-  pub rows-edge : (g : Edge) → ws′ ≡ stored at (edge-words g) ws → used-words t + edge-size ≤ length ws
+  pub rows-edge : (g : Edge) → ws′ ≡ stored at (edge-words g) ws → (used-words t + edge-size ≤ numbers-at) × (numbers-at ≤ length ws)
       → Rows (record { vars = t .vars; locs = t .locs; edges = t .edges + 1 }) ws′ (with-edge s g .chart)
   rows-edge g w fits =
       let n = edge-wide g tt in
@@ -69,6 +80,7 @@ module _ {t : Tally} {ws ws′ : List ℤ} {at : ℕ} (s : So-far) (h : Rows t w
         locs = h .locs;
         edges = omega (arith, h .edges, length-snoc (s .chart .edges) g);
         rows = rows-more h a (edge-words g) w (omega arith) (rows-size (t .vars) (t .locs) (t .edges + 1)) (omega arith) ∙ rw (each-snoc edge-words (s .chart .edges) g) (simp append-assoc);
+        numbers = numbers-kept h a (edge-words g) w (omega arith) (omega arith);
         named = h .named;
       }
 

@@ -14,6 +14,7 @@ use Rattle.semantics.specs.Encoding.{var-words, loc-words, edge-words}
 use Rattle.semantics.specs.Reading.{Res, fail, ok, So-far, Reading, nothing-read, refused, at-end, judged}
 use Rattle.text.specs.Places.{line-at, place-after}
 use Rattle.text.specs.declared.lines.Line.{Line}
+use Rattle.chart.specs.Encoded.{number-of}
 use Rattle.chart.specs.Rows.{rows-size, the-location}
 use Rattle.reader.specs.declared.Descent.{Descent}
 use Rattle.reader.specs.declared.tally.Tally.{Tally}
@@ -28,9 +29,12 @@ chart-rows c = each var-words (c .vars) ++ (each loc-words (c .locs) ++ each edg
 abbrev pub used-words : Tally → ℕ
 used-words t = rows-size (t .vars) (t .locs) (t .edges)
 
--- the rows of the largest chart, and the rows of names
+-- the rows of the largest chart, the numbers of its locations' names after them, and the rows of names
+abbrev pub numbers-at : ℕ
+numbers-at = rows-size most-variables most-locations most-edges
+
 abbrev pub most-rows : ℕ
-most-rows = rows-size most-variables most-locations most-edges
+most-rows = numbers-at + most-locations
 
 abbrev pub most-names : ℕ
 most-names = location-size * most-variables
@@ -41,12 +45,13 @@ pub record Few (t : Tally) : Type 0 where
   pub locs : t .locs ≤ most-locations
   pub edges : t .edges ≤ most-edges
 
--- the counts and the words hold the chart
+-- the counts and the words hold the chart, and the numbers of its locations' names
 pub record Rows (t : Tally) (ws : List ℤ) (c : Chart) : Type 0 where
   pub vars : t .vars ≡ length (c .vars)
   pub locs : t .locs ≡ length (c .locs)
   pub edges : t .edges ≡ length (c .edges)
   pub rows : take (used-words t) ws ≡ chart-rows c
+  pub numbers : take (t .locs) (drop numbers-at ws) ≡ map number-of (c .locs)
   pub named : T (all (λ l. name-ok (l .name)) (c .locs))
 
 -- the names, which the definitions keep the last first, as ordinary locations in the order of their lines

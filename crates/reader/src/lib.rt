@@ -1,6 +1,7 @@
 // Reading a chart file: from its bytes to the words of the encoded chart, or the refusal's number and line. In this
-// crate `rows` are the chart's, that is the encoded chart but for its three counts; and `names` are rows with the
-// variables' names, which are looked for and not encoded.
+// crate `rows` are the chart's, that is the encoded chart but for its three counts, and past their room the numbers by
+// which the locations' names are compared; and `names` are rows with the variables' names, which are looked for and not
+// encoded.
 ghost use mathlib.Core.Path.{_≡_};
 ghost use lib.ListN.{length};
 ghost use lib.Dec.{ltb};
@@ -20,9 +21,9 @@ mod tally;
 mod variable;
 
 use chart::COUNTS_SIZE;
-use chart::ROWS_SIZE;
 use tally::Judgement;
 use tally::NAMES_SIZE;
+use tally::ROWS_SIZE;
 use tally::Tally;
 use tally::used_words;
 

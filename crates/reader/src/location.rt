@@ -16,6 +16,7 @@ ghost use Rattle.text.specs.Places.{form-of};
 ghost use Rattle.reader.specs.Lines.{loc-judged, loc-named};
 ghost use Rattle.reader.specs.ReadSoFar.{Few, Rows, Names, LineJudged, most-rows};
 use super::tally::Judgement;
+use super::tally::NUMBERS_PLACE;
 use super::tally::Tally;
 use super::tally::used_words;
 
@@ -34,7 +35,7 @@ fn judged(line: &[u8], form: Form, name: Field) -> text::KindRead
     text::kind_field(text::field_bytes(line, kind))
 }
 
-// A location, if its name is new.
+// A location, if its name is new; the name's number is kept, so that it is computed once.
 fn named(t: Tally, rows: &mut [i32], error: bool, name: &[u8]) -> Judgement
     requires { ⌜ T (name-ok (now name)) × Few t × (t .locs < most-locations) × (t .edges ≡ 0) × (length (now rows) ≡ most-rows) ⌝ }
     ensures { λ r. ⌜ ((s : So-far) (names : List ℤ) → Rows t (now (rows .entry)) (s .chart) → Names (t .vars) names (s .names) → LineJudged r (loc-named s (now (name .entry)) error) (now (rows .exit)) names) ⌝ }
@@ -42,9 +43,17 @@ fn named(t: Tally, rows: &mut [i32], error: bool, name: &[u8]) -> Judgement
     let first = chart::rows_size(t.vars, 0, 0);
     let at = used_words(t);
     chart::put_location(rows, at, error, name);
-    if !chart::name_is_new(&rows[at..], &rows[first..], t.locs) {
+    let number = chart::name_number(&rows[at..]);
+    let end = NUMBERS_PLACE + t.locs;
+    if !chart::name_differs(
+        &rows[at..],
+        number,
+        &rows[first..],
+        &rows[NUMBERS_PLACE..end],
+    ) {
         return Judgement::Refused(9);
     }
+    rows[end] = number;
     Judgement::Passed(Tally {
         vars: t.vars,
         locs: t.locs + 1,

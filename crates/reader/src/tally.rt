@@ -5,6 +5,11 @@ ghost use Rattle.reader.specs.ReadSoFar.{Few, used-words};
 // The rows of the variables' names, where they are the most: 136 words.
 pub const NAMES_SIZE: usize = chart::LOCATION_SIZE * semantics::MOST_VARIABLES;
 
+// The rows of the largest chart, and after them the numbers of its locations' names: 3,224 words.
+pub const NUMBERS_PLACE: usize = chart::ROWS_SIZE;
+
+pub const ROWS_SIZE: usize = NUMBERS_PLACE + semantics::MOST_LOCATIONS;
+
 // How many variables, locations and edges are read.
 pub struct Tally {
     pub vars: usize,

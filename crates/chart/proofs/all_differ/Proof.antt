@@ -44,20 +44,14 @@ module _ (c : tie.After-number Inv-loop μ-loop) where
   left : length (drop (i + 1) ns) ≡ length ns - (i + 1)
   left = length-drop (i + 1) ns
 
-name-differs-requires : tie.Need-name-differs-requires Inv-loop μ-loop
-name-differs-requires c κs =
-    let n = c .before .before .before in
-    rw (tail (ns n) (i n + 1), tail (ws n) (place n), tail (ws n) (place n + location-size), left n) (simp length-drop (omega arith), here n, after n)
-
 loop-again : tie.Need-loop-again Inv-loop μ-loop
 loop-again c =
     let n = c .before .before .before .before in
     let l = at-loop n .loop in
     let next = place n + location-size in
-    let m = length (ns n) - (i n + 1) in
-    let one : length (ns n) - i n - 1 ≡ m = omega arith in
-    let e : c .name-differs .result ≡ all (other-name (drop (place n) (ws n))) (several loc-in location-size (length (ns n) - i n - 1) (drop next (ws n)))
-    = rw (tail (ns n) (i n + 1), tail (ws n) (place n), tail (ws n) next, left n, ← one) at (c .name-differs .ensures) in
+    let one : length (ns n) - i n - 1 ≡ length (ns n) - (i n + 1) = omega arith in
+    let says = rw (tail (ns n) (i n + 1), tail (ws n) (place n), tail (ws n) next, left n) at (c .name-differs .ensures) in
+    let e : c .name-differs .result ≡ all (other-name (drop (place n) (ws n))) (several loc-in location-size (length (ns n) - i n - 1) (drop next (ws n))) = rw one (says (here n) (after n)) in
     (omega arith, omega arith, after n, l .inv .3 ∙ rw one at (differ-turn (ws n) (l .ok) (length (ns n) - i n) (place n) (c .name-differs .result) (omega arith) e))
 
 returns : tie.Need-returns Inv-loop μ-loop
@@ -77,7 +71,7 @@ all-differ-spec =
     (λ c. omega arith) (λ c. omega arith) (λ c. omega arith) (λ c. omega arith) (λ c. omega arith)
     (λ c. omega arith) (λ c. omega arith) (λ c. omega arith) (λ c. omega arith) (λ c. omega arith)
     (λ c. omega arith)
-    name-differs-requires
+    (λ c κs. simp (length-take, length-drop) (omega arith))
     (λ c. omega arith)
     loop-again
     returns)

@@ -8,12 +8,12 @@ use Rattle.chart.proofs.has_name.Statement.{statement}
 use Rattle.chart.proofs.has_name.Tie as tie
 
 returns : tie.Need-returns
-returns c =
+returns c p q =
     let s = c .before in
-    sym (numbers-apart (s .args .row .now) (drop (s .args .at) (s .args .locations .now)) (λ e. c .if1 .taken (ap (ofZ w32) (s .pre .1 ∙ e ∙ sym (s .pre .2)))))
+    sym (numbers-apart (s .args .row .now) (drop (s .args .at) (s .args .locations .now)) (λ e. c .if1 .taken (ap (ofZ w32) (p ∙ e ∙ sym q))))
 
 returns-2 : tie.Need-returns-2
-returns-2 c =
+returns-2 c p q =
     let a = c .before .before .before .args in
     c .same-name .ensures ∙ ap (λ (r : List ℤ). same-bytes (loc-in (a .row .now) .name) (loc-in r .name)) (tail (a .locations .now) (a .at))
 
