@@ -1,6 +1,6 @@
 -- The numbers of names: names of different numbers differ, a number is small, and the numbers stand beside the rows that
 -- they are of. Assumes nothing.
-use Rattle.semantics.proofs.Prelude.{_≡_, refl, sym, ap, _∙_, Bool, false, List, [], _∷_, _++_, append-assoc, map, ℕ, zero, suc, _+_, _-_, _*_, _<_, _≤_, add-zero, add-one, arith, T, eqb, eqb→eq, ℤ, pos, length, take, drop, drop-drop, getD, getD-drop, set, take-suc-set}
+use Rattle.semantics.proofs.Prelude.{_≡_, refl, sym, ap, _∙_, false, List, [], _∷_, _++_, append-assoc, map, ℕ, zero, suc, _+_, _-_, _*_, _<_, _≤_, add-zero, add-one, arith, T, eqb, eqb→eq, ℤ, pos, length, take, drop, drop-drop, getD, getD-drop, set, take-suc-set}
 use Rattle.semantics.specs.Layout.{name-size, location-size, byte-limit}
 use Rattle.semantics.specs.Text.{same-bytes}
 use Rattle.semantics.specs.Encoding.{word-at, loc-in, several}

@@ -1,7 +1,7 @@
 -- Facts behind the form check: the loops' turns, the two parts of rule 21, and what 20, 14 and 21 ask.
 -- Assumes nothing.
 use Rattle.semantics.proofs.Prelude.{_≡_, refl, ap, sym, _∙_, Bool, true, false, _&&_, _||_, not, and-assoc, and-true, List, [], _∷_, _++_, ℕ, suc, _+_, _*_, _<_, _≤_, add-zero, add-one, arith, eqb, leb, ℤ, pos, length, take, drop, drop-cons, drop-drop, getD-drop, take-take, nonNeg}
-use Rattle.semantics.specs.Lists.{some-of, all, all-pairs, all-of}
+use Rattle.semantics.specs.Lists.{all, all-pairs, all-of}
 use Rattle.semantics.specs.Chart.{Chart, eqZ, within}
 use Rattle.semantics.specs.Layout.{top-word, counts-size, variable-size, high-place, most-iterations, most-slots}
 use Rattle.semantics.specs.Encoding.{word-at, several, var-in, decode, well-formed, variable-count, location-count, edge-count}
@@ -12,7 +12,6 @@ use Rattle.semantics.proofs.Decoded.{vars-count, locs-count, edges-count}
 use Rattle.semantics.proofs.MemoryOf.{counted}
 use Rattle.semantics.proofs.Bools.{from-true, left-true, right-true, passed}
 use Rattle.semantics.proofs.FirstCase.{enough}
-use Rattle.chart.proofs.Rows.{interchange}
 use Rattle.state.specs.declared.Layout.{Layout}
 use Rattle.state.specs.Rows.{location-word, values-of, row-of, tail-of}
 use Rattle.state.proofs.Layouts.{LayoutOf}

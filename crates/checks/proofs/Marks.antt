@@ -1,5 +1,5 @@
 -- The waitlist judged by marks of the slots that are named: the list passes after the marks, word for word. Assumes nothing.
-use Rattle.semantics.proofs.Prelude.{_≡_, refl, ap, sym, subst, _∙_, Bool, true, false, _&&_, not, and-assoc, and-false, and-true, List, [], _∷_, ℕ, zero, suc, _+_, _<_, _≤_, add-one, arith, eqb, ltb, eqb-true, eqb-false, ltb-true, ℤ, pos, negsuc, natAbs, length, drop, drop-cons, getD, set, replicate, getD-set-same, getD-set-other}
+use Rattle.semantics.proofs.Prelude.{_≡_, refl, ap, sym, _∙_, Bool, true, false, _&&_, not, and-assoc, and-false, and-true, List, [], _∷_, ℕ, zero, suc, _+_, _<_, add-one, eqb, eqb-true, eqb-false, ltb-true, ℤ, pos, negsuc, natAbs, length, drop, drop-cons, getD, set, replicate, getD-set-same, getD-set-other}
 use Rattle.semantics.specs.Lists.{some-of, all}
 use Rattle.semantics.specs.Chart.{eqZ}
 use Rattle.semantics.specs.Encoding.{word-at}

@@ -1,5 +1,5 @@
 -- `chart::all_differ` meets its contract: each location is compared with those after it. Assumes nothing.
-use Rattle.semantics.proofs.Prelude.{_≡_, refl, sym, ap, _∙_, _&&_, and-true, List, ℕ, _+_, _-_, _*_, _≤_, sub-zero, arith, needs, sfits-of, ℤ, length, take, drop, length-take, length-drop, w32, ofZ, toZ, toZ-ofZ}
+use Rattle.semantics.proofs.Prelude.{_≡_, sym, _∙_, _&&_, and-true, List, ℕ, _+_, _-_, _*_, _≤_, sub-zero, arith, needs, sfits-of, ℤ, length, drop, length-take, length-drop, w32, ofZ, toZ, toZ-ofZ}
 use Rattle.semantics.specs.Layout.{location-size}
 use Rattle.semantics.specs.Lists.{all}
 use Rattle.semantics.specs.Encoding.{word-at, loc-in, several, distinct-names}

@@ -1,5 +1,5 @@
 -- `chart::has_name` meets its contract. Assumes nothing.
-use Rattle.semantics.proofs.Prelude.{_≡_, sym, ap, _∙_, List, arith, needs, ℤ, drop, w32, ofZ}
+use Rattle.semantics.proofs.Prelude.{sym, ap, _∙_, List, needs, ℤ, drop, w32, ofZ}
 use Rattle.semantics.specs.Text.{same-bytes}
 use Rattle.semantics.specs.Encoding.{loc-in}
 use Rattle.words.proofs.Rows.{tail}

@@ -1,5 +1,5 @@
 -- `chart::name_differs` meets its contract. Assumes nothing.
-use Rattle.semantics.proofs.Prelude.{_≡_, sym, ap, _∙_, List, _+_, _-_, _*_, _≤_, sub-zero, arith, not, needs, sfits-of, ℤ, length, drop, w32, toZ, toZ-ofZ}
+use Rattle.semantics.proofs.Prelude.{_≡_, sym, ap, _∙_, List, _-_, _*_, _≤_, sub-zero, arith, not, needs, sfits-of, ℤ, length, w32, toZ, toZ-ofZ}
 use Rattle.semantics.specs.Layout.{location-size}
 use Rattle.semantics.specs.Encoding.{loc-in, word-at, several}
 use Rattle.words.proofs.Rows.{tail}

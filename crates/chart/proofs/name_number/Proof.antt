@@ -1,6 +1,6 @@
 -- `chart::name_number` meets its contract. Assumes nothing.
-use Rattle.semantics.proofs.Prelude.{_≡_, refl, sym, ap, _∙_, List, ℕ, _+_, _-_, _*_, _<_, _≤_, arith, needs, sfits-of, ℤ, pos, natAbs, drop, SFits, w32, sfits-lit, toZ-pos, toZ-ofZ}
-use Rattle.semantics.specs.Layout.{name-size, name-place, byte-limit}
+use Rattle.semantics.proofs.Prelude.{_≡_, refl, sym, ap, _∙_, List, ℕ, _+_, _-_, _*_, _≤_, arith, needs, sfits-of, ℤ, pos, natAbs, drop, SFits, w32, sfits-lit, toZ-pos, toZ-ofZ}
+use Rattle.semantics.specs.Layout.{name-size, name-place}
 use Rattle.semantics.specs.Encoding.{name-in, loc-in, count}
 use Rattle.words.proofs.Words.{bits-eq, bits-ne}
 use Rattle.chart.specs.Encoded.{byte-of, number-from}

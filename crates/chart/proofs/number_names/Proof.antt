@@ -1,5 +1,5 @@
 -- `chart::number_names` meets its contract. The invariant: the numbers stored, and those of the rows left. Assumes nothing.
-use Rattle.semantics.proofs.Prelude.{_≡_, refl, sym, ap, _∙_, List, _++_, append-nil, _-_, _*_, _≤_, sub-zero, arith, needs, sfits-of, ℤ, length, take, drop, length-set, take-all, w32, toZ-ofZ}
+use Rattle.semantics.proofs.Prelude.{_≡_, refl, sym, ap, _∙_, _++_, append-nil, _-_, _*_, _≤_, sub-zero, arith, needs, sfits-of, length, take, drop, length-set, take-all}
 use Rattle.semantics.specs.Layout.{location-size}
 use Rattle.semantics.specs.Encoding.{several}
 use Rattle.words.proofs.Rows.{tail}

@@ -1,5 +1,5 @@
 -- `checks::analysis_ok` meets its contract. Assumes nothing.
-use Rattle.semantics.proofs.Prelude.{_≡_, sym, ap, _∙_, Bool, true, false, _&&_, and-false, and-true, ℕ, needs, not-true, not-false}
+use Rattle.semantics.proofs.Prelude.{_≡_, sym, ap, _∙_, Bool, _&&_, and-false, and-true, ℕ, needs, not-true, not-false}
 use Rattle.semantics.specs.Lists.{all-of}
 use Rattle.semantics.specs.Encoding.{decode, edge-count}
 use Rattle.semantics.specs.Memory.{lent-tests, record-tests, analysis-ok}

@@ -1,6 +1,6 @@
 -- `checks::waits_ok` meets its contract. The invariant: the list passes exactly when what is left passes, where the slots
 -- named before are marked. Assumes nothing.
-use Rattle.semantics.proofs.Prelude.{_≡_, refl, sym, ap, _∙_, Bool, true, false, _&&_, not, List, ℕ, _+_, _-_, _<_, _≤_, arith, needs, sfits-of, not-true, not-false, ℤ, pos, natAbs, length, length-set, drop, drop-of-length-le, getD, w32, ofZ, toZ, toZ-ofZ}
+use Rattle.semantics.proofs.Prelude.{_≡_, refl, sym, ap, _∙_, Bool, true, false, _&&_, not, List, ℕ, _-_, _<_, _≤_, arith, needs, sfits-of, not-true, not-false, ℤ, pos, natAbs, length, length-set, drop, drop-of-length-le, getD, w32, ofZ, toZ, toZ-ofZ}
 use Rattle.semantics.specs.Layout.{most-slots}
 use Rattle.semantics.specs.Lists.{all}
 use Rattle.semantics.specs.Encoding.{word-at}
