@@ -466,7 +466,8 @@ fn same_name(a: &[i32], b: &[i32]) -> bool
     true
 }
 
-// Whether none of n locations has the name of the one given.
+// Whether none of n locations has the name of the one given. Where they are few, as the names of variables are, the words
+// are looked at straight away; `name_differs` goes by numbers.
 pub fn name_is_new(row: &[i32], locations: &[i32], n: usize) -> bool
     requires { ⌜ location-size * n ≤ length (now locations) ⌝ }
     ensures { λ r. ⌜ r ≡ all (λ m. not (same-bytes (loc-in (now (row .entry)) .name) (m .name))) (several loc-in location-size n (now (locations .entry))) ⌝ }
