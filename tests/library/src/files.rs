@@ -101,9 +101,14 @@ fn idle_operation(sort: usize, variable: usize) -> String {
 /// The largest file with the last number drawn out to all the bytes that a file may have:
 /// every line is read before it is refused.
 pub fn drawn_out() -> Vec<u8> {
+    drawn_out_to(MAX_FILE)
+}
+
+/// The same, to so many bytes.
+pub fn drawn_out_to(bytes: usize) -> Vec<u8> {
     let mut file = largest();
     file.pop();
-    file.resize(MAX_FILE - 1, b'8');
+    file.resize(bytes - 1, b'8');
     file.push(LINE_FEED);
     file
 }

@@ -6,7 +6,7 @@ use std::process::Command;
 use library::walker::WALKER;
 use library::{Calls, LIBRARY};
 
-use crate::subjects::{charts, growth, runs, searches, Call, Lent, Subject};
+use crate::subjects::{charts, growth, reads, runs, searches, Call, Lent, Subject, READ};
 use crate::times::iterations;
 
 pub fn print() {
@@ -26,13 +26,22 @@ pub fn print() {
             print_row(&subject, call, iterations(&lent));
         }
     }
+    println!("\n| file | call | library, instructions a byte | walker, instructions a byte | library / walker |");
+    println!("|---|---|---|---|---|");
+    for subject in reads() {
+        print_row(&subject, &READ, subject.file.len() as f64);
+    }
 }
 
 fn print_row(subject: &Subject, call: &Call, over: f64) {
     let [library, walker] =
         ["library", "walker"].map(|whose| count(&subject.name, call.name, whose) / over);
     let ratio = library / walker;
-    println!("| {} | {} | {library:.0} | {walker:.0} | {ratio:.2} |", subject.name, call.name);
+    let digits = if library < 100.0 { 1 } else { 0 };
+    println!(
+        "| {} | {} | {library:.digits$} | {walker:.digits$} | {ratio:.2} |",
+        subject.name, call.name
+    );
 }
 
 fn count(chart: &str, call: &str, whose: &str) -> f64 {
@@ -59,7 +68,7 @@ pub fn once(chart: &str, call: &str, whose: &str) {
         "walker" => WALKER,
         _ => panic!("{whose}: library or walker"),
     };
-    let all = charts().into_iter().chain(runs()).chain(searches()).chain(growth());
+    let all = charts().into_iter().chain(runs()).chain(searches()).chain(growth()).chain(reads());
     for subject in all.filter(|each| each.name == chart) {
         if let Some(call) = subject.calls.iter().find(|each| each.name == call) {
             return counted(&mut subject.lent(), call, calls);

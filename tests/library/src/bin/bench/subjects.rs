@@ -215,6 +215,19 @@ pub fn runs() -> Vec<Subject> {
     ]
 }
 
+/// Files of more and more bytes: with edges, and with one number drawn out.
+pub fn reads() -> Vec<Subject> {
+    let read = |file: &[u8], what| {
+        Subject::new(&format!("{} bytes, {what}", file.len()), file, 256, &[READ])
+    };
+    let rings = (1..=4).map(|followed| {
+        read(&files::ring(Ring { followed, ..LARGEST }), format!("edges {}", 64 * followed))
+    });
+    let drawn_out = [16_384, 32_768]
+        .map(|bytes| read(&files::drawn_out_to(bytes), "one number drawn out".to_string()));
+    rings.chain(drawn_out).collect()
+}
+
 /// Apart, since it takes so long.
 pub fn costliest() -> Subject {
     Subject::new("costliest", &files::ring(COSTLIEST), 256, &[BEGIN_SEP])
