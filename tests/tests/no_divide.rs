@@ -91,7 +91,7 @@ fn the_cover_check_never_divides() {
 #[test]
 fn a_division_is_found() {
     let found = divisions("writer");
-    for code in ["at, n / 10);", "(48 + n % 10) as u8"] {
+    for code in ["last_digit(n / 10)", "(48 + n % 10) as u8"] {
         assert!(found.contains(code), "{code} is not among\n{found}");
     }
     for code in ["a /= b;", "a%=b;", "let q = a/b; // half", "a.checked_rem(b)", "div_ceil(a, b)"] {
