@@ -1,5 +1,5 @@
 -- The chains of no edge, and one more edge at the head of its chain. Assumes nothing.
-use Rattle.semantics.proofs.Prelude.{_≡_, refl, sym, ap, _∙_, Bool, true, false, List, [], _∷_, ℕ, zero, suc, _+_, _-_, _≤_, arith, eqb-true, eqb-false, eqb, ℤ, getD, set, replicate, getD-set-other}
+use Rattle.semantics.proofs.Prelude.{_≡_, refl, sym, ap, _∙_, Bool, true, false, List, ℕ, _+_, _-_, _≤_, arith, eqb-true, eqb-false, eqb, ℤ, getD, set, replicate, getD-set-other}
 use Rattle.words.proofs.LentNumbers.{replicate-most, set-most}
 use Rattle.analysis.specs.Chains.{from-at, Passed, Chained}
 

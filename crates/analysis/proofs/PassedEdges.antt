@@ -1,5 +1,5 @@
 -- Edges that do not leave the location of the taken state are passed over: their play changes nothing. Assumes nothing.
-use Rattle.semantics.proofs.Prelude.{_≡_, refl, sym, ap, _∙_, Bool, true, false, List, [], _∷_, _++_, ℕ, zero, suc, _+_, _-_, _≤_, arith, ne-eqb, ltb-true, ltb-false, le-ltb, ltb, length, ℤ}
+use Rattle.semantics.proofs.Prelude.{_≡_, refl, sym, ap, _∙_, Bool, true, false, List, [], _∷_, _++_, ℕ, suc, _+_, _-_, _≤_, arith, ne-eqb, ltb-true, ltb-false, le-ltb, ltb, length, ℤ}
 use Rattle.semantics.specs.declared.Settings.{Settings}
 use Rattle.semantics.specs.Algorithm.{Domain, Step, blocked, then, taking, visit, visit-all, takers}
 use Rattle.semantics.specs.Lists.{pick}

@@ -1,6 +1,6 @@
 // The reached table in lent words, slot after slot, each a state and after it what first brought the slot: that is written
-// with the state when the slot is taken, and no other function here touches it. Loops carry a slot's id and the place of
-// its words together.
+// with the state when the slot is taken, and no other function here touches it. Cover and merge look at the slots of the
+// successor's location alone, from link to link (`links`), each slot with its id and the place of its words together.
 use semantics::EdgeId;
 use semantics::SlotId;
 use state::Layout;

@@ -1,5 +1,5 @@
 -- `reached::links::add` meets its contract. Assumes nothing.
-use Rattle.semantics.proofs.Prelude.{_≡_, ap, _∙_, List, ℕ, arith, needs, ltb, length, set}
+use Rattle.semantics.proofs.Prelude.{_≡_, ap, _∙_, List, ℕ, arith, needs, ltb, set}
 use Rattle.semantics.specs.Lists.{pick}
 use Rattle.reached.specs.Links.{last-slot, last-place, next-place}
 use Rattle.reached.proofs.Linking.{linked-more}

@@ -1,5 +1,5 @@
 -- `reached::links::chain_of` meets its contract. Assumes nothing.
-use Rattle.semantics.proofs.Prelude.{refl, arith, lt-ltb, le-ltb}
+use Rattle.semantics.proofs.Prelude.{arith, lt-ltb, le-ltb}
 use Rattle.semantics.specs.Layout.{most-locations}
 use Rattle.reached.proofs.links.chain_of.Statement.{statement}
 use Rattle.reached.proofs.links.chain_of.Tie as tie

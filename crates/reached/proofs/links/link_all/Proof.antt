@@ -1,5 +1,5 @@
 -- `reached::links::link_all` meets its contract. Assumes nothing.
-use Rattle.semantics.proofs.Prelude.{_≡_, refl, sym, ap, _∙_, _-_, _≤_, _<_, ltb-false, arith, needs, length}
+use Rattle.semantics.proofs.Prelude.{_≡_, refl, sym, ap, _∙_, _-_, _≤_, ltb-false, arith, needs, length}
 use Rattle.state.specs.Rows.{Placed, location-in}
 use Rattle.state.proofs.Slots.{InUse, in-use}
 use Rattle.reached.specs.Links.{chains-of, Linked}
