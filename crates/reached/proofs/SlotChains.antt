@@ -1,6 +1,6 @@
 -- The chains of the slots of a table; and slots on another chain than that of a state are passed over: its test and its
 -- merge change nothing there. Assumes nothing.
-use Rattle.semantics.proofs.Prelude.{_≡_, refl, sym, ap, subst, _∙_, Bool, true, false, List, [], _∷_, _++_, map, map-append, ℕ, zero, suc, _+_, _-_, _*_, _≤_, _<_, mul-le-mul-right, suc-mul, add-one, ltb, ltb-true, ltb-false, arith, natAbs, ℤ, length, getD, take, drop, length-map, drop-drop, take-append-drop}
+use Rattle.semantics.proofs.Prelude.{_≡_, refl, sym, ap, _∙_, Bool, true, false, List, [], _∷_, _++_, map, map-append, ℕ, zero, suc, _+_, _-_, _*_, _≤_, _<_, mul-le-mul-right, suc-mul, add-one, ltb, ltb-true, ltb-false, arith, natAbs, ℤ, length, getD, take, drop, length-map, drop-drop, take-append-drop}
 use Rattle.semantics.specs.Lists.{pick}
 use Rattle.semantics.specs.Algorithm.{wait}
 use Rattle.words.proofs.Rows.{row-in, part-length}

@@ -15,7 +15,6 @@ ghost use Rattle.semantics.specs.Reading.{So-far, edge-line};
 ghost use Rattle.semantics.specs.Reading.{field-count};
 ghost use Rattle.text.specs.Fields.{the-word, field-at};
 ghost use Rattle.text.specs.Places.{form-of};
-ghost use Rattle.chart.specs.Rows.{stored};
 ghost use Rattle.reader.specs.Answers.{op-res, edge-res, edge-fields};
 ghost use Rattle.reader.specs.Lines.{op-read, edge-read, edge-worded};
 ghost use Rattle.reader.specs.Lines.{with-op as op-after, with-from as from-after};

@@ -4,10 +4,8 @@
 // encoded.
 ghost use mathlib.Core.Path.{_≡_};
 ghost use lib.ListN.{length};
-ghost use lib.Dec.{ltb};
 ghost use Rattle.semantics.specs.Text.{fields};
 ghost use Rattle.semantics.specs.Chart.{Chart};
-ghost use Rattle.semantics.specs.Encoding.{encode};
 ghost use Rattle.semantics.specs.Reading.{So-far, judge, at-end, refused-at, bad-byte-line, open-line};
 ghost use Rattle.semantics.specs.Outcomes.{chart-outcome, held-by, read-outcome};
 ghost use Rattle.text.specs.Places.{form-of};

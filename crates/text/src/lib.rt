@@ -9,7 +9,7 @@ ghost use lib.ListN.{length, getD};
 ghost use Rattle.semantics.specs.Layout.{byte-limit};
 ghost use Rattle.semantics.specs.Lists.{all};
 ghost use Rattle.semantics.specs.Text.{between, same-bytes, fields, name-byte, name-ok, digits, natural-of, nonnegative, negative, number-of};
-ghost use Rattle.semantics.specs.Chart.{within, known, num, var};
+ghost use Rattle.semantics.specs.Chart.{within, known};
 ghost use Rattle.semantics.specs.Reading.{ok, check, if-ok, nth, small-or, number-field, below-or, location-field, target-field, operand-field, init-field, kind-field, rel-field, op-word-field};
 ghost use Rattle.text.specs.Fields.{Found, field-from, field-at, number-cut, natural-read, IsCut, number-read, natural-said, number-said, variable-res, location-res, word-res, init-res, operand-res, kind-res, rel-res, op-word-res};
 

@@ -1,8 +1,8 @@
 -- `reached::pass` meets its contract: a slot that a word tells apart is none that e lies under. Assumes nothing.
-use Rattle.semantics.proofs.Prelude.{_≡_, refl, sym, ap, _∙_, Bool, false, List, ℕ, _+_, _-_, _≤_, _<_, arith, needs, not-true, not-false, now, ℤ}
+use Rattle.semantics.proofs.Prelude.{_≡_, refl, sym, ap, _∙_, false, List, ℕ, _+_, _-_, _≤_, _<_, arith, needs, not-false, now, ℤ}
 use Rattle.state.specs.declared.Layout.{Layout}
 use Rattle.state.specs.declared.SlotRow.{SlotRow}
-use Rattle.state.specs.Rows.{Placed, Laid, row-leq, row-of}
+use Rattle.state.specs.Rows.{Placed, row-leq, row-of}
 use Rattle.state.proofs.Slots.{InUse, in-use}
 use Rattle.state.proofs.RowLoops.{apart-over}
 use Rattle.words.proofs.Rows.{row-in}

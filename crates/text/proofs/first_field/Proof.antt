@@ -1,5 +1,5 @@
 -- `text::first_field` meets its contract. Assumes nothing.
-use Rattle.semantics.proofs.Prelude.{_∙_, needs}
+use Rattle.semantics.proofs.Prelude.{needs}
 use Rattle.text.specs.Fields.{field-at}
 use Rattle.text.proofs.first_field.Statement.{statement}
 use Rattle.text.proofs.first_field.Tie as tie

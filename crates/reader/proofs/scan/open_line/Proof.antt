@@ -1,5 +1,5 @@
 -- `reader::scan::open_line` meets its contract. Assumes nothing.
-use Rattle.semantics.proofs.Prelude.{_≡_, refl, sym, _∙_, [], _∷_, false, suc, _+_, _-_, _≤_, add-one, arith, length, drop, getD, eqb, needs}
+use Rattle.semantics.proofs.Prelude.{_≡_, refl, sym, _∙_, _∷_, false, suc, _-_, _≤_, add-one, arith, length, drop, getD, eqb, needs}
 use Rattle.semantics.specs.Reading.{open-line}
 use Rattle.semantics.specs.Lists.{pick}
 use Rattle.reader.proofs.Scans.{open-step, open-end, open-none, line-near}
