@@ -1,5 +1,6 @@
 -- Two texts that are the same, and the bytes of a name, one byte at a time. Assumes nothing.
-use Rattle.semantics.proofs.Prelude.{_≡_, refl, ap, Bool, true, false, List, [], _∷_, ℕ, suc, _+_, _≤_, _<_, add-one, eqb, length, getD, drop, drop-of-length-le, drop-cons, eq-eqb, ne-eqb, le-leb, lt-leb, and-false}
+use Rattle.semantics.proofs.Prelude.{_≡_, refl, ap, Bool, true, false, _&&_, List, [], _∷_, ℕ, suc, _+_, _≤_, _<_, add-one, eqb, length, getD, drop, drop-of-length-le, drop-cons, eq-eqb, ne-eqb, le-leb, lt-leb, and-false}
+use Rattle.semantics.proofs.Bools.{and-regroup}
 use Rattle.semantics.specs.Layout.{name-size}
 use Rattle.semantics.specs.Lists.{all}
 use Rattle.semantics.specs.Text.{same-bytes, name-byte, name-ok}
@@ -25,6 +26,10 @@ module _ (a b : List ℕ) (i : ℕ) where
 module _ (p : ℕ → Bool) (l : List ℕ) (i : ℕ) where
   pub all-step : i < length l → p (getD l i 0) ≡ true → all p (drop i l) ≡ all p (drop (i + 1) l)
   all-step h t = rw (add-one, drop-cons l i 0) (simp t)
+
+  -- the same without a branch
+  pub all-turn : (so-far here : Bool) → i < length l → here ≡ p (getD l i 0) → so-far && all p (drop i l) ≡ so-far && here && all p (drop (i + 1) l)
+  all-turn so-far here h e = rw (add-one, drop-cons l i 0 h, e) (and-regroup so-far (p (getD l i 0)) (all p (drop (suc i) l)))
 
   pub all-stop : i < length l → p (getD l i 0) ≡ false → all p (drop i l) ≡ false
   all-stop h t = rw (drop-cons l i 0) (simp t)

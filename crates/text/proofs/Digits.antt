@@ -5,7 +5,7 @@ use Rattle.semantics.specs.Lists.{pick, all}
 use Rattle.semantics.specs.Text.{between, digits, natural-of, nonnegative, negative, number-of}
 use Rattle.semantics.specs.Chart.{small}
 use Rattle.semantics.specs.Reading.{fail, ok, check, small-or, below-or}
-use Rattle.semantics.proofs.Bools.{from-false, left-true, right-true, and-regroup}
+use Rattle.semantics.proofs.Bools.{from-false, left-true, right-true}
 use Rattle.words.proofs.Rows.{tail}
 use Rattle.text.specs.Fields.{number-cut, clamp, natural-read, IsCut, number-read, natural-said, number-said}
 use Rattle.text.specs.declared.Natural.the-variants as natural
@@ -48,10 +48,6 @@ capped-same (b ∷ bs) n m h = go (between 48 57 b) (capped-same bs (n * 10 + (b
     go false ih = refl
 
 -- ---- digits that are only looked at
-
--- one byte more, without a branch
-pub all-turn : (p : ℕ → Bool) (l : List ℕ) (i : ℕ) (so-far here : Bool) → i < length l → here ≡ p (getD l i 0) → so-far && all p (drop i l) ≡ so-far && here && all p (drop (i + 1) l)
-all-turn p l i so-far here h e = rw (add-one, drop-cons l i 0 h, e) (and-regroup so-far (p (getD l i 0)) (all p (drop (suc i) l)))
 
 pub digits-none : (n : ℕ) (l : List ℕ) → all (between 48 57) l ≡ false → digits n l ≡ none
 unfolding digits

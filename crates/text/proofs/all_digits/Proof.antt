@@ -3,8 +3,7 @@
 use Rattle.semantics.proofs.Prelude.{needs, arith, _≡_, refl, sym, ap, _∙_, Bool, _&&_, and-true, _-_, _≤_, length, drop}
 use Rattle.semantics.specs.Lists.{all}
 use Rattle.semantics.specs.Text.{between}
-use Rattle.text.proofs.Bytes.{all-end}
-use Rattle.text.proofs.Digits.{all-turn}
+use Rattle.text.proofs.Bytes.{all-turn, all-end}
 use Rattle.text.proofs.all_digits.Statement.{statement}
 use Rattle.text.proofs.all_digits.Tie as tie
 

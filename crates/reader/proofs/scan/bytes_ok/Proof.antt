@@ -2,8 +2,7 @@
 use Rattle.semantics.proofs.Prelude.{needs, arith, _≡_, refl, sym, ap, _∙_, Bool, _&&_, and-true, _-_, _≤_, length, drop}
 use Rattle.semantics.specs.Lists.{all}
 use Rattle.semantics.specs.Reading.{byte-ok}
-use Rattle.text.proofs.Bytes.{all-end}
-use Rattle.text.proofs.Digits.{all-turn}
+use Rattle.text.proofs.Bytes.{all-turn, all-end}
 use Rattle.reader.proofs.scan.bytes_ok.Statement.{statement}
 use Rattle.reader.proofs.scan.bytes_ok.Tie as tie
 
