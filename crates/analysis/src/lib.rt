@@ -1,5 +1,7 @@
 // The algorithm over lent words: a successor's arrival, the edges of an iteration in file order, the iteration, the run
 // of iterations and the start. Record and counts go by value.
+#![tactic(auto)]
+
 ghost use Rattle.std.specs.Prelude.{◌≡◌, ℕ, ◌+◌, ◌-◌, ◌*◌, ◌<◌, ◌≤◌, min, ◌++◌, length};
 ghost use Rattle.semantics.specs.Layout.{most_iterations, index_limit, origin_size};
 ghost use Rattle.semantics.specs.Algorithm.{arrive, visit, visit_all, takers, brought, iteration, run, start};
@@ -21,7 +23,7 @@ use transfer::Move;
 mod outgoing;
 
 // What an analysis asks of its chart, by value: the layout of its table, edge 1, and how many edges there are.
-#[derive(Drop)]
+#[derive(Clone, Copy)]
 struct Outline {
     layout: Layout,
     first: EdgeRow,

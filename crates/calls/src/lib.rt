@@ -1,4 +1,6 @@
 // The public calls begin and run. Each judges all it is given in the documents' order; a refused call writes nothing.
+#![tactic(auto)]
+
 ghost use Rattle.std.specs.Prelude.{◌≡◌, ℕ, ◌*◌, ◌≤◌, ◌<◌, min, T, pos, nat_abs, length};
 ghost use Rattle.semantics.specs.Layout.{most_slots, most_iterations, index_limit};
 ghost use Rattle.semantics.specs.declared.Analysis.{Analysis};
@@ -16,7 +18,7 @@ use semantics::{Analysis, Answer, Settings};
 use state::Layout;
 
 // What a call answers, and the record as it leaves it.
-#[derive(Drop)]
+#[derive(Clone, Copy)]
 pub struct Called {
     pub answer: Answer,
     pub analysis: Analysis,

@@ -1,5 +1,7 @@
 // The encoded chart: its layout, its check, and the functions that write and read its rows. Who uses a chart asks here,
 // and knows no word by its place. docs/memory.md shows the layout.
+#![tactic(auto)]
+
 ghost use Rattle.std.specs.Prelude.{◌≡◌, true, not, ◌∷◌, map, ◌+◌, ◌-◌, ◌*◌, ◌<◌, ◌≤◌, pos, nat_abs, length, drop};
 ghost use Rattle.semantics.specs.Lists.{all};
 ghost use Rattle.semantics.specs.Text.{same_bytes};
@@ -567,7 +569,7 @@ fn names_differ(locations: &[i32], n: usize) -> bool
 // ---- edges
 
 // The two words of an operand.
-#[derive(Drop)]
+#[derive(Clone, Copy)]
 struct OperandWords {
     tag: i32,
     value: i32,
@@ -590,7 +592,7 @@ fn operand_words(a: Operand) -> OperandWords
 }
 
 // An operation by its code, its target and its operands; where it has none, 0.
-#[derive(Drop)]
+#[derive(Clone, Copy)]
 struct Split {
     code: usize,
     target: u8,
@@ -684,7 +686,7 @@ pub fn put_edge(rows: &mut [i32], at: usize, from: LocationId, to: LocationId, o
 }
 
 // An edge: its number, and where its words stand. The two are carried along together, so that no accessor has to count.
-#[derive(Drop)]
+#[derive(Clone, Copy)]
 pub struct EdgeRow {
     pub id: EdgeId,
     pub at: usize,

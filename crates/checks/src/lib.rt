@@ -2,6 +2,8 @@
 // calls share: 11, 12, 13; 20, 14, 21. Leaves look at one row or one part of the words; the counts are tested first,
 // since they bound what is read after. What looks at a row or a table asks that it has enough words, since 14 is judged
 // before 21; all else is total.
+#![tactic(auto)]
+
 ghost use Rattle.std.specs.Prelude.{◌≡◌, ◌&&◌, ◌||◌, ◌*◌, ◌<◌, ◌≤◌, T, eqb, ltb, length, drop};
 ghost use Rattle.semantics.specs.Lists.{all, all_pairs, all_of};
 ghost use Rattle.semantics.specs.Chart.{eq_z, within};

@@ -1,6 +1,8 @@
 // Is there a real run into an error location, or one that overruns? (request 2.3) Going down one move at a time with the moves
 // left falling. A state is a row of words as in a table, each word a known value; a move is the transfer of `transfer`, which
 // on known values is a run's own, but for `in`.
+#![tactic(auto)]
+
 ghost use Rattle.std.specs.Prelude.{◌≡◌, ◌∷◌, ◌+◌, ◌*◌, ◌≤◌, ◌<◌, suc, T, pos, ◌+ℤ◌, length, get_or};
 ghost use Rattle.std.specs.Int.{w32};
 ghost use Rattle.std.proofs.Common.{SFits};
@@ -19,7 +21,7 @@ pub mod distances;
 pub mod starts;
 
 // What a search from a state found: nothing, a run that ends at an error location, or one whose last move overruns.
-#[derive(Drop)]
+#[derive(Clone, Copy)]
 pub enum Found {
     Nothing,
     AtError,
@@ -256,7 +258,7 @@ fn attempt(
 }
 
 // The moves of a run, and how it ends.
-#[derive(Drop)]
+#[derive(Clone, Copy)]
 pub struct Search {
     pub moves: usize,
     pub found: Found,

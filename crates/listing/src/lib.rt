@@ -1,5 +1,7 @@
 // The listing of an analysis, and the path to its alarm: texts written into lent bytes, and the public calls. A piece is
 // written as far as it fits and counted whole, so that one function measures a text and writes it.
+#![tactic(auto)]
+
 ghost use Rattle.std.specs.Prelude.{◌≡◌, true, ◌++◌, map, ◌+◌, ◌*◌, ◌≤◌, ◌<◌, min, T, nat_abs, length, drop, set};
 ghost use Rattle.semantics.specs.Layout.{most_slots};
 ghost use Rattle.semantics.specs.Lists.{each};

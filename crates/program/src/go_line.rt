@@ -15,7 +15,7 @@ use text::{Field, NumberRead};
 pub const GO_LINE_BYTES: usize = 64;
 
 // What the go line asks.
-#[derive(Drop)]
+#[derive(Clone, Copy)]
 pub struct Go {
     pub settings: Settings,
     pub capacity: i32,
@@ -23,32 +23,32 @@ pub struct Go {
 }
 
 // The refusal's number, or what the go line asks and where the chart's bytes begin.
-#[derive(Drop)]
+#[derive(Clone, Copy)]
 pub enum GoLine {
     Refused(u32),
     Accepted { go: Go, chart: usize },
 }
 
 // The refusal's number, or what a line asks.
-#[derive(Drop)]
+#[derive(Clone, Copy)]
 enum Asked {
     Refused(u32),
     Is(Go),
 }
 
-#[derive(Drop)]
+#[derive(Clone, Copy)]
 enum ModeRead {
     Malformed,
     Is(Mode),
 }
 
-#[derive(Drop)]
+#[derive(Clone, Copy)]
 enum OrderRead {
     Malformed,
     Is(Order),
 }
 
-#[derive(Drop)]
+#[derive(Clone, Copy)]
 enum SettingsRead {
     Malformed,
     Is(Settings),
@@ -79,7 +79,7 @@ fn order_field(f: &[u8]) -> OrderRead
 }
 
 // Where the fields of a go line lie, after its first.
-#[derive(Drop)]
+#[derive(Clone, Copy)]
 struct GoFields {
     merge: Field,
     stop: Field,

@@ -1,4 +1,6 @@
 // From input bytes to output bytes: all of the walk program but its reading and writing.
+#![tactic(auto)]
+
 ghost use Rattle.std.specs.Prelude.{◌≡◌, List, ◌++◌, ℕ, min, T, nat_abs, length, take, drop};
 ghost use Rattle.semantics.specs.Layout.{listing_bytes};
 ghost use Rattle.semantics.specs.Encoding.{decode, well_formed};

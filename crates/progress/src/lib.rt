@@ -1,5 +1,7 @@
 // The record of an analysis, and how it advances: where it starts, the counts between two edges of an iteration, and the
 // end of the iteration, where a slot that is put back is all that changes in the words.
+#![tactic(auto)]
+
 ghost use Rattle.std.specs.Prelude.{◌≡◌, ◌<◌};
 ghost use Rattle.semantics.specs.Layout.{most_iterations};
 ghost use Rattle.semantics.specs.Algorithm.{first_verdict};
@@ -9,7 +11,7 @@ ghost use Rattle.progress.specs.Progress.{first_record, with_counts, went_on, al
 use semantics::{Analysis, EdgeId, Settings, SlotId, Verdict};
 
 // How the edges of an iteration, or some of them, end.
-#[derive(Drop)]
+#[derive(Clone, Copy)]
 pub enum Exit {
     On,
     Alarm,
@@ -30,7 +32,7 @@ impl Exit {
 }
 
 // The state between two edges: how the last ended, the alarm's edge or 0, and the counts of slots in use and waiting.
-#[derive(Drop)]
+#[derive(Clone, Copy)]
 pub struct Progress {
     pub exit: Exit,
     pub edge: EdgeId,

@@ -1,6 +1,8 @@
 // The reached table in lent words, slot after slot, each a state and after it what first brought the slot: that is written
 // with the state when the slot is taken, and no other function here touches it. Cover and merge look at the slots of the
 // successor's location alone, from link to link (`links`), each slot with its id and the place of its words together.
+#![tactic(auto)]
+
 ghost use Rattle.std.specs.Prelude.{◌≡◌, ◌++◌, ◌+◌, ◌*◌, ◌<◌, ◌≤◌, length, take, drop};
 ghost use Rattle.semantics.specs.Lists.{some_of};
 ghost use Rattle.semantics.specs.Layout.{index_limit, origin_size};

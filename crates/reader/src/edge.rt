@@ -19,7 +19,7 @@ use text::Field;
 use text::lines::Form;
 
 // Where the fields of an E line lie, up to its operation's word.
-#[derive(Drop)]
+#[derive(Clone, Copy)]
 struct EdgeFields {
     from: Field,
     to: Field,
@@ -27,7 +27,7 @@ struct EdgeFields {
 }
 
 // What an E line says.
-#[derive(Drop)]
+#[derive(Clone, Copy)]
 struct EdgeSaid {
     from: LocationId,
     to: LocationId,
@@ -35,7 +35,7 @@ struct EdgeSaid {
 }
 
 // What the fields of an E line come to: a refusal's number, or the edge.
-#[derive(Drop)]
+#[derive(Clone, Copy)]
 enum EdgeRead {
     Refused(u32),
     Is(EdgeSaid),

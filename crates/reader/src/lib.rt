@@ -2,6 +2,8 @@
 // crate `rows` are the chart's, that is the encoded chart but for its three counts, and past their room the numbers by
 // which the locations' names are compared; and `names` are rows with the variables' names, which are looked for and not
 // encoded.
+#![tactic(auto)]
+
 ghost use Rattle.std.specs.Prelude.{◌≡◌, length};
 ghost use Rattle.semantics.specs.Text.{fields};
 ghost use Rattle.semantics.specs.Chart.{Chart};
@@ -75,7 +77,7 @@ fn judge_line(
 }
 
 // Where reading stands: whether it goes on, the lines judged so far, and what the last of them came to.
-#[derive(Drop)]
+#[derive(Clone, Copy)]
 struct Descent {
     going: bool,
     line: usize,

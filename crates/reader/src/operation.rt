@@ -15,7 +15,7 @@ use semantics::{Arithmetic, Operation};
 use text::Field;
 
 // What the fields of an operation come to: a refusal's number, or the operation.
-#[derive(Drop)]
+#[derive(Clone, Copy)]
 pub enum OperationRead {
     Refused(u32),
     Is(Operation),

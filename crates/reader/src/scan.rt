@@ -5,7 +5,7 @@ ghost use Rattle.semantics.specs.Reading.{byte_ok, bad_byte_line, open_line};
 ghost use Rattle.reader.specs.Answers.{first_bad_line};
 
 // The line at fault, if there is one.
-#[derive(Drop)]
+#[derive(Clone, Copy)]
 pub enum FirstBad {
     Nowhere,
     Line(usize),

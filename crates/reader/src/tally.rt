@@ -11,7 +11,7 @@ pub const NUMBERS_PLACE: usize = chart::ROWS_SIZE;
 pub const ROWS_SIZE: usize = NUMBERS_PLACE + semantics::MOST_LOCATIONS;
 
 // How many variables, locations and edges are read.
-#[derive(Drop)]
+#[derive(Clone, Copy)]
 pub struct Tally {
     pub vars: usize,
     pub locs: usize,
@@ -19,7 +19,7 @@ pub struct Tally {
 }
 
 // What a line comes to: its refusal's number, or the counts with it.
-#[derive(Drop)]
+#[derive(Clone, Copy)]
 pub enum Judgement {
     Refused(u32),
     Passed(Tally),

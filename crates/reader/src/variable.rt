@@ -15,7 +15,7 @@ use text::Field;
 use text::lines::Form;
 
 // The three words of a variable's row.
-#[derive(Drop)]
+#[derive(Clone, Copy)]
 struct VarRow {
     lo: i32,
     hi: i32,
@@ -23,7 +23,7 @@ struct VarRow {
 }
 
 // What the fields of a V line come to: a refusal's number, or the row.
-#[derive(Drop)]
+#[derive(Clone, Copy)]
 enum VarLine {
     Refused(u32),
     Is(VarRow),

@@ -1,5 +1,7 @@
 // Is there a real run? (request 2.3): the public call, and the text of what was found. A piece is written as far as it fits and
 // counted whole, so that one function measures the text and writes it.
+#![tactic(auto)]
+
 ghost use Rattle.std.specs.Prelude.{◌≡◌, [], ◌∷◌, ◌++◌, suc, ◌-◌, ◌*◌, ◌≤◌, min, T, length};
 ghost use Rattle.semantics.specs.Layout.{most_moves};
 ghost use Rattle.semantics.specs.Text.{bytes, decimal, line_of};

@@ -1,13 +1,13 @@
 -- Runs are not too few: moves that each operation makes, as one list with a single claim over it, a run that meets an error
 -- state, and runs that overrun. Coverage alone would hold of a system without a move, and safety of one without an error
--- state or an overrun. And coverage says no of an analysis that passed over an overrun, whatever its verdict. Document 01,
+-- state or an overrun. And of an analysis that passed over an overrun it is not so that its overruns are awaited, whatever its verdict. Document 01,
 -- "The chart file" (the operations) and "Runs"; document 02, 2.1. Assumes nothing.
 use Rattle.std.specs.Prelude.{◌≡◌, true, false, List, [], ◌∷◌, ℕ, ℤ, pos, negsuc}
 use Rattle.semantics.specs.Text.{bytes}
 use Rattle.semantics.specs.Chart.{known, top, Var, num, var, eq, ne, lt, le, gt, ge, Op, assign, add, sub, input, assume, skip, Edge, Chart, State, Overruns, Error}
 use Rattle.semantics.specs.Algorithm.{Sep, Old, Open, Safe, start_origin, Exploration}
 use Rattle.semantics.specs.Constants.{AbstractState, Covers}
-use Rattle.semantics.specs.Coverage.{system, Execution, Followed, Covering}
+use Rattle.semantics.specs.Coverage.{system, Execution, Followed, FaultsAwaited}
 
 -- a variable of range −9..9 that begins anywhere in it
 abbrev pub any_digit : Var
@@ -137,5 +137,5 @@ pub record PassedOver : Type 0 where
   -- every state of every run is covered, and nothing is called safe
   pub followed : (ss : List State) → Execution (system overrunning) ss → Followed (Covers overrunning) passed_over.reached passed_over.waitlist ss
   pub not_safe : passed_over.verdict ≡ Safe → ⊥
-  -- yet coverage does not hold of it
-  pub refused : Covering (system overrunning) (Covers overrunning) passed_over → ⊥
+  -- yet no slot that waits covers the state at which the first edge overruns, or an earlier one
+  pub refused : FaultsAwaited (system overrunning) (Covers overrunning) passed_over → ⊥

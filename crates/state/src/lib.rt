@@ -2,6 +2,8 @@
 // table, and after it what first brought the slot; order, join and merge. No other crate reads or writes a slot by place.
 // The locations of two rows are compared as words, not as ids: nothing is asked of a row's form, and a word and its
 // negation say the same id.
+#![tactic(auto)]
+
 ghost use Rattle.std.specs.Prelude.{◌≡◌, ◌&&◌, not, ◌+◌, ◌-◌, ◌*◌, ◌<◌, ◌≤◌, eqb, length};
 ghost use Rattle.std.specs.Int.Signed.{non_neg};
 ghost use Rattle.semantics.specs.Lists.{all};
@@ -31,7 +33,7 @@ pub const MOST_STRIDE: usize = MOST_WIDTH + ORIGIN;
 
 // How the slots of a table stand in its words. A slot begins `stride` words after the one before it; its state is the
 // first words of it, `width` of them, and its origin is the rest.
-#[derive(Drop)]
+#[derive(Clone, Copy)]
 pub struct Layout {
     pub head: usize,
     pub value: usize,
@@ -76,7 +78,7 @@ impl Layout {
 
 // A slot: its id, and the place of its first word. The two are carried along together, so that no place is ever divided
 // to find its slot; only `Layout::slot` and `Layout::after` make one.
-#[derive(Drop)]
+#[derive(Clone, Copy)]
 pub struct SlotRow {
     pub id: SlotId,
     pub at: usize,

@@ -1,4 +1,6 @@
 // Standard input and output, whole: a call that moves few bytes is no end, one that a signal interrupts is made again.
+#![tactic(auto)]
+
 ghost use Rattle.std.specs.Prelude.{◌≡◌, ◌&&◌, true, ◌<◌, length, pos};
 ghost use Rattle.std.specs.Int.Signed.{lt_z};
 ghost use Rattle.semantics.specs.Chart.{eq_z};
@@ -11,7 +13,7 @@ use libc::{STDIN_FILENO, STDOUT_FILENO};
 const MOST_INTERRUPTIONS: u32 = 1_000_000;
 
 // How many bytes were moved, and what the last call answered: how many it moved, 0 at the end of the input, or -1.
-#[derive(Drop)]
+#[derive(Clone, Copy)]
 pub struct StreamEnd {
     pub count: usize,
     pub last: isize,

@@ -1,5 +1,7 @@
 // The library's boundary: the calls for programs in other languages, on numbers and slices, under plain names. A slice
 // arrives as a pointer and a length. Each call is thin over the crate that does its work.
+#![tactic(auto)]
+
 ghost use Rattle.std.specs.Prelude.{◌≡◌};
 ghost use Rattle.semantics.specs.Encoding.{well_formed};
 ghost use Rattle.semantics.specs.Outcomes.{read_outcome, run_outcome, listing_outcome, path_outcome, search_outcome};
@@ -13,7 +15,7 @@ use semantics::{Analysis, EdgeId, Mode, Order, Settings, Verdict};
 // `semantics::Answer` with the layout of C: 0 and line 0 with the length of a listing, path or run, or the refusal's number
 // and line.
 #[repr(C)]
-#[derive(Drop)]
+#[derive(Clone, Copy)]
 pub struct Reply {
     pub number: u32,
     pub line: usize,
@@ -23,7 +25,7 @@ pub struct Reply {
 // `semantics::Analysis` with the layout of C, its settings and verdict as codes: merge and stop 0 sep, 1 join; order 0
 // old, 1 new; verdict 0 unfinished, 1 safe, 2 alarm, 3 out of room.
 #[repr(C)]
-#[derive(Drop)]
+#[derive(Clone, Copy)]
 pub struct Record {
     pub merge: u32,
     pub stop: u32,
@@ -38,7 +40,7 @@ pub struct Record {
 
 // What a call answers, and the record as it leaves it.
 #[repr(C)]
-#[derive(Drop)]
+#[derive(Clone, Copy)]
 pub struct Called {
     pub reply: Reply,
     pub record: Record,

@@ -1,4 +1,6 @@
 // Reading pieces of a text: its lines, the fields of a line, and what one field says or by which number it is refused.
+#![tactic(auto)]
+
 ghost use Rattle.std.specs.Prelude.{◌≡◌, ℕ, suc, ◌+◌, ◌≤◌, min, length, get_or};
 ghost use Rattle.semantics.specs.Layout.{byte_limit};
 ghost use Rattle.semantics.specs.Lists.{all};
@@ -44,7 +46,7 @@ fn find(text: &[u8], from: usize, b: u8) -> usize
 // ---- the fields of a line, left to right
 
 // Where a field of a line lies: line[start..end].
-#[derive(Drop)]
+#[derive(Clone, Copy)]
 pub struct Field {
     pub start: usize,
     pub end: usize,
@@ -130,14 +132,14 @@ pub fn name_ok(f: &[u8]) -> bool
 const NUMBER_CUT: u32 = 100_000;
 
 // A number without sign, cut.
-#[derive(Drop)]
+#[derive(Clone, Copy)]
 enum Natural {
     Malformed,
     Is(u32),
 }
 
 // A number, its magnitude cut.
-#[derive(Drop)]
+#[derive(Clone, Copy)]
 pub enum NumberRead {
     Malformed,
     Is(i32),
@@ -279,49 +281,49 @@ pub fn number(f: &[u8]) -> NumberRead
 // ---- fields: the refusal's number, or what the field says
 
 // A variable, by its number.
-#[derive(Drop)]
+#[derive(Clone, Copy)]
 pub enum VariableRead {
     Refused(u32),
     Is(u8),
 }
 
 // A location, by its id.
-#[derive(Drop)]
+#[derive(Clone, Copy)]
 pub enum LocationRead {
     Refused(u32),
     Is(LocationId),
 }
 
 // A number, or the word of an initial value.
-#[derive(Drop)]
+#[derive(Clone, Copy)]
 pub enum WordRead {
     Refused(u32),
     Is(i32),
 }
 
 // A number or `$k`.
-#[derive(Drop)]
+#[derive(Clone, Copy)]
 pub enum OperandRead {
     Refused(u32),
     Is(Operand),
 }
 
 // Whether the kind is `e`.
-#[derive(Drop)]
+#[derive(Clone, Copy)]
 pub enum KindRead {
     Refused(u32),
     Is(bool),
 }
 
 // `eq` to `ge`.
-#[derive(Drop)]
+#[derive(Clone, Copy)]
 pub enum RelationRead {
     Refused(u32),
     Is(Relation),
 }
 
 // The operations that have a target.
-#[derive(Drop)]
+#[derive(Clone, Copy)]
 pub enum Action {
     Set,
     Compute(Arithmetic),
@@ -330,13 +332,13 @@ pub enum Action {
 }
 
 // An operation by its word.
-#[derive(Drop)]
+#[derive(Clone, Copy)]
 pub enum OpWord {
     Skip,
     With(Action),
 }
 
-#[derive(Drop)]
+#[derive(Clone, Copy)]
 pub enum OpWordRead {
     Refused(u32),
     Is(OpWord),

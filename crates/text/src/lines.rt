@@ -5,14 +5,14 @@ ghost use Rattle.semantics.specs.Lists.{pick};
 ghost use Rattle.text.specs.Places.{shape_of, ended_after, line_at, place_after};
 
 // The lent text, and the reader's place in it: where the next line begins.
-#[derive(Drop)]
+#[derive(Clone, Copy)]
 pub struct Reader<'a> {
     pub text: &'a [u8],
     pub at: usize,
 }
 
 // How a line is cut into fields: how many there are, and whether none of them is empty.
-#[derive(Drop)]
+#[derive(Clone, Copy)]
 pub struct Form {
     pub fields: usize,
     pub filled: bool,
@@ -35,14 +35,14 @@ impl Form {
 }
 
 // Where a line ends, and its form.
-#[derive(Drop)]
+#[derive(Clone, Copy)]
 pub struct Shape {
     pub end: usize,
     pub form: Form,
 }
 
 // A line is text[start..end], and the next one begins at `next`; or the text is at its end.
-#[derive(Drop)]
+#[derive(Clone, Copy)]
 pub enum Line {
     Text {
         start: usize,

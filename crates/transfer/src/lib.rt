@@ -1,4 +1,6 @@
 // The transfer of an edge of the encoded chart on a row of words, the test of an error location, and the initial row.
+#![tactic(auto)]
+
 ghost use Rattle.std.specs.Prelude.{◌≡◌, true, ◌+◌, ◌<◌, length};
 ghost use Rattle.std.specs.Int.{w32};
 ghost use Rattle.std.proofs.Common.{SFits};
@@ -15,7 +17,7 @@ use semantics::{Arithmetic, LocationId, Relation, Span};
 
 // What a transfer answers, as the rules' `Step`: no successor; a fault, which is an overrun (request 2.1); or a successor,
 // which stands in the row lent.
-#[derive(Drop)]
+#[derive(Clone, Copy)]
 pub enum Move {
     Blocked,
     Fault,

@@ -1,6 +1,8 @@
 // The walk program: reads a go line and a chart and prints the listing or the path, or a chart alone and prints a run; or
 // the refusal. What an input prints is the contract of `program::respond_to` and `program::respond_search_to`, and what
 // arguments ask that of `program::command`; no contract can speak of what the system reads and writes.
+#![tactic(auto)]
+
 use libc::{STDERR_FILENO, STDIN_FILENO};
 use semantics::{Command, View};
 use streams::StreamEnd;

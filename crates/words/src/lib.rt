@@ -1,4 +1,6 @@
 // Signed 32-bit words: total reads, tests and copies that every table is built on.
+#![tactic(auto)]
+
 ghost use Rattle.std.specs.Prelude.{◌≡◌, ◌<◌, pos, nat_abs, length, get_or, replicate};
 ghost use Rattle.semantics.specs.Layout.{index_limit};
 ghost use Rattle.semantics.specs.Lists.{some_of};

@@ -1,6 +1,8 @@
 // Writing bytes and numbers into lent bytes. A function answers the place after what it wrote. What lies past the end
 // of the bytes lent is counted and not written, so that one function tells how long a text is and writes it, and none
 // asks that it fits.
+#![tactic(auto)]
+
 ghost use Rattle.std.specs.Prelude.{◌≡◌, [], ◌∷◌, ◌+◌, ◌-◌, ◌/◌, ◌%◌, ◌<◌, min, length};
 ghost use Rattle.semantics.specs.Text.{decimal, decimal_z};
 ghost use Rattle.writer.specs.Writing.{Put, limit};
