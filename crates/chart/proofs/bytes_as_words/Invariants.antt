@@ -1,0 +1,10 @@
+-- `chart::bytes_as_words` meets its contract.
+use Rattle.semantics.proofs.Prelude.{◌++◌, map, append-nil, ◌≡◌, refl, sym, ◌∙◌, ◌-◌, ◌≤◌, arith, pos, length, get_or, take, drop, length-set, drop_of_length-le, take_all, to_z, of_z, w32}
+use Rattle.chart.proofs.Storing.{bytes_turn}
+use Rattle.chart.proofs.bytes_as_words.Given as goal
+
+abbrev pub invariant-loop-i : goal.invariant-loop-i
+invariant-loop-i l = (l.i ≤ length l.name) × (length l.row ≡ length l.name) × (take l.i l.row ++ map pos (drop l.i l.name) ≡ map pos l.name)
+
+abbrev pub decreases-loop-i : goal.decreases-loop-i
+decreases-loop-i l = length l.name - l.i

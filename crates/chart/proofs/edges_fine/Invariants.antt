@@ -1,0 +1,12 @@
+-- `chart::edges_fine` meets its contract.
+use Rattle.semantics.proofs.Prelude.{sym, ◌-◌, arith, length-take, length-drop}
+use Rattle.semantics.specs.Layout.{edge_size}
+use Rattle.chart.specs.Encoded.{edge_fine}
+use Rattle.chart.proofs.RowLoops.{RowsPassed, rows_start, rows_turn, rows_end}
+use Rattle.chart.proofs.edges_fine.Given as goal
+
+abbrev pub invariant-loop-i : goal.invariant-loop-i
+invariant-loop-i l = RowsPassed (edge_fine l.vars l.v l.l) (λ r. r) edge_size l.n l.edges l.ok l.i l.at
+
+abbrev pub decreases-loop-i : goal.decreases-loop-i
+decreases-loop-i l = l.n - l.i

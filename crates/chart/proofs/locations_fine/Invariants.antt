@@ -1,0 +1,12 @@
+-- `chart::locations_fine` meets its contract.
+use Rattle.semantics.proofs.Prelude.{sym, ◌-◌, arith, length-take, length-drop}
+use Rattle.semantics.specs.Layout.{location_size}
+use Rattle.chart.specs.Encoded.{location_fine}
+use Rattle.chart.proofs.RowLoops.{RowsPassed, rows_start, rows_turn, rows_end}
+use Rattle.chart.proofs.locations_fine.Given as goal
+
+abbrev pub invariant-loop-i : goal.invariant-loop-i
+invariant-loop-i l = RowsPassed location_fine (λ r. r) location_size l.n l.locations l.ok l.i l.at
+
+abbrev pub decreases-loop-i : goal.decreases-loop-i
+decreases-loop-i l = l.n - l.i

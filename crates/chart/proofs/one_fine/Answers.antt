@@ -1,0 +1,21 @@
+-- `chart::one_fine` meets its contract.
+use Rattle.semantics.proofs.Prelude.{sfits_of, pos, sfits_lit}
+use Rattle.chart.specs.Encoded.{one_fine}
+use Rattle.words.proofs.Words.{told, told_eqb}
+use Rattle.chart.proofs.one_fine.Goals as goal
+
+pub returns : goal.returns
+unfolding one_fine
+returns c =
+    let o = c in
+    let a = o.word_at in
+    let x = o.word_at-2 in
+    let b = c.word_at-3 in
+    let y = c.word_at-4 in
+    rw (
+      o.operand_fine.ensures,
+      told (sfits_of {z = a.result} a.type_inv) a.ensures,
+      told (sfits_of {z = x.result} x.type_inv) x.ensures,
+      told_eqb (sfits_of {z = b.result} b.type_inv) b.ensures {n = pos 0} (sfits_lit tt),
+      told_eqb (sfits_of {z = y.result} y.type_inv) y.ensures {n = pos 0} (sfits_lit tt),
+    )

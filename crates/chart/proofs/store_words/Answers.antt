@@ -1,0 +1,9 @@
+-- `chart::store_words` meets its contract.
+use Rattle.semantics.proofs.Prelude.{}
+use Rattle.words.proofs.Rows.{span, part_length}
+use Rattle.chart.specs.Rows.{stored}
+use Rattle.chart.proofs.store_words.Goals as goal
+
+pub returns : goal.returns
+unfolding stored
+returns c = rw (span, c.copy_words.ensures)

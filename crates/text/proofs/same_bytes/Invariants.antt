@@ -1,0 +1,11 @@
+-- `text::same_bytes` meets its contract: what is left of the texts says whether they are the same.
+use Rattle.semantics.proofs.Prelude.{◌≡◌, refl, sym, ◌∙◌, ◌-◌, ◌≤◌, length, drop, arith}
+use Rattle.semantics.specs.Text.{same_bytes}
+use Rattle.text.proofs.Bytes.{same_lengths, same_step, same_stop, same_end}
+use Rattle.text.proofs.same_bytes.Given as goal
+
+abbrev pub invariant-loop-i : goal.invariant-loop-i
+invariant-loop-i l = (l.i ≤ length l.a) × (same_bytes l.a l.b ≡ same_bytes (drop l.i l.a) (drop l.i l.b))
+
+abbrev pub decreases-loop-i : goal.decreases-loop-i
+decreases-loop-i l = length l.a - l.i

@@ -1,0 +1,11 @@
+-- `words::all_zero` meets its contract: what is said of the whole is said of the words passed and of what is left.
+use Rattle.semantics.proofs.Prelude.{◌≡◌, refl, sym, ap, ◌∙◌, Bool, ◌&&◌, and_assoc, and-true, ◌-◌, ◌≤◌, add-one, arith, pos, length, drop, get_or, drop_of_length-le, drop-cons, w32, to_z-of_z, sfits_of}
+use Rattle.semantics.specs.Chart.{eq_z}
+use Rattle.semantics.specs.Memory.{zeros}
+use Rattle.words.proofs.all_zero.Given as goal
+
+abbrev pub invariant-loop-i : goal.invariant-loop-i
+invariant-loop-i l = (l.i ≤ length l.s) × (zeros l.s ≡ l.ok && zeros (drop l.i l.s))
+
+abbrev pub decreases-loop-i : goal.decreases-loop-i
+decreases-loop-i l = length l.s - l.i

@@ -1,0 +1,9 @@
+-- `words::copy_words` meets its contract.
+use Rattle.semantics.proofs.Prelude.{◌≡◌, refl, sym, ◌∙◌, ◌-◌, ◌≤◌, ◌<◌, add-one, arith, pos, length, take, get_or, length-set, take_all, take-suc, take-suc-set, w32, to_z-of_z, sfits_of}
+use Rattle.words.proofs.copy_words.Given as goal
+
+abbrev pub invariant-loop-i : goal.invariant-loop-i
+invariant-loop-i l = (l.i ≤ length l.src) × (length l.dst ≡ length l.initial.dst) × (take l.i l.dst ≡ take l.i l.src)
+
+abbrev pub decreases-loop-i : goal.decreases-loop-i
+decreases-loop-i l = length l.src - l.i
