@@ -24,14 +24,14 @@ domain_of c = row_domain (post_words c) (error_row c)
 -- ---- between the edges of an iteration
 
 -- edge g, counted from 0: its number counts from 1, and its words stand where the chart has them
-pub record Is_edge (c : List ℤ) (g : ℕ) (e : EdgeRow) : Type 0 where
+pub record IsEdge (c : List ℤ) (g : ℕ) (e : EdgeRow) : Type 0 where
   pub id : e.id.0 ≡ g + 1
   pub at : e.at ≡ edge_at c g
 
 -- the outline is that of the chart c, in numbers that do not wrap and rows that are not too wide; and the chains are
 -- those of its edges
 pub record Outlined (c : List ℤ) (o : Outline) (heads nexts : List ℕ) : Type 0 where
-  pub first : Is_edge c 0 o.first
+  pub first : IsEdge c 0 o.first
   pub small : edge_at c o.edges < index_limit
   pub narrow : width_of o.layout ≤ most_width
   pub chained : Chained c 0 heads nexts

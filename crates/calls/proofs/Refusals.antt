@@ -10,7 +10,7 @@ use Rattle.semantics.proofs.FirstCase.{none_met, enough, refused_stays, goes}
 use Rattle.checks.specs.Form.{InForm}
 use Rattle.checks.proofs.FormTests.{in_form}
 use Rattle.calls.specs.declared.Called.{Called}
-use Rattle.calls.specs.Calls.{Answers, Ends_called}
+use Rattle.calls.specs.Calls.{Answers, EndsCalled}
 
 pub record BeginPasses (ws : List ℤ) (z : Settings) (r a : ℤ) (t l : ℕ) : Type 0 where
   pub capacity : T (capacity_ok r)
@@ -36,11 +36,11 @@ run_passes ws b m e =
     (passed (budget_ok b) p.0, in_form ws m p.1.0 p.1.1.0 p.1.1.1.0)
 
 -- a refused call changes nothing
-pub ends_refused : (k n : ℕ) (m : Memory) (sp : List ℕ) (o : Outcome) (r : Called) → k ≡ n → (k ≡ 0 → ⊥) → Answers (refused_by k 0) m.analysis r → Ends_called (settled n m sp o) r m.table m.waitlist
+pub ends_refused : (k n : ℕ) (m : Memory) (sp : List ℕ) (o : Outcome) (r : Called) → k ≡ n → (k ≡ 0 → ⊥) → Answers (refused_by k 0) m.analysis r → EndsCalled (settled n m sp o) r m.table m.waitlist
 ends_refused k n m sp o r e h g = rw (refused_stays m sp o {n = n} k e h) (record { answer = g.0; analysis = g.1; table = refl; waitlist = refl })
 
 -- a call that nothing refuses has the outcome
-pub ends_through : (n : ℕ) (m m' : Memory) (sp : List ℕ) (o : Outcome) (r : Called) → n ≡ 0 → o.memory ≡ m' → Answers o.answer m'.analysis r → Ends_called (settled n m sp o) r m'.table m'.waitlist
+pub ends_through : (n : ℕ) (m m' : Memory) (sp : List ℕ) (o : Outcome) (r : Called) → n ≡ 0 → o.memory ≡ m' → Answers o.answer m'.analysis r → EndsCalled (settled n m sp o) r m'.table m'.waitlist
 ends_through n m m' sp o r e p g =
     rw (goes m sp o {n = n} e)
     (record { answer = g.0; analysis = g.1 ∙ sym (ap (λ (x : Memory). x.analysis) p); table = sym (ap (λ (x : Memory). x.table) p); waitlist = sym (ap (λ (x : Memory). x.waitlist) p) })

@@ -24,8 +24,8 @@ pub record Ends (o : Outcome) (r : Answer) (a : Analysis) (t l : List ℤ) : Typ
   pub waitlist : l ≡ o.memory.waitlist
 
 -- the same of a call that answers the record
-abbrev pub Ends_called : Outcome → Called → List ℤ → List ℤ → Type 0
-Ends_called o r t l = Ends o r.answer r.analysis t l
+abbrev pub EndsCalled : Outcome → Called → List ℤ → List ℤ → Type 0
+EndsCalled o r t l = Ends o r.answer r.analysis t l
 
 -- ---- what the parts of a beginning ask
 

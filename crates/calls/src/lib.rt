@@ -11,7 +11,7 @@ ghost use Rattle.state.specs.Rows.{width_of, most_width};
 ghost use Rattle.checks.specs.Form.{lent, InForm};
 ghost use Rattle.analysis.specs.Loaded.{domain_of, Loaded};
 ghost use Rattle.transfer.specs.Transfer.{initial_row, edge_at, edges_from};
-ghost use Rattle.calls.specs.Calls.{Answers, Begins, Ends, Ends_called};
+ghost use Rattle.calls.specs.Calls.{Answers, Begins, Ends, EndsCalled};
 ghost use Rattle.semantics.specs.Outcomes.{fine, refused_by, refusal, size_of, form_of, put_in, begun, resumed, begin_cases, begin_outcome, run_cases, run_outcome};
 
 use semantics::{Analysis, Answer, Settings};
@@ -208,7 +208,7 @@ pub fn begin(
     table: &mut [i32],
     list: &mut [i32],
 ) -> Called
-    ensures { Ends_called (begin_outcome chart.now settings capacity budget (lent table.old list.old a)) result table.new list.new }
+    ensures { EndsCalled (begin_outcome chart.now settings capacity budget (lent table.old list.old a)) result table.new list.new }
 {
     let number = begin_refusal(chart, settings, capacity, budget, table.len(), list.len());
     if number != 0 {
@@ -226,7 +226,7 @@ pub fn run_by_value(
     table: &mut [i32],
     list: &mut [i32],
 ) -> Called
-    ensures { Ends_called (run_outcome chart.now budget (lent table.old list.old a)) result table.new list.new }
+    ensures { EndsCalled (run_outcome chart.now budget (lent table.old list.old a)) result table.new list.new }
 {
     let number = run_refusal(chart, budget, a, table, list);
     if number != 0 {

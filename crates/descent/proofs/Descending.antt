@@ -10,7 +10,7 @@ use Rattle.semantics.proofs.Decoded.{edges_count}
 use Rattle.semantics.proofs.Encoded.{formed_bounds}
 use Rattle.chart.specs.declared.EdgeRow.{EdgeRow}
 use Rattle.state.specs.Rows.{most_width, values_of}
-use Rattle.descent.specs.Rows.{edge_of, Is_edge, state_of, Concrete}
+use Rattle.descent.specs.Rows.{edge_of, IsEdge, state_of, Concrete}
 use Rattle.descent.specs.declared.Found.{Found}
 use Rattle.descent.specs.Trails.{step_words, trail_words, answer_of, laid, Went, is_nothing, from_step}
 use Rattle.descent.proofs.Moves.{edge_numbered}
@@ -28,7 +28,7 @@ pub numbered_length : (ws : List ℤ) → length (numbered (decode ws)) ≡ edge
 numbered_length ws = number_length 1 (decode ws).edges ∙ edges_count ws
 
 -- the edge of a turn
-pub edge_here : (ws : List ℤ) → T (well_formed ws) → (e : EdgeRow) → Is_edge ws e → edge_of ws e ≡ get_or (numbered (decode ws)) (e.id.0 - 1) no_edge
+pub edge_here : (ws : List ℤ) → T (well_formed ws) → (e : EdgeRow) → IsEdge ws e → edge_of ws e ≡ get_or (numbered (decode ws)) (e.id.0 - 1) no_edge
 edge_here ws f e is = sym (at_get_or (numbered (decode ws)) (e.id.0 - 1) (edge_of ws e) no_edge (edge_numbered ws f e is))
 
 -- with no move left

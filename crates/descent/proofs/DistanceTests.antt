@@ -23,9 +23,9 @@ use Rattle.transfer.specs.declared.Move.{Move}
 use Rattle.transfer.specs.declared.Move.TheVariants.{Blocked, Fault, Successor}
 use Rattle.transfer.specs.Transfer.{step_of, edge_at, edges_from, post_at, post_words, error_row}
 use Rattle.transfer.proofs.Agree.{Says, SameEdge, edges_say, agree}
-use Rattle.descent.specs.Rows.{edge_of, Is_edge}
+use Rattle.descent.specs.Rows.{edge_of, IsEdge}
 use Rattle.descent.proofs.Moves.{same_edge, leaves}
-use Rattle.descent.specs.Distances.{anywhere, Near, Distances, distance_in, from_anywhere, move_of, Near_by, Kinds_allow, Edges_allow}
+use Rattle.descent.specs.Distances.{anywhere, Near, Distances, distance_in, from_anywhere, move_of, NearBy, KindsAllow, EdgesAllow}
 
 -- ---- a row in which every variable is top
 
@@ -76,12 +76,12 @@ at_below (y ∷ ys) (suc n) x h = omega (arith, at_below ys n x h)
 -- ---- what is asked by number
 
 -- by location l
-abbrev pub Zero_at_error : List ℤ → List ℕ → ℕ → Type 0
-Zero_at_error ws ds l = T (error_location (decode ws).locs l) → distance_in ds l ≡ 0
+abbrev pub ZeroAtError : List ℤ → List ℕ → ℕ → Type 0
+ZeroAtError ws ds l = T (error_location (decode ws).locs l) → distance_in ds l ≡ 0
 
 -- by edge n
 abbrev pub Asked : List ℤ → List ℕ → ℕ → Type 0
-Asked ws ds n = 1 ≤ n → Near_by ws ds (edge_in (drop (edge_at ws (n - 1)) ws))
+Asked ws ds n = 1 ≤ n → NearBy ws ds (edge_in (drop (edge_at ws (n - 1)) ws))
 
 module _ (ws : List ℤ) (t : T (well_formed ws)) where
   -- ---- edges
@@ -97,18 +97,18 @@ module _ (ws : List ℤ) (t : T (well_formed ws)) where
     pub edge_asks : (first.at < index_limit) × (1 ≤ n) × (n ≤ index_limit)
     edge_asks = (omega (arith, edges_near ws t), some, omega (arith, edges_near ws t))
 
-    pub is_edge : (e : EdgeRow) → e.id.0 ≡ n → e.at ≡ first.at + edge_size * (n - 1) → Is_edge ws e
+    pub is_edge : (e : EdgeRow) → e.id.0 ≡ n → e.at ≡ first.at + edge_size * (n - 1) → IsEdge ws e
     is_edge e p q = record { some = omega arith; within = omega arith; at = omega arith }
 
   -- each edge has a number
-  pub every_edge : (ds : List ℕ) → ((n : ℕ) → n ≤ edge_count ws → Asked ws ds n) → Edges_allow ws ds
+  pub every_edge : (ds : List ℕ) → ((n : ℕ) → n ≤ edge_count ws → Asked ws ds n) → EdgesAllow ws ds
   every_edge ds f g i =
       let c = decode ws in
       let p = paired g i in
       let h : p.0 < edge_count ws = omega (arith, at_below c.edges p.0 g.edge p.1.here, edges_count ws) in
       let e : p.0 + 1 - 1 ≡ p.0 = omega arith in
-      let asked : Near_by ws ds (edge_in (drop (edge_at ws p.0) ws)) = subst (λ (k : ℕ). Near_by ws ds (edge_in (drop (edge_at ws k) ws))) e (f (p.0 + 1) (omega arith) (omega arith)) in
-      subst (Near_by ws ds) (at_one c.edges p.0 (edge_in (drop (edge_at ws p.0) ws)) g.edge (edge_here p.0 h) p.1.here) asked
+      let asked : NearBy ws ds (edge_in (drop (edge_at ws p.0) ws)) = subst (λ (k : ℕ). NearBy ws ds (edge_in (drop (edge_at ws k) ws))) e (f (p.0 + 1) (omega arith) (omega arith)) in
+      subst (NearBy ws ds) (at_one c.edges p.0 (edge_in (drop (edge_at ws p.0) ws)) g.edge (edge_here p.0 h) p.1.here) asked
 
   -- the location that it goes to
   pub comes : (e : EdgeRow) → (edge_of ws e).edge.to ≡ count ws (e.at + to_place)
@@ -118,7 +118,7 @@ module _ (ws : List ℤ) (t : T (well_formed ws)) where
   pub narrow : width_of (layout_of ws) ≤ most_width
   narrow = omega (arith, (formed_bounds ws t).few_vars, vars_count ws)
 
-  module _ (e : EdgeRow) (i : Is_edge ws e) where
+  module _ (e : EdgeRow) (i : IsEdge ws e) where
     from_below : (edge_of ws e).edge.from < length (decode ws).locs
     from_below = let ok = (same_edge ws t e i).ok in ltb→lt (edge_of ws e).edge.from (length (decode ws).locs) (search (and_left, and_right))
 
@@ -151,7 +151,7 @@ module _ (ws : List ℤ) (t : T (well_formed ws)) where
       (agree ws t).error (row (anywhere c l)) (anywhere c l) (says_anywhere c l (error_below c.locs l h)) ∙ to_true (error_location c.locs l) h
 
   -- each location has a number
-  pub every_location : (ds : List ℕ) → ((l : ℕ) → l < location_count ws → Zero_at_error ws ds l) → Kinds_allow ws ds
+  pub every_location : (ds : List ℕ) → ((l : ℕ) → l < location_count ws → ZeroAtError ws ds l) → KindsAllow ws ds
   every_location ds f l h = f l (omega (arith, error_below (decode ws).locs l h, locs_count ws)) h
 
 -- ---- what an edge asks, by the answer

@@ -11,7 +11,7 @@ use Rattle.semantics.proofs.ChartChoices.{interval_in}
 use Rattle.semantics.proofs.RealRuns.{interval_length}
 use Rattle.words.proofs.Words.{between_fits}
 use Rattle.chart.specs.declared.EdgeRow.{EdgeRow}
-use Rattle.descent.specs.Rows.{edge_of, Is_edge}
+use Rattle.descent.specs.Rows.{edge_of, IsEdge}
 use Rattle.descent.proofs.Exactly.{one_input}
 use Rattle.descent.proofs.Moves.{edge_op_ok, in_op, other_op}
 
@@ -72,7 +72,7 @@ module _ (ws : List ℤ) (e : EdgeRow) where
     value_inside = interval_in low high (low +ℤ pos i) (subst (λ (x : ℤ). In x (interval low high)) (interval_get low high i (subst (λ (xs : List ℤ). i < length xs) (values_of_in h) l)) (in_get_or (interval low high) i (subst (λ (xs : List ℤ). i < length xs) (values_of_in h) l)))
 
     -- which are numbers of a file, and so words
-    pub value_fits : T (well_formed ws) → Is_edge ws e → SFits w32 (low +ℤ pos i)
+    pub value_fits : T (well_formed ws) → IsEdge ws e → SFits w32 (low +ℤ pos i)
     value_fits f is =
         let fine : T (op_ok (decode ws).vars (input (count ws (e.at + target_place)) low high)) = subst (λ (x : Op). T (op_ok (decode ws).vars x)) (in_op ws e h) (edge_op_ok ws f e is) in
         let p : T (small low) = search (and_left, and_right) depth 8 in

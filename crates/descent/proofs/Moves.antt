@@ -23,7 +23,7 @@ use Rattle.transfer.specs.Transfer.{step_of, edges_from, post_at, post_words}
 use Rattle.transfer.specs.declared.Move.{Move}
 use Rattle.transfer.specs.declared.Move.TheVariants.{Blocked, Fault, Successor}
 use Rattle.transfer.proofs.Agree.{Says, SameEdge, edges_say, agree}
-use Rattle.descent.specs.Rows.{state_of, Concrete, edge_of, Is_edge, Movable, Advanced}
+use Rattle.descent.specs.Rows.{state_of, Concrete, edge_of, IsEdge, Movable, Advanced}
 use Rattle.descent.proofs.Exactly.{exactly, exact_step, reads, post_exact, ranged_known, known_ranged}
 
 -- ---- an edge of the chart
@@ -45,7 +45,7 @@ number_at n [] i g h = absurd (none_some refl h)
 number_at n (e ∷ gs) zero g h = let z : n ≡ n + 0 = omega arith in let s : e ≡ g = cc in λ i. record { no = z i; edge = s i }
 number_at n (e ∷ gs) (suc i) g h = let z : suc n + i ≡ n + suc i = omega arith in subst (λ (k : ℕ). At (number_from (suc n) gs) i (record { no = k; edge = g })) z (number_at (suc n) gs i g h)
 
-module _ (ws : List ℤ) (formed : T (well_formed ws)) (e : EdgeRow) (is : Is_edge ws e) where
+module _ (ws : List ℤ) (formed : T (well_formed ws)) (e : EdgeRow) (is : IsEdge ws e) where
   pub edge_small : e.at < index_limit
   edge_small = omega (arith, is.some, is.within, is.at, edges_near ws formed)
 

@@ -42,13 +42,13 @@ move_of fault = Fault
 move_of (to f) = Successor
 
 -- what an edge of the encoded chart asks of a table of distances
-abbrev pub Near_by : List ℤ → List ℕ → Edge → Type 0
-Near_by ws ds g = Near (distance_in ds) g (from_anywhere (decode ws) g)
+abbrev pub NearBy : List ℤ → List ℕ → Edge → Type 0
+NearBy ws ds g = Near (distance_in ds) g (from_anywhere (decode ws) g)
 
 -- the kinds of its locations ask nothing more of the table
-abbrev pub Kinds_allow : List ℤ → List ℕ → Type 0
-Kinds_allow ws ds = (l : ℕ) → T (error_location (decode ws).locs l) → distance_in ds l ≡ 0
+abbrev pub KindsAllow : List ℤ → List ℕ → Type 0
+KindsAllow ws ds = (l : ℕ) → T (error_location (decode ws).locs l) → distance_in ds l ≡ 0
 
 -- and its edges ask nothing more
-abbrev pub Edges_allow : List ℤ → List ℕ → Type 0
-Edges_allow ws ds = (g : Numbered) → In g (numbered (decode ws)) → Near_by ws ds g.edge
+abbrev pub EdgesAllow : List ℤ → List ℕ → Type 0
+EdgesAllow ws ds = (g : Numbered) → In g (numbered (decode ws)) → NearBy ws ds g.edge

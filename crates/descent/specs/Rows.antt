@@ -27,7 +27,7 @@ abbrev pub edge_of : List ℤ → EdgeRow → Numbered
 edge_of ws e = record { no = e.id.0; edge = edge_in (drop e.at ws) }
 
 -- it is one of the encoded chart's
-pub record Is_edge (ws : List ℤ) (e : EdgeRow) : Type 0 where
+pub record IsEdge (ws : List ℤ) (e : EdgeRow) : Type 0 where
   pub some : 1 ≤ e.id.0
   pub within : e.id.0 ≤ edge_count ws
   pub at : e.at ≡ edge_at ws (e.id.0 - 1)
@@ -36,7 +36,7 @@ pub record Is_edge (ws : List ℤ) (e : EdgeRow) : Type 0 where
 -- successor
 pub record Movable (ws : List ℤ) (e : EdgeRow) (z : ℤ) (row out : List ℤ) : Type 0 where
   pub formed : T (well_formed ws)
-  pub edge : Is_edge ws e
+  pub edge : IsEdge ws e
   pub input : In z (inputs (edge_of ws e).edge.op)
   pub concrete : Concrete (decode ws) row
   pub room : length out ≡ length row

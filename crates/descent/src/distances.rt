@@ -6,8 +6,8 @@ ghost use Rattle.std.specs.Prelude.{◌≡◌, true, ◌+◌, ◌<◌, ◌≤◌
 ghost use Rattle.semantics.specs.Layout.{index_limit};
 ghost use Rattle.semantics.specs.Chart.{error_location};
 ghost use Rattle.semantics.specs.Encoding.{decode, well_formed};
-ghost use Rattle.descent.specs.Rows.{edge_of, Is_edge};
-ghost use Rattle.descent.specs.Distances.{Distances, distance_in, from_anywhere, move_of, Near_by, Kinds_allow, Edges_allow};
+ghost use Rattle.descent.specs.Rows.{edge_of, IsEdge};
+ghost use Rattle.descent.specs.Distances.{Distances, distance_in, from_anywhere, move_of, NearBy, KindsAllow, EdgesAllow};
 
 use chart::EdgeRow;
 use semantics::{EdgeId, LocationId};
@@ -66,7 +66,7 @@ fn by_kind(chart: &[i32], l: LocationId) -> usize
 // The edge's abstract move where nothing is known but its location: a fault where it could overrun by its operands'
 // declared ranges, no successor where it never passes.
 fn from_anywhere(chart: &[i32], edge: EdgeRow) -> Move
-    requires { T (well_formed chart.now) × Is_edge chart.now edge }
+    requires { T (well_formed chart.now) × IsEdge chart.now edge }
     ensures { result ≡ move_of (from_anywhere (decode chart.now) (edge_of chart.now edge).edge) }
 {
     let layout = state::layout_of(chart);
@@ -87,8 +87,8 @@ fn one_more(n: usize) -> usize
 }
 
 fn by_edge(chart: &[i32], edge: EdgeRow, dist: &[usize]) -> usize
-    requires { T (well_formed chart.now) × Is_edge chart.now edge }
-    ensures { distance_in dist.now (edge_of chart.now edge).edge.from ≤ result → Near_by chart.now dist.now (edge_of chart.now edge).edge }
+    requires { T (well_formed chart.now) × IsEdge chart.now edge }
+    ensures { distance_in dist.now (edge_of chart.now edge).edge.from ≤ result → NearBy chart.now dist.now (edge_of chart.now edge).edge }
 {
     match from_anywhere(chart, edge) {
         Move::Blocked => FAR,
@@ -102,7 +102,7 @@ fn by_edge(chart: &[i32], edge: EdgeRow, dist: &[usize]) -> usize
 // Each location by its kind. Whether none was lowered.
 fn lower_by_kinds(chart: &[i32], dist: &mut [usize]) -> bool
     requires { T (well_formed chart.now) }
-    ensures { result ≡ true → Kinds_allow chart.now dist.new }
+    ensures { result ≡ true → KindsAllow chart.now dist.new }
 {
     let n = chart::location_count(chart);
     let mut still = true;
@@ -120,7 +120,7 @@ fn lower_by_kinds(chart: &[i32], dist: &mut [usize]) -> bool
 // distances come from its ends. Whether none was lowered.
 fn lower_by_edges(chart: &[i32], dist: &mut [usize]) -> bool
     requires { T (well_formed chart.now) }
-    ensures { result ≡ true → (dist.new ≡ dist.old) × Edges_allow chart.now dist.new }
+    ensures { result ≡ true → (dist.new ≡ dist.old) × EdgesAllow chart.now dist.new }
 {
     let first = chart::first_edge(chart);
     let mut still = true;

@@ -10,7 +10,7 @@ ghost use Rattle.semantics.specs.Layout.{index_limit, most_edges, most_moves, op
 ghost use Rattle.semantics.specs.Encoding.{count, decode, well_formed};
 ghost use Rattle.semantics.specs.Memory.{width};
 ghost use Rattle.semantics.specs.Search.{found, attempt, first_run, Choice, choose, inputs, move, explicit};
-ghost use Rattle.descent.specs.Rows.{state_of, Concrete, edge_of, Is_edge, Movable, Advanced};
+ghost use Rattle.descent.specs.Rows.{state_of, Concrete, edge_of, IsEdge, Movable, Advanced};
 ghost use Rattle.descent.specs.Trails.{is_nothing, last_move, answer_of, Went, by_input, by_edge, from_step, Going, Deepening, Holds};
 
 use chart::EdgeRow;
@@ -64,7 +64,7 @@ fn above(p: i32, i: usize) -> i32
 
 // The i-th of them, ascending from 0.
 fn input_value(chart: &[i32], edge: EdgeRow, i: usize) -> i32
-    requires { T (well_formed chart.now) × Is_edge chart.now edge × (i < length (inputs (edge_of chart.now edge).edge.op)) }
+    requires { T (well_formed chart.now) × IsEdge chart.now edge × (i < length (inputs (edge_of chart.now edge).edge.op)) }
     ensures { result ≡ get_or (inputs (edge_of chart.now edge).edge.op) i (pos 0) }
 {
     if chart::edge_operation(chart, edge) != chart::IN_CODE {
@@ -165,7 +165,7 @@ fn by_edge(
     left: usize,
     path: &mut [i32],
 ) -> Found
-    requires { Going chart.now dist.now row.now (suc left) path.old × Is_edge chart.now edge }
+    requires { Going chart.now dist.now row.now (suc left) path.old × IsEdge chart.now edge }
     ensures { Went (by_edge (decode chart.now) left (state_of row.now) (edge_of chart.now edge)) path.old path.new result }
 {
     let from = chart::edge_from(chart, edge);
@@ -195,7 +195,7 @@ fn by_input(
     left: usize,
     path: &mut [i32],
 ) -> Found
-    requires { Going chart.now dist.now row.now (suc left) path.old × Is_edge chart.now edge × (i < length (inputs (edge_of chart.now edge).edge.op)) }
+    requires { Going chart.now dist.now row.now (suc left) path.old × IsEdge chart.now edge × (i < length (inputs (edge_of chart.now edge).edge.op)) }
     ensures { Went (by_input (decode chart.now) left (state_of row.now) (edge_of chart.now edge) (get_or (inputs (edge_of chart.now edge).edge.op) i (pos 0))) path.old path.new result }
 {
     let z = input_value(chart, edge, i);

@@ -22,14 +22,14 @@ use Rattle.listing.specs.Views.{view_outcome}
 use Rattle.checks.specs.Form.{lent}
 use Rattle.semantics.specs.declared.Answer.{Answer}
 use Rattle.calls.specs.declared.Called.{Called}
-use Rattle.calls.specs.Calls.{Ends_called}
+use Rattle.calls.specs.Calls.{EndsCalled}
 use Rattle.program.specs.declared.go_line.Go.{Go}
 use Rattle.program.specs.Asked.{asking}
 use Rattle.program.specs.Responded.{Accepted, PutIn}
 use Rattle.program.proofs.Shown.{Shows, shows_text, shows_refusal}
 
 -- what a call leaves, by the outcome that it has
-ends_at : {o : Outcome} {r : Called} {t l : List ℤ} → Ends_called o r t l → (m : Memory) → o.memory ≡ m → lent t l r.analysis ≡ m
+ends_at : {o : Outcome} {r : Called} {t l : List ℤ} → EndsCalled o r t l → (m : Memory) → o.memory ≡ m → lent t l r.analysis ≡ m
 ends_at e m p = (λ i. record { table = e.table i; waitlist = e.waitlist i; analysis = e.analysis i }) ∙ p
 
 module _ (words : List ℤ) (formed : T (well_formed words)) (go : Go) (asked : Accepted go) where
@@ -43,7 +43,7 @@ module _ (words : List ℤ) (formed : T (well_formed words)) (go : Go) (asked : 
   fine = go_fine asked.input (asking go) asked.is
 
   pub ran : (m : Memory) → length m.table ≡ table_words → length m.waitlist ≡ most_slots → {r : Called} {t l : List ℤ}
-      → Ends_called (begin_outcome words go.settings go.capacity go.budget m) r t l → PutIn chart (explored chart (asking go)) (lent t l r.analysis)
+      → EndsCalled (begin_outcome words go.settings go.capacity go.budget m) r t l → PutIn chart (explored chart (asking go)) (lent t l r.analysis)
   ran m a b e = record { over = m; same = ends_at e (put_in chart (explored chart (asking go)) m) (ap (λ (o : Outcome). o.memory) (begin_goes words formed (asking go) fine m a b)) }
 
   abbrev w : Exploration AbstractState

@@ -1,14 +1,14 @@
 -- A line by its kind, and reading goes on by one line. Assumes nothing.
 use Rattle.semantics.proofs.Prelude.{◌≡◌, refl, ◌∙◌, Bool, true, false, List, map, ℕ, suc, ◌+◌, ◌-◌, ◌≤◌, ◌<◌, add-one, arith, length, take, drop, ℤ}
 use Rattle.semantics.specs.Text.{bytes, same_bytes, lines, fields}
-use Rattle.semantics.specs.Reading.{fail, ok, nth, So_far, nothing_read, var_line, loc_line, edge_line, judge, refused, at_end, judged}
+use Rattle.semantics.specs.Reading.{fail, ok, nth, SoFar, nothing_read, var_line, loc_line, edge_line, judge, refused, at_end, judged}
 use Rattle.text.specs.Fields.{up_to}
 use Rattle.text.proofs.LineEnds.{lines_at, lines_done}
 use Rattle.text.specs.Places.{line_at, place_after}
 use Rattle.text.specs.declared.lines.Form.{Form}
 use Rattle.text.specs.declared.lines.Line.{Line}
 use Rattle.text.proofs.Places.{Lies, line_some}
-use Rattle.reader.specs.ReadSoFar.{LineJudged, goes_on, nothing_judged, Along, Through, Goes, Stands_by, Stands, Few_of, Judgeable}
+use Rattle.reader.specs.ReadSoFar.{LineJudged, goes_on, nothing_judged, Along, Through, Goes, StandsBy, Stands, FewOf, Judgeable}
 use Rattle.reader.specs.declared.Descent.{Descent}
 use Rattle.reader.specs.declared.tally.Tally.{Tally}
 use Rattle.reader.specs.declared.tally.Judgement.{Judgement}
@@ -16,7 +16,7 @@ use Rattle.reader.specs.declared.tally.Judgement.TheVariants as judgement
 
 -- ---- by the kind
 
-module _ (s : So_far) (fs : List (List ℕ)) where
+module _ (s : SoFar) (fs : List (List ℕ)) where
   pub kind_var : same_bytes (nth fs 0) (bytes "V") ≡ true → judge s fs ≡ var_line s fs
   unfolding judge
   kind_var e = rw e
@@ -37,16 +37,16 @@ module _ (s : So_far) (fs : List (List ℕ)) where
 
 -- ---- the lines
 
-module _ (text : List ℕ) (at e n : ℕ) (s : So_far) (h : at < length text) (is : e ≡ at + up_to 10 (drop at text)) where
+module _ (text : List ℕ) (at e n : ℕ) (s : SoFar) (h : at < length text) (is : e ≡ at + up_to 10 (drop at text)) where
   pub judged_stop : {k : ℕ} → judge s (fields (take (e - at) (drop at text))) ≡ fail k → judged n s (map fields (lines (drop at text))) ≡ refused k n
   unfolding judged
   judged_stop q = rw (lines_at text at e h is, q)
 
-  pub judged_on : {t : So_far} → judge s (fields (take (e - at) (drop at text))) ≡ ok t → judged n s (map fields (lines (drop at text))) ≡ judged (n + 1) t (map fields (lines (drop (e + 1) text)))
+  pub judged_on : {t : SoFar} → judge s (fields (take (e - at) (drop at text))) ≡ ok t → judged n s (map fields (lines (drop at text))) ≡ judged (n + 1) t (map fields (lines (drop (e + 1) text)))
   unfolding judged
   judged_on q = rw (lines_at text at e h is, q, add-one n)
 
-pub judged_end : (text : List ℕ) (at n : ℕ) (s : So_far) → length text ≤ at → judged n s (map fields (lines (drop at text))) ≡ at_end s.chart
+pub judged_end : (text : List ℕ) (at n : ℕ) (s : SoFar) → length text ≤ at → judged n s (map fields (lines (drop at text))) ≡ at_end s.chart
 unfolding judged
 judged_end text at n s h = rw (lines_done text at h)
 
@@ -59,7 +59,7 @@ module _ {text : List ℕ} {at line : ℕ} {t : Tally} {rows names : List ℤ} (
 
   -- one line more
   pub line_judged : {start end next : ℕ} {form : Form} → Lies text at start end next form → (r : Judgement) (rows' names' : List ℤ) → LineJudged r (judge a.read (fields (take (end - start) (drop start text)))) rows' names'
-      → Stands_by (goes_on r) text next (line + 1) r rows' names'
+      → StandsBy (goes_on r) text next (line + 1) r rows' names'
   line_judged l (judgement.Refused k) rows' names' h = a.is ∙ judged_stop text at _ (line + 1) a.read l.here l.ends (rw l.begins at h)
   line_judged l (judgement.Passed u) rows' names' h = record {
     read = h.read;
@@ -81,7 +81,7 @@ at_first text rows names = record {
 }
 
 module _ (text : List ℕ) (at : ℕ) (rows names : List ℤ) where
-  few_now : (line : ℕ) (s : Judgement) → Goes text at line s rows names → Few_of s
+  few_now : (line : ℕ) (s : Judgement) → Goes text at line s rows names → FewOf s
   few_now line (judgement.Refused k) h = absurd h
   few_now line (judgement.Passed t) h = h.few
 

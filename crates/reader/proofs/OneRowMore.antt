@@ -6,7 +6,7 @@ use Rattle.semantics.specs.Text.{name_ok}
 use Rattle.semantics.specs.Layout.{variable_size, location_size, edge_size, high_place}
 use Rattle.semantics.specs.Chart.{Var, Loc, Edge, Chart, in_range}
 use Rattle.semantics.specs.Encoding.{var_words, loc_words, edge_words}
-use Rattle.semantics.specs.Reading.{So_far, with_var, with_loc, with_edge}
+use Rattle.semantics.specs.Reading.{SoFar, with_var, with_loc, with_edge}
 use Rattle.semantics.proofs.Bools.{both_true}
 use Rattle.semantics.proofs.ReadInBounds.{all_snoc}
 use Rattle.semantics.proofs.Encoded.{loc_wide, edge_wide}
@@ -38,7 +38,7 @@ numbers_kept {t} {ws} h a row w k fits = rw (w, a, stored_past (used_words t) ro
 
 -- ---- the rows
 
-module _ {t : Tally} {ws ws' : List ℤ} {at : ℕ} (s : So_far) (h : Rows t ws s.chart) (a : at ≡ used_words t) where
+module _ {t : Tally} {ws ws' : List ℤ} {at : ℕ} (s : SoFar) (h : Rows t ws s.chart) (a : at ≡ used_words t) where
   pub rows_var : (name : List ℕ) (v : Var) → ws' ≡ stored at (var_words v) ws → t.locs ≡ 0 → t.edges ≡ 0 → used_words t + variable_size ≤ length ws
       → Rows (record { vars = t.vars + 1; locs = 0; edges = 0 }) ws' (with_var s name v).chart
   rows_var name v w l g fits = record {

@@ -4,7 +4,7 @@ use Rattle.semantics.proofs.Prelude.{◌≡◌, refl, sym, ap, ◌∙◌, true, 
 use Rattle.semantics.specs.Lists.{is_empty}
 use Rattle.semantics.specs.Layout.{most_variables, most_locations, most_edges}
 use Rattle.semantics.specs.Chart.{Var, input, Edge, Op, Chart, in_range}
-use Rattle.semantics.specs.Reading.{Res, fail, ok, check, if_ok, nth, none_empty, number_field, target_field, op_word_field, OpWord, field_count, op_fields_read, So_far, with_edge, var_line, loc_line, edge_line}
+use Rattle.semantics.specs.Reading.{Res, fail, ok, check, if_ok, nth, none_empty, number_field, target_field, op_word_field, OpWord, field_count, op_fields_read, SoFar, with_edge, var_line, loc_line, edge_line}
 use Rattle.semantics.specs.declared.Arithmetic.TheVariants as arithmetic
 use Rattle.semantics.proofs.ReadInBounds.{location_is, target_below, ok_parts}
 use Rattle.chart.specs.Encoded.{ranged}
@@ -48,7 +48,7 @@ op_held rows c ranges (word_of.With action.If) fs = refl
 -- ---- edges
 
 -- a line with as many fields as it is to have
-pub edge_counted : {t : Tally} {ws : List ℤ} (s : So_far) → Rows t ws s.chart → (w : CodeOpWord) (fs : List (List ℕ)) → eqb (length fs) (field_count (the_word w)) ≡ true
+pub edge_counted : {t : Tally} {ws : List ℤ} (s : SoFar) → Rows t ws s.chart → (w : CodeOpWord) (fs : List (List ℕ)) → eqb (length fs) (field_count (the_word w)) ≡ true
     → edge_worded s (the_word w) fs ≡ if_ok (edge_read t.locs (op_read ws t.vars w fs) fs) (λ g. ok (with_edge s g))
 edge_counted {t} {ws} s h w fs e = check_yes _ _ e ∙ rw (h.vars, h.locs, op_held ws s.chart (λ k z l. range_held h k z (omega (arith, h.vars))) w fs)
 
@@ -64,7 +64,7 @@ edge_near m r fs {g} e =
 
 -- ---- lines
 
-module _ (s : So_far) (fs : List (List ℕ)) where
+module _ (s : SoFar) (fs : List (List ℕ)) where
   pub edge_full : most_edges ≤ length s.chart.edges → edge_line s fs ≡ fail 8
   unfolding edge_line
   edge_full h = check_no _ _ (le-ltb _ _ h)
@@ -87,7 +87,7 @@ module _ (s : So_far) (fs : List (List ℕ)) where
 
 -- ---- by the counts and the words that hold the chart
 
-module _ (s : So_far) (fs : List (List ℕ)) {t : Tally} {ws : List ℤ} (h : Rows t ws s.chart) where
+module _ (s : SoFar) (fs : List (List ℕ)) {t : Tally} {ws : List ℤ} (h : Rows t ws s.chart) where
   -- a location
   pub loc_late : (t.edges ≡ 0 → ⊥) → loc_line s fs ≡ fail 4
   unfolding loc_line

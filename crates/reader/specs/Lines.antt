@@ -6,7 +6,7 @@ use Rattle.semantics.specs.Lists.{all}
 use Rattle.semantics.specs.Text.{same_bytes, name_ok}
 use Rattle.semantics.specs.Chart.{Var, Operand, Rel, Op, assign, input, assume, skip, Edge}
 use Rattle.semantics.specs.Operations.{the_sum}
-use Rattle.semantics.specs.Reading.{Res, ok, check, if_ok, nth, filled, number_field, location_field, target_field, operand_field, init_field, kind_field, rel_field, OpWord, field_count, op_fields_read, So_far, with_var, with_loc, with_edge}
+use Rattle.semantics.specs.Reading.{Res, ok, check, if_ok, nth, filled, number_field, location_field, target_field, operand_field, init_field, kind_field, rel_field, OpWord, field_count, op_fields_read, SoFar, with_var, with_loc, with_edge}
 use Rattle.semantics.specs.declared.Arithmetic.{Arithmetic}
 use Rattle.chart.specs.Encoded.{ranged}
 use Rattle.text.specs.declared.Action.{Action}
@@ -33,7 +33,7 @@ abbrev pub var_judged : List (List ℕ) → Res Var
 var_judged fs = check (filled 5 fs) 5 (check (name_ok (nth fs 1)) 6 (var_low fs))
 
 -- the name is looked for last
-abbrev pub var_named : So_far → List ℕ → Var → Res So_far
+abbrev pub var_named : SoFar → List ℕ → Var → Res SoFar
 var_named s name v = check (all (λ m. not (same_bytes m name)) s.names) 9 (ok (with_var s name v))
 
 -- ---- `L name kind`
@@ -43,7 +43,7 @@ abbrev pub loc_judged : List (List ℕ) → Res Bool
 loc_judged fs = check (filled 3 fs) 5 (check (name_ok (nth fs 1)) 6 (kind_field (nth fs 2)))
 
 -- the name is looked for last
-abbrev pub loc_named : So_far → List ℕ → Bool → Res So_far
+abbrev pub loc_named : SoFar → List ℕ → Bool → Res SoFar
 loc_named s name k = check (all (λ m. not (same_bytes m.name name)) s.chart.locs) 9 (ok (with_loc s (record { name = name; error = k })))
 
 -- ---- `E from to operation ...`. The range of `in`'s target is looked up in the rows
@@ -97,5 +97,5 @@ abbrev pub edge_read : ℕ → Res Op → List (List ℕ) → Res Edge
 edge_read m r fs = if_ok (location_field m (nth fs 1)) λ from. with_from from m r fs
 
 -- a line whose operation is known: 5 by its count, then its fields
-abbrev pub edge_worded : So_far → OpWord → List (List ℕ) → Res So_far
+abbrev pub edge_worded : SoFar → OpWord → List (List ℕ) → Res SoFar
 edge_worded s w fs = check (eqb (length fs) (field_count w)) 5 (if_ok (edge_read (length s.chart.locs) (op_fields_read s.chart w fs) fs) λ g. ok (with_edge s g))

@@ -5,7 +5,7 @@ use Rattle.semantics.specs.Text.{name_ok, lines, fields}
 use Rattle.semantics.specs.Chart.{Loc, Chart}
 use Rattle.semantics.specs.Layout.{location_size, most_variables, most_locations, most_edges}
 use Rattle.semantics.specs.Encoding.{var_words, loc_words, edge_words}
-use Rattle.semantics.specs.Reading.{Res, fail, ok, So_far, Reading, nothing_read, refused, at_end, judged}
+use Rattle.semantics.specs.Reading.{Res, fail, ok, SoFar, Reading, nothing_read, refused, at_end, judged}
 use Rattle.text.specs.Places.{line_at, place_after}
 use Rattle.text.specs.declared.lines.Line.{Line}
 use Rattle.chart.specs.Encoded.{number_of}
@@ -60,15 +60,15 @@ pub record Names (n : ℕ) (ws : List ℤ) (names : List (List ℕ)) : Type 0 wh
   pub named : T (all name_ok names)
 
 -- a line goes on: to the counts t, the rows and the names
-pub record Gone (r : Res So_far) (t : Tally) (rows names : List ℤ) : Type 0 where
-  pub read : So_far
+pub record Gone (r : Res SoFar) (t : Tally) (rows names : List ℤ) : Type 0 where
+  pub read : SoFar
   pub is : r ≡ ok read
   pub few : Few t
   pub held : Rows t rows read.chart
   pub names_held : Names t.vars names read.names
 
 -- what the code answers to a line that comes to r, and what it leaves
-abbrev pub LineJudged : Judgement → Res So_far → List ℤ → List ℤ → Type 0
+abbrev pub LineJudged : Judgement → Res SoFar → List ℤ → List ℤ → Type 0
 LineJudged (judgement.Refused k) r rows names = r ≡ fail k
 LineJudged (judgement.Passed t) r rows names = Gone r t rows names
 
@@ -89,7 +89,7 @@ nothing_judged = record { going = true; line = 0; last = judgement.Passed (recor
 
 -- so many lines are judged, and the reader is at the place `at`: what was read so far, and what is left
 pub record Along (text : List ℕ) (at line : ℕ) (t : Tally) (rows names : List ℤ) : Type 0 where
-  pub read : So_far
+  pub read : SoFar
   pub few : Few t
   pub held : Rows t rows read.chart
   pub names_held : Names t.vars names read.names
@@ -114,24 +114,24 @@ Came text line (judgement.Refused k) rows = lines_judged text ≡ refused k line
 Came text line (judgement.Passed t) rows = Through text t rows
 
 -- where reading stands, by whether it goes on
-abbrev pub Stands_by : Bool → List ℕ → ℕ → ℕ → Judgement → List ℤ → List ℤ → Type 0
-Stands_by true text at line s rows names = Goes text at line s rows names
-Stands_by false text at line s rows names = Came text line s rows
+abbrev pub StandsBy : Bool → List ℕ → ℕ → ℕ → Judgement → List ℤ → List ℤ → Type 0
+StandsBy true text at line s rows names = Goes text at line s rows names
+StandsBy false text at line s rows names = Came text line s rows
 
 -- where reading stands, with the reader at the place `at`
 abbrev pub Stands : List ℕ → ℕ → Descent → List ℤ → List ℤ → Type 0
-Stands text at p rows names = Stands_by p.going text at p.line p.last rows names
+Stands text at p rows names = StandsBy p.going text at p.line p.last rows names
 
 -- the counts of a line that went on are no more than a chart has
-abbrev pub Few_of : Judgement → Type 0
-Few_of (judgement.Refused k) = Unit {0}
-Few_of (judgement.Passed t) = Few t
+abbrev pub FewOf : Judgement → Type 0
+FewOf (judgement.Refused k) = Unit {0}
+FewOf (judgement.Passed t) = Few t
 
 -- what it takes to judge l: it is a line of the text, and the counts are those of lines before it
 pub record Judgeable (text : List ℕ) (p : Descent) (l : Line) : Type 0 where
   pub at : ℕ
   pub is : l ≡ line_at text at
-  pub few : Few_of p.last
+  pub few : FewOf p.last
   pub counted : p.line ≤ at
 
 -- by the line l reading goes from p to r, and comes to no other line where there is none

@@ -2,7 +2,7 @@
 ghost use Rattle.std.specs.Prelude.{◌≡◌, List, ◌<◌, ℤ, length};
 ghost use Rattle.semantics.specs.Layout.{most_edges};
 ghost use Rattle.semantics.specs.Text.{fields};
-ghost use Rattle.semantics.specs.Reading.{So_far, edge_line};
+ghost use Rattle.semantics.specs.Reading.{SoFar, edge_line};
 ghost use Rattle.semantics.specs.Reading.{field_count};
 ghost use Rattle.text.specs.Fields.{the_word, field_at};
 ghost use Rattle.text.specs.Places.{form_of};
@@ -110,7 +110,7 @@ fn worded(
     at: EdgeFields,
 ) -> Judgement
     requires { Few t × (t.edges < most_edges) × (length rows.old ≡ most_rows) × (count ≡ length (fields line.now)) × (at ≡ edge_fields line.now) }
-    ensures { (s : So_far) (names : List ℤ) → Rows t rows.old s.chart → Names t.vars names s.names → LineJudged result (edge_worded s (the_word w) (fields line.now)) rows.new names }
+    ensures { (s : SoFar) (names : List ℤ) → Rows t rows.old s.chart → Names t.vars names s.names → LineJudged result (edge_worded s (the_word w) (fields line.now)) rows.new names }
 {
     if count != field_count(w) {
         return Judgement::Refused(5);
@@ -143,7 +143,7 @@ fn find_fields(line: &[u8], kind: Field) -> EdgeFields
 // An E line. How many fields it has goes by its operation, so that this is read first.
 pub fn read_line(t: Tally, rows: &mut [i32], line: &[u8], form: Form, kind: Field) -> Judgement
     requires { Few t × (length rows.old ≡ most_rows) × (form ≡ form_of line.now) × (kind ≡ field_at line.now 0) }
-    ensures { (s : So_far) (names : List ℤ) → Rows t rows.old s.chart → Names t.vars names s.names → LineJudged result (edge_line s (fields line.now)) rows.new names }
+    ensures { (s : SoFar) (names : List ℤ) → Rows t rows.old s.chart → Names t.vars names s.names → LineJudged result (edge_line s (fields line.now)) rows.new names }
 {
     if MOST_EDGES <= t.edges {
         return Judgement::Refused(8);

@@ -7,7 +7,7 @@
 ghost use Rattle.std.specs.Prelude.{◌≡◌, length};
 ghost use Rattle.semantics.specs.Text.{fields};
 ghost use Rattle.semantics.specs.Chart.{Chart};
-ghost use Rattle.semantics.specs.Reading.{So_far, judge, at_end, refused_at, bad_byte_line, open_line};
+ghost use Rattle.semantics.specs.Reading.{SoFar, judge, at_end, refused_at, bad_byte_line, open_line};
 ghost use Rattle.semantics.specs.Outcomes.{chart_outcome, held_by, read_outcome};
 ghost use Rattle.text.specs.Places.{form_of};
 ghost use Rattle.reader.specs.ReadSoFar.{Few, Rows, Names, LineJudged, lines_judged, goes_on, nothing_judged, Came, Judgeable, Advanced, most_rows, most_names};
@@ -60,7 +60,7 @@ fn judge_line(
     form: text::lines::Form,
 ) -> Judgement
     requires { Few t × (length rows.old ≡ most_rows) × (length names.old ≡ most_names) × (form ≡ form_of line.now) }
-    ensures { (s : So_far) → Rows t rows.old s.chart → Names t.vars names.old s.names → LineJudged result (judge s (fields line.now)) rows.new names.new }
+    ensures { (s : SoFar) → Rows t rows.old s.chart → Names t.vars names.old s.names → LineJudged result (judge s (fields line.now)) rows.new names.new }
 {
     let first = text::first_field(line);
     let kind = text::field_bytes(line, first);

@@ -2,7 +2,7 @@
 ghost use Rattle.std.specs.Prelude.{◌≡◌, T, List, ◌<◌, ℤ, length};
 ghost use Rattle.semantics.specs.Layout.{most_locations};
 ghost use Rattle.semantics.specs.Text.{fields, name_ok};
-ghost use Rattle.semantics.specs.Reading.{So_far, loc_line};
+ghost use Rattle.semantics.specs.Reading.{SoFar, loc_line};
 ghost use Rattle.text.specs.Fields.{kind_res, field_at};
 ghost use Rattle.text.specs.Places.{form_of};
 ghost use Rattle.reader.specs.Lines.{loc_judged, loc_named};
@@ -31,7 +31,7 @@ fn judged(line: &[u8], form: Form, name: Field) -> text::KindRead
 // A location, if its name is new; the name's number is kept, so that it is computed once.
 fn named(t: Tally, rows: &mut [i32], error: bool, name: &[u8]) -> Judgement
     requires { T (name_ok name.now) × Few t × (t.locs < most_locations) × (t.edges ≡ 0) × (length rows.old ≡ most_rows) }
-    ensures { (s : So_far) (names : List ℤ) → Rows t rows.old s.chart → Names t.vars names s.names → LineJudged result (loc_named s name.now error) rows.new names }
+    ensures { (s : SoFar) (names : List ℤ) → Rows t rows.old s.chart → Names t.vars names s.names → LineJudged result (loc_named s name.now error) rows.new names }
 {
     let first = chart::rows_size(t.vars, 0, 0);
     let at = used_words(t);
@@ -57,7 +57,7 @@ fn named(t: Tally, rows: &mut [i32], error: bool, name: &[u8]) -> Judgement
 // An L line, which stands before every E.
 pub fn read_line(t: Tally, rows: &mut [i32], line: &[u8], form: Form, kind: Field) -> Judgement
     requires { Few t × (length rows.old ≡ most_rows) × (form ≡ form_of line.now) × (kind ≡ field_at line.now 0) }
-    ensures { (s : So_far) (names : List ℤ) → Rows t rows.old s.chart → Names t.vars names s.names → LineJudged result (loc_line s (fields line.now)) rows.new names }
+    ensures { (s : SoFar) (names : List ℤ) → Rows t rows.old s.chart → Names t.vars names s.names → LineJudged result (loc_line s (fields line.now)) rows.new names }
 {
     if t.edges != 0 {
         return Judgement::Refused(4);

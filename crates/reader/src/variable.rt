@@ -2,7 +2,7 @@
 ghost use Rattle.std.specs.Prelude.{◌≡◌, T, ◌<◌, length};
 ghost use Rattle.semantics.specs.Layout.{most_variables};
 ghost use Rattle.semantics.specs.Text.{fields, name_ok};
-ghost use Rattle.semantics.specs.Reading.{So_far, var_line};
+ghost use Rattle.semantics.specs.Reading.{SoFar, var_line};
 ghost use Rattle.text.specs.Fields.{field_at};
 ghost use Rattle.text.specs.Places.{form_of};
 ghost use Rattle.reader.specs.Answers.{var_of, var_res};
@@ -88,7 +88,7 @@ fn judged(line: &[u8], form: Form, name: Field) -> VarLine
 // A variable, if its name is new. The name is kept as a location's is, so that one function looks for both.
 fn named(t: Tally, rows: &mut [i32], names: &mut [i32], v: VarRow, name: &[u8]) -> Judgement
     requires { T (name_ok name.now) × (t.vars < most_variables) × (t.locs ≡ 0) × (t.edges ≡ 0) × (length rows.old ≡ most_rows) × (length names.old ≡ most_names) }
-    ensures { (s : So_far) → Rows t rows.old s.chart → Names t.vars names.old s.names → LineJudged result (var_named s name.now (var_of v)) rows.new names.new }
+    ensures { (s : SoFar) → Rows t rows.old s.chart → Names t.vars names.old s.names → LineJudged result (var_named s name.now (var_of v)) rows.new names.new }
 {
     let at = chart::LOCATION_SIZE * t.vars;
     chart::put_location(names, at, false, name);
@@ -113,7 +113,7 @@ pub fn read_line(
     kind: Field,
 ) -> Judgement
     requires { Few t × (length rows.old ≡ most_rows) × (length names.old ≡ most_names) × (form ≡ form_of line.now) × (kind ≡ field_at line.now 0) }
-    ensures { (s : So_far) → Rows t rows.old s.chart → Names t.vars names.old s.names → LineJudged result (var_line s (fields line.now)) rows.new names.new }
+    ensures { (s : SoFar) → Rows t rows.old s.chart → Names t.vars names.old s.names → LineJudged result (var_line s (fields line.now)) rows.new names.new }
 {
     if t.locs != 0 {
         return Judgement::Refused(4);

@@ -4,7 +4,7 @@ use Rattle.semantics.specs.Lists.{all, pick, is_empty}
 use Rattle.semantics.specs.Layout.{most_bytes, most_edges, most_locations, most_variables}
 use Rattle.semantics.specs.Text.{between, name_ok, same_bytes, natural_of, nonnegative, number_of, lines, fields}
 use Rattle.semantics.specs.Chart.{Value, known, top, Var, Loc, Operand, num, var, Op, assign, add, sub, input, assume, skip, Edge, Chart, within, in_range, small}
-use Rattle.semantics.specs.Reading.{Reading, refused, accepted, Res, fail, ok, check, if_ok, small_or, below_or, location_field, target_field, operand_field, init_field, OpWord, do_set, do_add, do_sub, do_in, do_if, do_skip, So_far, nth, with_var, with_loc, with_edge, var_line, loc_line, op_fields_read, edge_line, judge, onward, judged, nothing_read, bad_byte_line, open_line, refused_at, read, number_field}
+use Rattle.semantics.specs.Reading.{Reading, refused, accepted, Res, fail, ok, check, if_ok, small_or, below_or, location_field, target_field, operand_field, init_field, OpWord, do_set, do_add, do_sub, do_in, do_if, do_skip, SoFar, nth, with_var, with_loc, with_edge, var_line, loc_line, op_fields_read, edge_line, judge, onward, judged, nothing_read, bad_byte_line, open_line, refused_at, read, number_field}
 use Rattle.semantics.specs.Encoding.{init_ok, var_ok, distinct_names, operand_ok, op_ok, edge_ok, chart_ok}
 use Rattle.semantics.proofs.AtAndIn.{clash}
 use Rattle.semantics.proofs.Bools.{and_left, and_right, both_true}
@@ -157,7 +157,7 @@ record Sound (c : Chart) : Type 0 where
   distinct : T (distinct_names c.locs)
   edges : T (all (edge_ok c) c.edges)
 
-var_sound : (s t : So_far) (fs : List (List ℕ)) → var_line s fs ≡ ok t → Sound s.chart → Sound t.chart
+var_sound : (s t : SoFar) (fs : List (List ℕ)) → var_line s fs ≡ ok t → Sound s.chart → Sound t.chart
 unfolding var_line
 var_sound s t fs e h =
     let k₁ = check_ok _ _ _ e in
@@ -172,7 +172,7 @@ var_sound s t fs e h =
     let v : Var = record { lo = lo.0; hi = hi.0; init = x.0 } in
     let p : with_var s (nth fs 1) v ≡ t = cc k₆.1 in
     let good : T (var_ok v) = both_true (small lo.0 && small hi.0 && le_z lo.0 hi.0) (init_ok lo.0 hi.0 x.0) (and3 (small lo.0) (small hi.0) (le_z lo.0 hi.0) (number_small (nth fs 2) lo.0 lo.1) (number_small (nth fs 3) hi.0 hi.1) k₅.0) (init_is lo.0 hi.0 (nth fs 4) x.0 x.1) in
-    subst (λ (y : So_far). Sound y.chart) p (record {
+    subst (λ (y : SoFar). Sound y.chart) p (record {
       few_vars = omega (arith, length-append s.chart.vars (v ∷ []), ltb→lt (length s.chart.vars) most_variables k₂.0);
       few_locs = h.few_locs;
       few_edges = h.few_edges;
@@ -182,7 +182,7 @@ var_sound s t fs e h =
       edges = no_edges (with_var s (nth fs 1) v).chart s.chart.edges (and_right (is_empty s.chart.locs) (is_empty s.chart.edges) k₁.0);
     })
 
-loc_sound : (s t : So_far) (fs : List (List ℕ)) → loc_line s fs ≡ ok t → Sound s.chart → Sound t.chart
+loc_sound : (s t : SoFar) (fs : List (List ℕ)) → loc_line s fs ≡ ok t → Sound s.chart → Sound t.chart
 unfolding loc_line
 loc_sound s t fs e h =
     let k₁ = check_ok _ _ _ e in
@@ -193,7 +193,7 @@ loc_sound s t fs e h =
     let k₅ = check_ok _ _ _ k.2 in
     let l : Loc = record { name = nth fs 1; error = k.0 } in
     let p : with_loc s l ≡ t = cc k₅.1 in
-    subst (λ (y : So_far). Sound y.chart) p (record {
+    subst (λ (y : SoFar). Sound y.chart) p (record {
       few_vars = h.few_vars;
       few_locs = omega (arith, length-append s.chart.locs (l ∷ []), ltb→lt (length s.chart.locs) most_locations k₂.0);
       few_edges = h.few_edges;
@@ -203,7 +203,7 @@ loc_sound s t fs e h =
       edges = no_edges (with_loc s l).chart s.chart.edges k₁.0;
     })
 
-edge_sound : (s t : So_far) (fs : List (List ℕ)) → edge_line s fs ≡ ok t → Sound s.chart → Sound t.chart
+edge_sound : (s t : SoFar) (fs : List (List ℕ)) → edge_line s fs ≡ ok t → Sound s.chart → Sound t.chart
 unfolding edge_line
 edge_sound s t fs e h =
     let k₁ = check_ok _ _ _ e in
@@ -216,7 +216,7 @@ edge_sound s t fs e h =
     let g : Edge = record { from = f.0; to = u.0; op = o.0 } in
     let p : with_edge s g ≡ t = cc o.2 in
     let good : T (edge_ok s.chart g) = and3 (ltb f.0 (length s.chart.locs)) (ltb u.0 (length s.chart.locs)) (op_ok s.chart.vars o.0) (location_is (length s.chart.locs) (nth fs 1) f.0 f.1) (location_is (length s.chart.locs) (nth fs 2) u.0 u.1) (op_is s.chart w.0 fs o.0 o.1) in
-    subst (λ (y : So_far). Sound y.chart) p (record {
+    subst (λ (y : SoFar). Sound y.chart) p (record {
       few_vars = h.few_vars;
       few_locs = h.few_locs;
       few_edges = omega (arith, length-append s.chart.edges (g ∷ []), ltb→lt (length s.chart.edges) most_edges k₁.0);
@@ -226,7 +226,7 @@ edge_sound s t fs e h =
       edges = all_snoc (edge_ok s.chart) s.chart.edges g h.edges good;
     })
 
-judge_sound : (s t : So_far) (fs : List (List ℕ)) → judge s fs ≡ ok t → Sound s.chart → Sound t.chart
+judge_sound : (s t : SoFar) (fs : List (List ℕ)) → judge s fs ≡ ok t → Sound s.chart → Sound t.chart
 unfolding judge
 judge_sound s t fs e h = go (same_bytes (nth fs 0) (86 ∷ [])) (same_bytes (nth fs 0) (76 ∷ [])) (same_bytes (nth fs 0) (69 ∷ [])) e
   where
@@ -241,7 +241,7 @@ judge_sound s t fs e h = go (same_bytes (nth fs 0) (86 ∷ [])) (same_bytes (nth
 pub refused_not : {n l : ℕ} {c : Chart} → refused n l ≡ accepted c → ⊥
 refused_not e = clash cc
 
-judged_ok : (ls : List (List (List ℕ))) (n : ℕ) (s : So_far) (c : Chart) → Sound s.chart → judged n s ls ≡ accepted c → Sound c × (1 ≤ length c.locs)
+judged_ok : (ls : List (List (List ℕ))) (n : ℕ) (s : SoFar) (c : Chart) → Sound s.chart → judged n s ls ≡ accepted c → Sound c × (1 ≤ length c.locs)
 unfolding judged
 judged_ok [] n s c h e = go s.chart.locs refl e
   where
@@ -250,8 +250,8 @@ judged_ok [] n s c h e = go s.chart.locs refl e
     go (l ∷ ls) q e = let p : s.chart ≡ c = cc in (subst Sound p h, subst (λ (x : Chart). 1 ≤ length x.locs) p (omega (arith, ap length q)))
 judged_ok (l ∷ ls) n s c h e = go (judge s l) refl e (judged_ok ls (suc n))
   where
-    go : (r : Res So_far) → judge s l ≡ r → onward n r (λ t. judged (suc n) t ls) ≡ accepted c
-        → ((t : So_far) (c : Chart) → Sound t.chart → judged (suc n) t ls ≡ accepted c → Sound c × (1 ≤ length c.locs)) → Sound c × (1 ≤ length c.locs)
+    go : (r : Res SoFar) → judge s l ≡ r → onward n r (λ t. judged (suc n) t ls) ≡ accepted c
+        → ((t : SoFar) (c : Chart) → Sound t.chart → judged (suc n) t ls ≡ accepted c → Sound c × (1 ≤ length c.locs)) → Sound c × (1 ≤ length c.locs)
     go (fail k) q e ih = absurd (refused_not e)
     go (ok t) q e ih = ih t c (judge_sound s t l q h) e
 

@@ -4,7 +4,7 @@ use Rattle.semantics.specs.Lists.{all, is_empty}
 use Rattle.semantics.specs.Layout.{most_edges, most_locations, most_variables}
 use Rattle.semantics.specs.Text.{decimal, decimal_z, between, name_byte, name_ok, same_bytes}
 use Rattle.semantics.specs.Chart.{Value, known, top, Var, Loc, Operand, num, var, Rel, eq, ne, lt, le, gt, ge, Op, assign, add, sub, input, assume, skip, Edge, Chart, within, in_range, small}
-use Rattle.semantics.specs.Reading.{ok, check, if_ok, location_field, target_field, operand_field, init_field, kind_field, rel_text, rel_field, OpWord, do_set, do_add, do_sub, do_in, do_if, do_skip, op_word_field, field_count, So_far, nth, none_empty, var_line, loc_line, op_fields_read, edge_line, judge, at_end, judged, number_field, kind_text}
+use Rattle.semantics.specs.Reading.{ok, check, if_ok, location_field, target_field, operand_field, init_field, kind_field, rel_text, rel_field, OpWord, do_set, do_add, do_sub, do_in, do_if, do_skip, op_word_field, field_count, SoFar, nth, none_empty, var_line, loc_line, op_fields_read, edge_line, judge, at_end, judged, number_field, kind_text}
 use Rattle.semantics.specs.Encoding.{init_ok, var_ok, distinct_names, operand_ok, op_ok, edge_ok}
 use Rattle.semantics.specs.Rendering.{operand_text, var_fields, loc_fields, op_fields, edge_fields, vars_fields}
 use Rattle.semantics.specs.Listing.{val_text}
@@ -127,17 +127,17 @@ module _ (x y z : List ℕ) where
 
 -- ---- lines, one after another
 
-abbrev pub Steps : So_far → List (List (List ℕ)) → So_far → Type 0
+abbrev pub Steps : SoFar → List (List (List ℕ)) → SoFar → Type 0
 Steps s [] t = s ≡ t
-Steps s (l ∷ ls) t = (u : So_far) × (judge s l ≡ ok u) × Steps u ls t
+Steps s (l ∷ ls) t = (u : SoFar) × (judge s l ≡ ok u) × Steps u ls t
 
-pub steps_append : (ls ms : List (List (List ℕ))) (s t u : So_far) → Steps s ls t → Steps t ms u → Steps s (ls ++ ms) u
-steps_append [] ms s t u p q = subst (λ (x : So_far). Steps x ms u) (sym p) q
+pub steps_append : (ls ms : List (List (List ℕ))) (s t u : SoFar) → Steps s ls t → Steps t ms u → Steps s (ls ++ ms) u
+steps_append [] ms s t u p q = subst (λ (x : SoFar). Steps x ms u) (sym p) q
 steps_append (l ∷ ls) ms s t u p q = (p.0, p.1, steps_append ls ms p.0 t u p.2 q)
 
-pub steps_judged : (ls : List (List (List ℕ))) (n : ℕ) (s t : So_far) → Steps s ls t → judged n s ls ≡ at_end t.chart
+pub steps_judged : (ls : List (List (List ℕ))) (n : ℕ) (s t : SoFar) → Steps s ls t → judged n s ls ≡ at_end t.chart
 unfolding judged
-steps_judged [] n s t p = ap (λ (x : So_far). at_end x.chart) p
+steps_judged [] n s t p = ap (λ (x : SoFar). at_end x.chart) p
 steps_judged (l ∷ ls) n s t p = rw p.1 (steps_judged ls (suc n) p.0 t p.2)
 
 -- variables
@@ -158,7 +158,7 @@ made_name i l = rw (in_between 97 122 (97 + i) (omega arith) (omega arith)) (go 
     go true b d = refl
     go false b d = refl
 
-abbrev pub vars_so_far : ℕ → List Var → So_far
+abbrev pub vars_so_far : ℕ → List Var → SoFar
 vars_so_far i vs = record { names = made i; chart = record { vars = vs; locs = []; edges = [] } }
 
 var_back : (i : ℕ) (pre : List Var) (v : Var) → i < most_variables → length pre < most_variables → T (var_ok v) → T (all (λ m. not (same_bytes m ((97 + i) ∷ []))) (made i)) → judge (vars_so_far i pre) (var_fields i v) ≡ ok (vars_so_far (suc i) (pre ++ (v ∷ [])))
@@ -215,7 +215,7 @@ name_filled : (n : List ℕ) → T (name_ok n) → is_empty n ≡ false
 name_filled [] t = absurd t
 name_filled (b ∷ bs) t = refl
 
-abbrev pub locs_so_far : List (List ℕ) → List Var → List Loc → So_far
+abbrev pub locs_so_far : List (List ℕ) → List Var → List Loc → SoFar
 locs_so_far ns vs ls = record { names = ns; chart = record { vars = vs; locs = ls; edges = [] } }
 
 module _ (ns : List (List ℕ)) (vs : List Var) where
@@ -244,7 +244,7 @@ module _ (ns : List (List ℕ)) (vs : List Var) where
 
 -- edges
 module _ (ns : List (List ℕ)) (c : Chart) where
-  abbrev pub edges_so_far : List Edge → So_far
+  abbrev pub edges_so_far : List Edge → SoFar
   edges_so_far gs = record { names = ns; chart = record { vars = c.vars; locs = c.locs; edges = gs } }
 
   edge_back : (pre : List Edge) (g : Edge) → length pre < most_edges → T (edge_ok c g) → judge (edges_so_far pre) (edge_fields g) ≡ ok (edges_so_far (pre ++ (g ∷ [])))

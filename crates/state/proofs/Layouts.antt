@@ -1,5 +1,5 @@
 -- The layout of a chart's tables, and the words of a row by place. Assumes nothing.
-use Rattle.semantics.proofs.Prelude.{◌≡◌, refl, sym, ap, subst, ◌∙◌, List, [], ◌∷◌, take, drop, zero, suc, ◌+◌, ℕ, ◌*◌, ◌≤◌, ◌<◌, arith, lt-ltb, ℤ, pos}
+use Rattle.semantics.proofs.Prelude.{◌≡◌, refl, sym, ap, subst, ◌∙◌, List, ◌∷◌, take, drop, zero, suc, ◌+◌, ℕ, ◌*◌, ◌≤◌, ◌<◌, arith, lt-ltb, ℤ, pos}
 use Rattle.semantics.specs.Chart.{Chart}
 use Rattle.semantics.specs.Layout.{origin_size}
 use Rattle.semantics.specs.Encoding.{decode}

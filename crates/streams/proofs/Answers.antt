@@ -1,7 +1,6 @@
 -- What an answer of read or write says to a loop that has moved some of the bytes: it goes on, or it stops. Assumes nothing.
 use Rattle.semantics.proofs.Prelude.{◌≡◌, sym, subst, true, false, List, ℕ, zero, suc, ◌+◌, ◌-◌, ◌≤◌, ◌<◌, arith, T, leb→le, ℤ, pos, negsuc, nat_abs, length, take, drop, length-drop, length-take-le, le_z, non_neg, w64, Fits, SFits, to_z, of_z, to_z-of_z}
-use Rattle.libc.specs.Io.{Moved}
-use Rattle.streams.specs.StreamEnd.{Stops}
+use Rattle.streams.specs.StreamEnd.{Moved, Stops}
 
 -- what a call answered for n bytes still holds of a local that was given the answer
 pub answered : {n m : ℕ} {z : ℤ} → SFits w64 z → n ≡ m → Moved n z → Moved m (to_z w64 (of_z w64 z))

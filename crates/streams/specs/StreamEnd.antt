@@ -2,6 +2,11 @@
 use Rattle.std.specs.Prelude.{◌≡◌, ℕ, zero, suc, ◌≤◌, ◌<◌, ℤ, pos, negsuc}
 use Rattle.streams.specs.declared.StreamEnd.{StreamEnd}
 
+-- what a call that is handed n bytes may answer: -1, or how many bytes it moved, at most n
+abbrev pub Moved : ℕ → ℤ → Type 0
+Moved n (pos k) = k ≤ n
+Moved n (negsuc k) = k ≡ 0
+
 -- why a loop over size bytes stopped, by its count and the last call's answer: 0 or below while some were left, or the
 -- call that moved the last of them. Where there are none no call is made, and 0 is reported
 abbrev pub Stops : ℕ → ℕ → ℤ → Type 0

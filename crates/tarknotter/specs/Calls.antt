@@ -22,7 +22,7 @@ abbrev pub record_after : Record → Answer → Analysis → Record
 record_after before answer a = pick (eqb answer.number 0) (record_of a) before
 
 -- a call lent the record `before`
-pub record Ends_by_codes (o : Outcome) (before : Record) (r : Called) (t l : List ℤ) : Type 0 where
+pub record EndsByCodes (o : Outcome) (before : Record) (r : Called) (t l : List ℤ) : Type 0 where
   pub reply : r.reply ≡ as_reply o.answer
   pub after : r.record ≡ record_after before o.answer o.memory.analysis
   pub table : t ≡ o.memory.table

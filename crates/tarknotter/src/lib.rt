@@ -8,7 +8,7 @@ ghost use Rattle.semantics.specs.Outcomes.{read_outcome, run_outcome, listing_ou
 ghost use Rattle.checks.specs.Form.{lent};
 ghost use Rattle.tarknotter.specs.Replies.{as_reply};
 ghost use Rattle.tarknotter.specs.Records.{mode_code, order_code, verdict_code, record_of, mode_in, order_in, verdict_in, settings_in, settings_named, codes_named, analysis_in};
-ghost use Rattle.tarknotter.specs.Calls.{begin_by_codes, record_after, Ends_by_codes};
+ghost use Rattle.tarknotter.specs.Calls.{begin_by_codes, record_after, EndsByCodes};
 
 use semantics::{Analysis, EdgeId, Mode, Order, Settings, Verdict};
 
@@ -241,7 +241,7 @@ pub extern "C" fn tarknotter_begin(
     table: &mut [i32],
     list: &mut [i32],
 ) -> Called
-    ensures { Ends_by_codes (begin_by_codes chart.now merge stop order capacity budget (lent table.old list.old (analysis_in «record»))) «record» result table.new list.new }
+    ensures { EndsByCodes (begin_by_codes chart.now merge stop order capacity budget (lent table.old list.old (analysis_in «record»))) «record» result table.new list.new }
 {
     if !settings_named(merge, stop, order) {
         return Called {
@@ -273,7 +273,7 @@ pub extern "C" fn tarknotter_run(
     table: &mut [i32],
     list: &mut [i32],
 ) -> Called
-    ensures { Ends_by_codes (run_outcome chart.now budget (lent table.old list.old (analysis_in «record»))) «record» result table.new list.new }
+    ensures { EndsByCodes (run_outcome chart.now budget (lent table.old list.old (analysis_in «record»))) «record» result table.new list.new }
 {
     answered(
         record,

@@ -3,68 +3,150 @@
 // arguments ask that of `program::command`; no contract can speak of what the system reads and writes.
 #![tactic(auto)]
 
-use libc::{STDERR_FILENO, STDIN_FILENO};
+ghost use Rattle.std.specs.Prelude.{◌≤◌, length};
+
 use semantics::{Command, View};
+use std::env::{Env, FillError};
+use std::io;
+use std::io::{IsTerminal, Read, Stderr, Stdin, Stdout, Write};
 use streams::StreamEnd;
 
 // Linux hands over no longer argument: MAX_ARG_STRLEN, which counts the 0 at its end.
 const LONGEST_ARGUMENT: usize = 131072;
 
+// The longest text that the system has of a failure, with room to spare.
+const REASON: usize = 256;
+
+// What the program reads from and writes to.
+#[derive(Drop)]
+struct Streams {
+    input: Stdin,
+    output: Stdout,
+    errors: Stderr,
+}
+
+// What cannot be said there cannot be said at all.
+fn say(errors: &mut Stderr, bytes: &[u8]) {
+    streams::write_all(errors, bytes);
+}
+
+// The system's text of a failure, before the number that std puts behind it in brackets.
+fn reason_length(text: &[u8]) -> usize
+    ensures { result ≤ length text.now }
+{
+    let mut end = text.len();
+    while end > 0 {
+        end -= 1;
+        if text[end] == b'(' {
+            return if end > 0 { end - 1 } else { 0 };
+        }
+    }
+    text.len()
+}
+
+// Says what failed, and why.
+fn fail(errors: &mut Stderr, what: &[u8], failure: Option<io::Error>) {
+    say(errors, what);
+    if let Some(error) = failure {
+        let mut text = [0u8; REASON];
+        let mut rest: &mut [u8] = &mut text;
+        let _ = write!(rest, "{error}");
+        let left = rest.len();
+        let end = reason_length(&text[..REASON - left]);
+        say(errors, b": ");
+        say(errors, &text[..end]);
+    }
+    say(errors, b"\n");
+}
+
 // Writes it to standard output, or says why not. A program has no exit status to say so.
-fn print(bytes: &[u8]) {
-    let written = streams::write_all(bytes);
+fn print(streams: &mut Streams, bytes: &[u8]) {
+    let written = streams::write_all(&mut streams.output, bytes);
     if written.last < 0 {
-        os::fail(b"walk: standard output");
+        fail(
+            &mut streams.errors,
+            b"walk: standard output",
+            written.failure,
+        );
     } else if written.count < bytes.len() {
-        io::write_all(STDERR_FILENO, b"walk: standard output takes no more\n");
+        say(
+            &mut streams.errors,
+            b"walk: standard output takes no more\n",
+        );
     }
 }
 
 // On a terminal it first says what it waits for. A failed read is no end of the input: there is then no answer.
-fn read_input(awaited: &[u8], input: &mut [u8; program::INPUT]) -> StreamEnd {
-    if libc::isatty(STDIN_FILENO) == 1 {
-        io::write_all(STDERR_FILENO, b"walk: type ");
-        io::write_all(STDERR_FILENO, awaited);
-        io::write_all(
-            STDERR_FILENO,
+fn read_input(
+    streams: &mut Streams,
+    awaited: &[u8],
+    input: &mut [u8; program::INPUT],
+) -> StreamEnd {
+    if streams.input.is_terminal() {
+        say(&mut streams.errors, b"walk: type ");
+        say(&mut streams.errors, awaited);
+        say(
+            &mut streams.errors,
             b", then Ctrl-D on a line of its own; `walk help` has an example\n",
         );
     }
-    let read = streams::read_all(input);
+    let read = streams::read_all(&mut streams.input, input);
     if read.last < 0 {
-        os::fail(b"walk: standard input");
+        fail(&mut streams.errors, b"walk: standard input", read.failure);
     }
     read
 }
 
-fn show(view: View) {
+fn show(streams: &mut Streams, view: View) {
     let mut input = [0u8; program::INPUT];
-    let read = read_input(b"a go line and a chart", &mut input);
+    let read = read_input(streams, b"a go line and a chart", &mut input);
     if read.last < 0 {
         return;
     }
     let mut out = [0u8; semantics::LISTING_BYTES];
     let length = program::respond_to(view, &input, read.count, &mut out);
-    print(&out[..length]);
+    print(streams, &out[..length]);
 }
 
 // The second argument is the count of moves, which is judged before the chart, but after both were read.
-fn search() {
+fn search<R: Env>(rt: &R, streams: &mut Streams) {
     let mut argument = [0u8; LONGEST_ARGUMENT];
-    let end = os::arg(2, &mut argument);
+    let end = argument_in(rt, 2, &mut argument);
     let mut input = [0u8; program::INPUT];
-    let read = read_input(b"a chart without a go line", &mut input);
+    let read = read_input(streams, b"a chart without a go line", &mut input);
     if read.last < 0 {
         return;
     }
     let mut out = [0u8; semantics::LISTING_BYTES];
     let length = program::respond_search_to(&argument[..end], &input, read.count, &mut out);
-    print(&out[..length]);
+    print(streams, &out[..length]);
+}
+
+// The argument's bytes at the start of the buffer, and how many there are: 0 where it is missing or does not fit.
+fn argument_in<R: Env>(rt: &R, i: usize, buf: &mut [u8]) -> usize
+    ensures { result ≤ length buf.old }
+{
+    match rt.arg(i, buf) {
+        Ok(length) => length,
+        Err(_) => 0,
+    }
+}
+
+// How many arguments follow the program's name.
+fn arguments_given<R: Env>(rt: &R) -> usize {
+    let mut first = [0u8; 1];
+    for i in 1..usize::MAX {
+        if let Err(FillError::NotPresent) = rt.arg(i, &mut first) {
+            return i - 1;
+        }
+    }
+    usize::MAX - 1
 }
 
 // Its example is tried by tests/program/tests/arguments.rs.
-fn help() {
+fn help(streams: &mut Streams) {
     print(
+        streams,
         b"walk            reads a go line and a chart, and prints every entry that is reached\n\
           walk path       reads the same, and prints the path to the alarm\n\
           walk search K   reads a chart without a go line, and prints a shortest run of at most K moves (0 to 8) into a bad location or an overrun\n\
@@ -90,18 +172,22 @@ fn help() {
 }
 
 // The first argument is the program's name.
-fn main() {
+fn main(rt: HostRuntime) {
+    let mut streams = Streams {
+        input: rt.stdin(),
+        output: rt.stdout(),
+        errors: rt.stderr(),
+    };
     let mut first = [0u8; program::ARGUMENT];
-    let length = os::arg(1, &mut first);
-    let count = os::arg_count();
-    let given = if count == 0 { 0 } else { count - 1 };
+    let length = argument_in(&rt, 1, &mut first);
+    let given = arguments_given(&rt);
     match program::command(given, &first, length) {
-        Command::Show(view) => show(view),
-        Command::Search => search(),
-        Command::Help => help(),
+        Command::Show(view) => show(&mut streams, view),
+        Command::Search => search(&rt, &mut streams),
+        Command::Help => help(&mut streams),
         Command::Unknown => {
-            io::write_all(
-                STDERR_FILENO,
+            say(
+                &mut streams.errors,
                 b"walk: no such command; `walk help` says what there is\n",
             );
         }

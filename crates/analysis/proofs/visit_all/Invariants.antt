@@ -7,7 +7,7 @@ use Rattle.reached.proofs.Table.{rows_length}
 use Rattle.transfer.specs.Transfer.{edge_at, post_at, post_words, edges_from}
 use Rattle.analysis.specs.Chains.{from_at}
 use Rattle.progress.specs.Progress.{out_of}
-use Rattle.analysis.specs.Loaded.{Is_edge, Ready, domain_of}
+use Rattle.analysis.specs.Loaded.{IsEdge, Ready, domain_of}
 use Rattle.analysis.proofs.Arrival.{edges_turn, edges_none, post_is, then_on, then_ended, origins_on, origins_ended}
 use Rattle.analysis.proofs.PassedEdges.{passed_over, passed_takers}
 use Rattle.analysis.proofs.visit_all.Given as goal

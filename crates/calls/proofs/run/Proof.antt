@@ -44,7 +44,7 @@ use Rattle.semantics.proofs.Analysis.TheLaws as T'
 use Rattle.semantics.specs.contracts.Answer as S
 use Rattle.semantics.proofs.Answer.TheLaws as S'
 use Rattle.checks.specs.Form.{lent}
-use Rattle.calls.specs.Calls.{Ends_called}
+use Rattle.calls.specs.Calls.{EndsCalled}
 use Rattle.calls.specs.declared.Called.{Called}
 use Rattle.calls.specs.contracts.Called as N
 use Rattle.calls.proofs.Called.TheLaws as N'
@@ -141,7 +141,7 @@ module _ {M : Type 1} {𝓤 : Ura M} (𝓛 : Logic 𝓤) (at_mem : Memory → SP
   answer-is : (r : Called) (u : Val) → Is N.the_row r (u ∷ []) → Is S.the_row r.answer (LL.vals S.the_type S'.the_laws r.answer)
   answer-is r u g = (LL.owed N.the_type N'.the_laws r _ g).0
 
-  exits : (r : Called) (u : Val) → Is N.the_row r (u ∷ []) → Is i32 n (vn ∷ []) → (ts ls : List ℤ) → Ends_called out r ts ls → length ts ≡ length t.now → length ls ≡ length l.now
+  exits : (r : Called) (u : Val) → Is N.the_row r (u ∷ []) → Is i32 n (vn ∷ []) → (ts ls : List ℤ) → EndsCalled out r ts ls → length ts ≡ length t.now → length ls ≡ length l.now
       → ent 𝓤 (⋆ 𝓛 (‵ (fobs γ (R.coded.code r.analysis)) ∷ ‵ (fbor κ₁ (Body (mem R) b o γ)) ∷ ‵ (flft κ₁ q₁) ∷ Toks ∷ ‵ OwnC ∷ ‵ (finally i32 t.name ts) ∷ ‵ (finally i32 l.name ls) ∷ [])) (Post (LL.val S.the_type S'.the_laws r.answer))
   exits r u g n-is ts ls e lt ll =
       qed 𝓛 (‵ (fobs γ (R.coded.code r.analysis)) ∷ ‵ (fbor κ₁ (Body (mem R) b o γ)) ∷ ‵ (flft κ₁ q₁) ∷ Toks ∷ ‵ OwnC ∷ ‵ (finally i32 t.name ts) ∷ ‵ (finally i32 l.name ls) ∷ []) ∵
@@ -182,8 +182,8 @@ module _ {M : Type 1} {𝓤 : Ura M} (𝓛 : Logic 𝓤) (at_mem : Memory → SP
         -- [what `run_by_value` asks; c's; the cell; the open borrow; obs; auth; _11; …; _0; …]
         calls_at ! fm (ByValue 𝓛 at_mem at-run) known to (and_then ! (load ! (from ! (stop !)) (look ! 26 refl)) (and_then ! (load ! (from ! (stop !)) (look ! 24 refl)) (and_then ! (load ! (from ! (stop !)) (look ! 14 refl)) (and_then ! (load ! (from ! (stop !)) (look ! 10 refl)) (and_then ! (load ! (from ! (stop !)) (look ! 6 refl)) (no_more !)))))) (λ u.
         use1 𝓛 (later (some (λ (r : Called). (Toks ⊛ ‵ ((N.the_row).own_val r (u ∷ []))) ⊛ raw (ensured 𝓛 by_value.ended (by_value.clauses 𝓛 at_mem at-run) (κ₀, (κ₂, (κ₃, tt))) aA tt r)))) (id⊢ 𝓤 _) $ await ! tt $ pick ! (λ r.
-        split ! $ move ! (1 ∷ []) $ use1 𝓛 (some (λ (zs : Lasts). ‵ (lasts by_value.ended (κ₀, (κ₂, (κ₃, tt))) aA zs) ⊛ raw (fact 𝓤 (Ends_called out r zs.1.1.1.0 zs.1.1.1.1.0)))) (id⊢ 𝓤 _) $ pick ! (λ zs.
-        split ! $ move ! (1 ∷ []) $ heard ! (Ends_called out r zs.1.1.1.0 zs.1.1.1.1.0) (λ e. fsplit ! $ drop ! $ fsplit ! $ drop ! $ fsplit ! $ drop ! $ fsplit ! $ fsplit ! $ move ! (1 ∷ []) $ feq_l ! (λ lt. move ! (1 ∷ []) $ fsplit ! $ fsplit ! $ move ! (1 ∷ []) $ feq_l ! (λ ll. move ! (1 ∷ []) $ drop ! $
+        split ! $ move ! (1 ∷ []) $ use1 𝓛 (some (λ (zs : Lasts). ‵ (lasts by_value.ended (κ₀, (κ₂, (κ₃, tt))) aA zs) ⊛ raw (fact 𝓤 (EndsCalled out r zs.1.1.1.0 zs.1.1.1.1.0)))) (id⊢ 𝓤 _) $ pick ! (λ zs.
+        split ! $ move ! (1 ∷ []) $ heard ! (EndsCalled out r zs.1.1.1.0 zs.1.1.1.1.0) (λ e. fsplit ! $ drop ! $ fsplit ! $ drop ! $ fsplit ! $ drop ! $ fsplit ! $ fsplit ! $ move ! (1 ∷ []) $ feq_l ! (λ lt. move ! (1 ∷ []) $ fsplit ! $ fsplit ! $ move ! (1 ∷ []) $ feq_l ! (λ ll. move ! (1 ∷ []) $ drop ! $
         -- [the last list of l; of t; the tokens and the result; c's; the cell; the open borrow; obs; auth; the locals]
         move ! (2 ∷ []) $ split ! $ move ! (1 ∷ []) $ peeks ! N.the_row (Is N.the_row) (shows 𝓛 N.the_row) r (u ∷ []) (λ is.
         land ! (from ! (stop !)) (init ! 19 refl ((LL.lawful N.the_type N'.the_laws 𝓛).typed r _ is).0) $ rewrite ! 19 (λ (x : Val). ‵ (fat full_share N'.mir l₆ 0 x)) (ap only (LL.tells N.the_type N'.the_laws r _ is)) refl $

@@ -1,12 +1,8 @@
 -- `chart::all_differ` meets its contract: each location is compared with those after it.
-use Rattle.semantics.proofs.Prelude.{◌≡◌, sym, ◌∙◌, ◌&&◌, and-true, List, ℕ, ◌+◌, ◌-◌, ◌*◌, ◌≤◌, sub-zero, arith, sfits_of, ℤ, length, drop, length-take, length-drop, w32, of_z, to_z, to_z-of_z}
+use Rattle.semantics.proofs.Prelude.{◌≡◌, ◌&&◌, ◌-◌, ◌*◌, ◌≤◌, length, drop}
 use Rattle.semantics.specs.Layout.{location_size}
-use Rattle.semantics.specs.Lists.{all}
-use Rattle.semantics.specs.Encoding.{word_at, loc_in, several, distinct_names}
-use Rattle.words.proofs.Rows.{tail}
-use Rattle.chart.specs.Encoded.{name_number}
-use Rattle.chart.proofs.Names.{other_name, differ_turn}
-use Rattle.chart.proofs.NameNumbers.{Beside, number_here, numbers_after}
+use Rattle.semantics.specs.Encoding.{loc_in, several, distinct_names}
+use Rattle.chart.proofs.NameNumbers.{Beside}
 use Rattle.chart.proofs.all_differ.Given as goal
 
 abbrev pub invariant-loop-i : goal.invariant-loop-i

@@ -1,6 +1,5 @@
 -- `chart::bytes_as_words` meets its contract.
-use Rattle.semantics.proofs.Prelude.{◌++◌, map, append-nil, ◌≡◌, refl, sym, ◌∙◌, ◌-◌, ◌≤◌, arith, pos, length, get_or, take, drop, length-set, drop_of_length-le, take_all, to_z, of_z, w32}
-use Rattle.chart.proofs.Storing.{bytes_turn}
+use Rattle.semantics.proofs.Prelude.{◌++◌, map, ◌≡◌, ◌-◌, ◌≤◌, pos, length, take, drop}
 use Rattle.chart.proofs.bytes_as_words.Given as goal
 
 abbrev pub invariant-loop-i : goal.invariant-loop-i

@@ -1,8 +1,7 @@
 -- `chart::edges_fine` meets its contract.
-use Rattle.semantics.proofs.Prelude.{sym, ◌-◌, arith, length-take, length-drop}
 use Rattle.semantics.specs.Layout.{edge_size}
 use Rattle.chart.specs.Encoded.{edge_fine}
-use Rattle.chart.proofs.RowLoops.{RowsPassed, rows_start, rows_turn, rows_end}
+use Rattle.chart.proofs.RowLoops.{rows_turn}
 use Rattle.chart.proofs.edges_fine.Goals as goal
 
 pub loop-i-preserved : goal.loop-i-preserved

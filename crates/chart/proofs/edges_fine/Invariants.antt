@@ -1,8 +1,8 @@
 -- `chart::edges_fine` meets its contract.
-use Rattle.semantics.proofs.Prelude.{sym, ◌-◌, arith, length-take, length-drop}
+use Rattle.semantics.proofs.Prelude.{◌-◌}
 use Rattle.semantics.specs.Layout.{edge_size}
 use Rattle.chart.specs.Encoded.{edge_fine}
-use Rattle.chart.proofs.RowLoops.{RowsPassed, rows_start, rows_turn, rows_end}
+use Rattle.chart.proofs.RowLoops.{RowsPassed}
 use Rattle.chart.proofs.edges_fine.Given as goal
 
 abbrev pub invariant-loop-i : goal.invariant-loop-i

@@ -1,8 +1,7 @@
 -- `chart::locations_fine` meets its contract.
-use Rattle.semantics.proofs.Prelude.{sym, ◌-◌, arith, length-take, length-drop}
 use Rattle.semantics.specs.Layout.{location_size}
 use Rattle.chart.specs.Encoded.{location_fine}
-use Rattle.chart.proofs.RowLoops.{RowsPassed, rows_start, rows_turn, rows_end}
+use Rattle.chart.proofs.RowLoops.{rows_turn}
 use Rattle.chart.proofs.locations_fine.Goals as goal
 
 pub loop-i-preserved : goal.loop-i-preserved

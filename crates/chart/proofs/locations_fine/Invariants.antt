@@ -1,8 +1,8 @@
 -- `chart::locations_fine` meets its contract.
-use Rattle.semantics.proofs.Prelude.{sym, ◌-◌, arith, length-take, length-drop}
+use Rattle.semantics.proofs.Prelude.{◌-◌}
 use Rattle.semantics.specs.Layout.{location_size}
 use Rattle.chart.specs.Encoded.{location_fine}
-use Rattle.chart.proofs.RowLoops.{RowsPassed, rows_start, rows_turn, rows_end}
+use Rattle.chart.proofs.RowLoops.{RowsPassed}
 use Rattle.chart.proofs.locations_fine.Given as goal
 
 abbrev pub invariant-loop-i : goal.invariant-loop-i

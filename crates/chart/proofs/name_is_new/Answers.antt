@@ -1,8 +1,8 @@
 -- `chart::name_is_new` meets its contract.
-use Rattle.semantics.proofs.Prelude.{sym, ap, ◌-◌, arith, not}
+use Rattle.semantics.proofs.Prelude.{ap, not}
 use Rattle.semantics.specs.Layout.{location_size}
 use Rattle.semantics.specs.Encoding.{loc_in}
-use Rattle.chart.proofs.RowLoops.{RowsPassed, rows_start, rows_turn, rows_end}
+use Rattle.chart.proofs.RowLoops.{rows_turn}
 use Rattle.chart.proofs.Names.{other_name}
 use Rattle.chart.proofs.name_is_new.Goals as goal
 

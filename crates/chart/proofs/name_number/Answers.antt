@@ -1,43 +1,33 @@
 -- `chart::name_number` meets its contract.
-use Rattle.semantics.proofs.Prelude.{◌≡◌, refl, sym, ap, ◌∙◌, List, ℕ, ◌+◌, ◌-◌, ◌*◌, ◌≤◌, arith, sfits_of, ℤ, pos, nat_abs, drop, SFits, w32, sfits_lit, to_z_pos, to_z-of_z}
+use Rattle.semantics.proofs.Prelude.{◌≡◌, refl, sym, ap, ◌∙◌, ℕ, ◌+◌, ◌-◌, ◌*◌, ◌≤◌, arith, rules, sfits_of, ℤ, pos, nat_abs, drop, SFits, w32, sfits_lit, to_z_pos, to_z-of_z}
 use Rattle.semantics.specs.Layout.{name_size, name_place}
-use Rattle.semantics.specs.Encoding.{name_in, loc_in, count}
+use Rattle.semantics.specs.Encoding.{name_in, count}
 use Rattle.words.proofs.Words.{bits_eq, bits_ne}
 use Rattle.chart.specs.Encoded.{byte_of, number_from}
 use Rattle.chart.proofs.Names.{number_ends, number_goes}
-use Rattle.chart.proofs.NameNumbers.{Small, small_start, small_now, small_turn}
+use Rattle.chart.proofs.NameNumbers.{small_start, small_now, small_turn}
 use Rattle.chart.proofs.name_number.Goals as goal
-
--- what the word at hand says
-module _ (c : goal.After-word-at) where
-  abbrev at-loop : goal.At-loop-i
-  at-loop = c
-
-  abbrev row : List ℤ
-  row = at-loop.args.row.now
-
-  word_fits : SFits w32 c.word_at-w.result
-  word_fits = sfits_of {z = c.word_at-w.result} c.word_at-w.type_inv
 
 fits : (n : ℕ) → n ≤ 16777216 → SFits w32 (pos n)
 fits n h = record { sfits = omega arith }
 
 pub returns-then-w-eq0 : goal.returns-then-w-eq0
 returns-then-w-eq0 c =
-    let w = c in
-    let l = (at-loop w).loop in
-    let q = rw w.word_at-w.ensures at (bits_eq w32 {a = w.word_at-w.result} {b = pos 0} (word_fits w) (sfits_lit tt) c.if-w-eq0.true) in
-    to_z_pos w32 {n = l.n} (omega (arith, small_now l.i l.n l.inv.2)) ∙ ap pos (number_ends (row w) l.i w.loop-i-test.true _ l.n l.inv.1 q)
+    let l = c.loop-i in
+    let w = c.word_at-w in
+    let q = rw w.ensures at (bits_eq w32 {a = w.result} {b = pos 0} (sfits_of {z = w.result} w.type_inv) (sfits_lit tt) c.if-w-eq0.true) in
+    to_z_pos w32 {n = l.n} (omega (arith, small_now l.i l.n l.invariant.2)) ∙ ap pos (number_ends c.args.row.now l.i c.loop-i-test.true _ l.n l.invariant.1 q)
 
 pub loop-i-preserved : goal.loop-i-preserved
 loop-i-preserved c =
-    let w = c in
-    let l = (at-loop w).loop in
-    let q = rw w.word_at-w.ensures at (bits_ne w32 {a = w.word_at-w.result} {b = pos 0} (word_fits w) (sfits_lit tt) c.if-w-eq0.false) in
-    let b : c.byte_of.result ≡ byte_of (count (row w) (l.i + name_place)) = c.byte_of.ensures ∙ ap (λ (z : ℤ). byte_of (nat_abs z)) (to_z-of_z w32 _ (word_fits w) ∙ w.word_at-w.ensures) in (
+    let l = c.loop-i in
+    let w = c.word_at-w in
+    let row = c.args.row.now in
+    let q = rw w.ensures at (bits_ne w32 {a = w.result} {b = pos 0} (sfits_of {z = w.result} w.type_inv) (sfits_lit tt) c.if-w-eq0.false) in
+    let b : c.byte_of.result ≡ byte_of (count row (l.i + name_place)) = c.byte_of.ensures ∙ ap (λ (z : ℤ). byte_of (nat_abs z)) (to_z-of_z w32 _ (sfits_of {z = w.result} w.type_inv) ∙ w.ensures) in (
       omega arith,
-      number_goes (row w) l.i w.loop-i-test.true _ l.n l.inv.1 q ∙ ap (λ (k : ℕ). number_from (2 * l.n + k) (name_in (name_size - (l.i + 1)) (drop (l.i + 1 + name_place) (row w)))) (sym b),
-      small_turn l.i l.n c.byte_of.result w.loop-i-test.true (search rules) l.inv.2,
+      number_goes row l.i c.loop-i-test.true _ l.n l.invariant.1 q ∙ ap (λ (k : ℕ). number_from (2 * l.n + k) (name_in (name_size - (l.i + 1)) (drop (l.i + 1 + name_place) row))) (sym b),
+      small_turn l.i l.n c.byte_of.result c.loop-i-test.true (search rules) l.invariant.2,
     )
 
 pub returns : goal.returns
@@ -51,13 +41,13 @@ pub loop-i-init : goal.loop-i-init
 loop-i-init c = (omega arith, refl, small_start)
 
 pub overflow_cast-result : goal.overflow_cast-result
-overflow_cast-result c = let l = (at-loop c).loop in fits l.n (small_now l.i l.n l.inv.2)
+overflow_cast-result c = let l = c.loop-i in fits l.n (small_now l.i l.n l.invariant.2)
 
 pub overflow_mul-n : goal.overflow_mul-n
-overflow_mul-n c = let l = (at-loop c).loop in omega (arith, small_now l.i l.n l.inv.2)
+overflow_mul-n c = let l = c.loop-i in omega (arith, small_now l.i l.n l.invariant.2)
 
 pub overflow_add-n : goal.overflow_add-n
-overflow_add-n c = let l = (at-loop c).loop in omega (arith, small_now l.i l.n l.inv.2)
+overflow_add-n c = let l = c.loop-i in omega (arith, small_now l.i l.n l.invariant.2)
 
 pub overflow_cast-result-2 : goal.overflow_cast-result-2
 overflow_cast-result-2 c = let l = c.loop-i in fits l.n (small_now l.i l.n l.invariant.2)

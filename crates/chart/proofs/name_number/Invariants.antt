@@ -1,11 +1,9 @@
 -- `chart::name_number` meets its contract.
-use Rattle.semantics.proofs.Prelude.{◌≡◌, refl, sym, ap, ◌∙◌, List, ℕ, ◌+◌, ◌-◌, ◌*◌, ◌≤◌, arith, sfits_of, ℤ, pos, nat_abs, drop, SFits, w32, sfits_lit, to_z_pos, to_z-of_z}
+use Rattle.semantics.proofs.Prelude.{◌≡◌, ◌+◌, ◌-◌, ◌≤◌, drop}
 use Rattle.semantics.specs.Layout.{name_size, name_place}
-use Rattle.semantics.specs.Encoding.{name_in, loc_in, count}
-use Rattle.words.proofs.Words.{bits_eq, bits_ne}
-use Rattle.chart.specs.Encoded.{byte_of, number_from}
-use Rattle.chart.proofs.Names.{number_ends, number_goes}
-use Rattle.chart.proofs.NameNumbers.{Small, small_start, small_now, small_turn}
+use Rattle.semantics.specs.Encoding.{name_in, loc_in}
+use Rattle.chart.specs.Encoded.{number_from}
+use Rattle.chart.proofs.NameNumbers.{Small}
 use Rattle.chart.proofs.name_number.Given as goal
 
 abbrev pub invariant-loop-i : goal.invariant-loop-i

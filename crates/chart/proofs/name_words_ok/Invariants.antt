@@ -1,9 +1,7 @@
 -- `chart::name_words_ok` meets its contract.
-use Rattle.semantics.proofs.Prelude.{◌≡◌, refl, sym, ap, ◌∙◌, ◌&&◌, and-true, ◌-◌, ◌≤◌, arith, sfits_of, length, drop, drop_of_length-le, w32, to_z-of_z}
-use Rattle.semantics.specs.Encoding.{word_at}
+use Rattle.semantics.proofs.Prelude.{◌≡◌, ◌&&◌, ◌-◌, ◌≤◌, length, drop}
 use Rattle.semantics.specs.Lists.{all}
 use Rattle.chart.specs.Encoded.{name_word}
-use Rattle.chart.proofs.Names.{words_turn}
 use Rattle.chart.proofs.name_words_ok.Given as goal
 
 abbrev pub invariant-loop-i : goal.invariant-loop-i

@@ -1,7 +1,5 @@
 -- `chart::number_names` meets its contract. The invariant: the numbers stored, and those of the rows left.
-use Rattle.semantics.proofs.Prelude.{◌≡◌, refl, sym, ap, ◌∙◌, ◌++◌, append-nil, ◌-◌, ◌*◌, ◌≤◌, sub-zero, arith, sfits_of, length, take, drop, length-set, take_all}
-use Rattle.semantics.specs.Layout.{location_size}
-use Rattle.semantics.specs.Encoding.{several}
+use Rattle.semantics.proofs.Prelude.{ap, ◌∙◌, arith, sfits_of, length-set}
 use Rattle.words.proofs.Rows.{tail}
 use Rattle.words.proofs.Words.{told}
 use Rattle.chart.specs.Encoded.{name_number}

@@ -1,11 +1,8 @@
 -- `chart::number_names` meets its contract. The invariant: the numbers stored, and those of the rows left.
-use Rattle.semantics.proofs.Prelude.{◌≡◌, refl, sym, ap, ◌∙◌, ◌++◌, append-nil, ◌-◌, ◌*◌, ◌≤◌, sub-zero, arith, sfits_of, length, take, drop, length-set, take_all}
+use Rattle.semantics.proofs.Prelude.{◌≡◌, ◌++◌, ◌-◌, ◌*◌, ◌≤◌, length, take, drop}
 use Rattle.semantics.specs.Layout.{location_size}
 use Rattle.semantics.specs.Encoding.{several}
-use Rattle.words.proofs.Rows.{tail}
-use Rattle.words.proofs.Words.{told}
 use Rattle.chart.specs.Encoded.{name_number}
-use Rattle.chart.proofs.NameNumbers.{number_stored}
 use Rattle.chart.proofs.number_names.Given as goal
 
 abbrev pub invariant-loop-i : goal.invariant-loop-i

@@ -1,9 +1,7 @@
 -- `chart::row_name_length` meets its contract.
-use Rattle.semantics.proofs.Prelude.{◌≡◌, sym, ◌∙◌, ◌+◌, ◌-◌, ◌≤◌, arith, sfits_of, pos, length, drop, w32, sfits_lit}
+use Rattle.semantics.proofs.Prelude.{◌≡◌, ◌+◌, ◌-◌, ◌≤◌, length, drop}
 use Rattle.semantics.specs.Layout.{name_size, name_place}
 use Rattle.semantics.specs.Encoding.{name_in, loc_in}
-use Rattle.words.proofs.Words.{bits_eq, bits_ne}
-use Rattle.chart.proofs.Names.{name_ends, name_goes}
 use Rattle.chart.proofs.row_name_length.Given as goal
 
 abbrev pub invariant-loop-i : goal.invariant-loop-i

@@ -1,9 +1,8 @@
 -- `chart::same_name` meets its contract.
-use Rattle.semantics.proofs.Prelude.{◌≡◌, refl, sym, ◌∙◌, ◌+◌, ◌-◌, ◌≤◌, arith, drop}
+use Rattle.semantics.proofs.Prelude.{◌≡◌, ◌+◌, ◌-◌, ◌≤◌, drop}
 use Rattle.semantics.specs.Layout.{name_size, name_place}
 use Rattle.semantics.specs.Text.{same_bytes}
 use Rattle.semantics.specs.Encoding.{name_in, loc_in}
-use Rattle.chart.proofs.Names.{names_part, names_end, names_go}
 use Rattle.chart.proofs.same_name.Given as goal
 
 abbrev pub invariant-loop-i : goal.invariant-loop-i

@@ -1,6 +1,6 @@
 -- `chart::store_words` meets its contract.
 use Rattle.semantics.proofs.Prelude.{}
-use Rattle.words.proofs.Rows.{span, part_length}
+use Rattle.words.proofs.Rows.{span}
 use Rattle.chart.specs.Rows.{stored}
 use Rattle.chart.proofs.store_words.Goals as goal
 

@@ -1,8 +1,8 @@
 -- `chart::vars_ok` meets its contract.
-use Rattle.semantics.proofs.Prelude.{sym, ◌-◌, arith}
+use Rattle.semantics.proofs.Prelude.{◌-◌}
 use Rattle.semantics.specs.Layout.{variable_size}
 use Rattle.semantics.specs.Encoding.{var_in, var_ok}
-use Rattle.chart.proofs.RowLoops.{RowsPassed, rows_start, rows_turn, rows_end}
+use Rattle.chart.proofs.RowLoops.{RowsPassed}
 use Rattle.chart.proofs.vars_ok.Given as goal
 
 abbrev pub invariant-loop-i : goal.invariant-loop-i

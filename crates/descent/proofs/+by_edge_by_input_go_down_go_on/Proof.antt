@@ -12,7 +12,7 @@ use Rattle.words.proofs.Words.{told}
 use Rattle.state.specs.Rows.{most_width, location_in}
 use Rattle.transfer.specs.declared.Move.{Move}
 use Rattle.transfer.specs.declared.Move.TheVariants.{Blocked, Fault, Successor}
-use Rattle.descent.specs.Rows.{state_of, edge_of, Is_edge, Advanced}
+use Rattle.descent.specs.Rows.{state_of, edge_of, IsEdge, Advanced}
 use Rattle.descent.specs.Distances.{distance_in}
 use Rattle.descent.specs.Trails.{Went, by_input, by_edge, from_step, Going}
 use Rattle.descent.proofs.TurningBack.{turned_back}
@@ -350,7 +350,7 @@ module _ (t : ℕ) (d : go-down-lts.After-edge-of (go-down-cited t) (go-down-at 
   abbrev start_of : go-down-lts.Start (go-down-cited t) (go-down-at t) go-down'.Post go-down-Inv-loop go-down-μ-loop
   start_of = turn-of.before.before.before.before.before.before.before.before
 
-  edge-is : Is_edge start_of.args.chart.now d.edge_of.result
+  edge-is : IsEdge start_of.args.chart.now d.edge_of.result
   edge-is = record {
     some = omega (arith, turn-of.loop.inv.1, d.edge_of.ensures.0);
     within = omega (arith, in-chart t d.before, d.edge_of.ensures.0);

@@ -1,8 +1,6 @@
 -- `state::first_value_over` meets its contract: what is left of the two rows says what the whole does.
-use Rattle.semantics.proofs.Prelude.{◌≡◌, refl, sym, ap, ◌∙◌, Bool, true, false, ◌&&◌, List, ℤ, ◌+◌, ◌-◌, ◌≤◌, arith, sfits_of, length, drop, w32, to_z-of_z, eq-eqb, ne_eqb, not-true, not-false}
-use Rattle.semantics.specs.Encoding.{word_at}
-use Rattle.state.specs.Rows.{head_size, values_of, word_leq, words_leq}
-use Rattle.state.proofs.RowLoops.{leq_turn, leq_end}
+use Rattle.semantics.proofs.Prelude.{◌≡◌, ◌-◌, ◌≤◌, length, drop}
+use Rattle.state.specs.Rows.{head_size, values_of, words_leq}
 use Rattle.state.proofs.first_value_over.Given as goal
 
 abbrev pub invariant-loop-i : goal.invariant-loop-i

@@ -1,10 +1,7 @@
 -- `state::join_row` meets its contract: the row is what is joined so far, and then what is left to join.
 --
-use Rattle.semantics.proofs.Prelude.{◌≡◌, sym, refl, ◌∙◌, ◌&&◌, ◌++◌, ◌-◌, ◌≤◌, ◌<◌, arith, sfits_of, length, take, drop, length-set, w32, to_z-of_z}
-use Rattle.semantics.specs.Encoding.{word_at}
-use Rattle.words.proofs.Words.{bits_eqb}
-use Rattle.state.specs.Rows.{head_size, word_join, words_join, same_words, row_join}
-use Rattle.state.proofs.RowLoops.{join_turn, join_end, same_start, same_turn, joined_end}
+use Rattle.semantics.proofs.Prelude.{◌≡◌, ◌&&◌, ◌++◌, ◌-◌, ◌≤◌, length, take, drop}
+use Rattle.state.specs.Rows.{head_size, words_join, same_words, row_join}
 use Rattle.state.proofs.join_row.Given as goal
 
 abbrev pub invariant-loop-i : goal.invariant-loop-i

@@ -1,8 +1,7 @@
 -- `text::all_digits` meets its contract: what is said of the whole is said of the bytes passed and of what is left.
-use Rattle.semantics.proofs.Prelude.{arith, ◌≡◌, refl, sym, ap, ◌∙◌, Bool, ◌&&◌, and-true, ◌-◌, ◌≤◌, length, drop}
+use Rattle.semantics.proofs.Prelude.{◌≡◌, ◌&&◌, ◌-◌, ◌≤◌, length, drop}
 use Rattle.semantics.specs.Lists.{all}
 use Rattle.semantics.specs.Text.{between}
-use Rattle.text.proofs.Bytes.{all_turn, all_end}
 use Rattle.text.proofs.all_digits.Given as goal
 
 abbrev pub invariant-loop-i : goal.invariant-loop-i

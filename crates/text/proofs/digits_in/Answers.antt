@@ -1,7 +1,6 @@
 -- `text::digits_in` meets its contract: the digits passed, cut, say as much of the answer as all.
-use Rattle.semantics.proofs.Prelude.{arith, ◌≡◌, refl, sym, ap, ◌∙◌, length, drop, ◌-◌, ◌≤◌}
-use Rattle.semantics.specs.Text.{digits}
-use Rattle.text.specs.Fields.{number_cut, natural_read}
+use Rattle.semantics.proofs.Prelude.{arith, sym, ap, ◌∙◌}
+use Rattle.text.specs.Fields.{natural_read}
 use Rattle.text.specs.declared.Natural.TheVariants as natural
 use Rattle.text.proofs.Digits.{digits_end, digits_step, digits_low, digits_high, capped_same}
 use Rattle.text.proofs.digits_in.Goals as goal

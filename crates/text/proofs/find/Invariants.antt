@@ -1,7 +1,6 @@
 -- `text::find` meets its contract: the first b is as far from each place passed as from the start.
-use Rattle.semantics.proofs.Prelude.{◌≡◌, ◌+◌, ◌-◌, ◌≤◌, max, length, drop, arith}
+use Rattle.semantics.proofs.Prelude.{◌≡◌, ◌+◌, ◌-◌, ◌≤◌, max, length, drop}
 use Rattle.text.specs.Fields.{up_to}
-use Rattle.text.proofs.LineEnds.{up_to_here, up_to_skip, up_to_end}
 use Rattle.text.proofs.find.Given as goal
 
 abbrev pub invariant-loop-i : goal.invariant-loop-i

@@ -1,8 +1,7 @@
 -- `text::name_ok` meets its contract: the bytes that are left say whether all are bytes of a name.
-use Rattle.semantics.proofs.Prelude.{◌≡◌, refl, sym, ◌∙◌, ◌-◌, ◌≤◌, length, drop, not-true, not-false, arith}
+use Rattle.semantics.proofs.Prelude.{◌≡◌, ◌-◌, ◌≤◌, length, drop}
 use Rattle.semantics.specs.Lists.{all}
 use Rattle.semantics.specs.Text.{name_byte}
-use Rattle.text.proofs.Bytes.{all_step, all_stop, all_end, name_empty, name_long, name_all}
 use Rattle.text.proofs.name_ok.Given as goal
 
 abbrev pub invariant-loop-i : goal.invariant-loop-i

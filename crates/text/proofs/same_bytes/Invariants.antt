@@ -1,7 +1,6 @@
 -- `text::same_bytes` meets its contract: what is left of the texts says whether they are the same.
-use Rattle.semantics.proofs.Prelude.{◌≡◌, refl, sym, ◌∙◌, ◌-◌, ◌≤◌, length, drop, arith}
+use Rattle.semantics.proofs.Prelude.{◌≡◌, ◌-◌, ◌≤◌, length, drop}
 use Rattle.semantics.specs.Text.{same_bytes}
-use Rattle.text.proofs.Bytes.{same_lengths, same_step, same_stop, same_end}
 use Rattle.text.proofs.same_bytes.Given as goal
 
 abbrev pub invariant-loop-i : goal.invariant-loop-i

@@ -1,5 +1,5 @@
 -- `waitlist::contains` meets its contract.
-use Rattle.semantics.proofs.Prelude.{sym, ap, ◌∙◌, pos, length-take-le, sfits_of}
+use Rattle.semantics.proofs.Prelude.{ap, ◌∙◌, pos, sfits_of}
 use Rattle.semantics.specs.Chart.{eq_z}
 use Rattle.semantics.specs.Lists.{some_of}
 use Rattle.words.proofs.Words.{told}

@@ -1,5 +1,5 @@
 -- `waitlist::next_slot` meets its contract.
-use Rattle.semantics.proofs.Prelude.{◌≡◌, refl, ap, ◌∙◌, List, [], ◌∷◌, map, ℕ, suc, ◌-◌, ◌<◌, arith, ℤ, nat_abs, length}
+use Rattle.semantics.proofs.Prelude.{◌≡◌, refl, ap, ◌∙◌, List, [], ◌∷◌, map, suc, ◌-◌, ◌<◌, arith, ℤ, nat_abs, length}
 use Rattle.semantics.specs.declared.Order.TheVariants.{Old, New}
 use Rattle.semantics.specs.Encoding.{count}
 use Rattle.semantics.specs.Algorithm.{later}

@@ -1,7 +1,6 @@
 -- `waitlist::push_front` meets its contract.
-use Rattle.semantics.proofs.Prelude.{◌≡◌, refl, sym, ◌∙◌, ◌++◌, ◌-◌, ◌≤◌, arith, pos, length, take, drop, get_or, length-set, w32, to_z, to_z-of_z, sfits_of}
+use Rattle.semantics.proofs.Prelude.{◌≡◌, ◌++◌, ◌-◌, ◌≤◌, length, take, drop}
 use Rattle.waitlist.specs.Waits.{pushed}
-use Rattle.waitlist.proofs.ShiftedWords.{push_turn, push_end}
 use Rattle.waitlist.proofs.push_front.Given as goal
 
 abbrev pub invariant-loop-i : goal.invariant-loop-i

@@ -1,29 +1,25 @@
 -- `waitlist::put_back` meets its contract.
-use Rattle.semantics.proofs.Prelude.{◌+◌, ◌<◌, arith, length}
+use Rattle.semantics.proofs.Prelude.{◌≡◌, ◌+◌, ◌<◌, ℕ, ℤ, List, arith, length}
 use Rattle.semantics.specs.Layout.{index_limit}
-use Rattle.waitlist.specs.Waits.{waits, Stored}
+use Rattle.semantics.specs.Algorithm.{without}
+use Rattle.waitlist.specs.Waits.{waits, Stored, Admits}
 use Rattle.waitlist.proofs.WaitWords.{waits_are, kept, back_room}
 use Rattle.waitlist.proofs.put_back.Goals as goal
 
 -- the slot, taken out, finds a place
-ready : (r : goal.After-remove-others) → Stored r.remove-others.new.list r.remove-others.result (waits r.remove-others.result r.remove-others.new.list) × (r.remove-others.result < length r.remove-others.new.list) × (r.args.slot.0 + 1 < index_limit)
-ready r =
-    let s = r in
-    let m = back_room (length s.args.list.now) s.args.slot.0 (waits s.args.count s.args.list.now) s.requires.queue s.requires.slot in
-    (kept r.remove-others.ensures, omega (arith, m, r.remove-others.ensures.count, r.remove-others.auto.list), omega (arith, s.requires.slot, s.requires.small))
-
-pub returns-in-Old : goal.returns-in-Old
-returns-in-Old c =
-    let r = c in
-    rw (c.in-Old.is, ← waits_are r.remove-others.ensures) c.prepend.ensures
-
-pub returns-in-New : goal.returns-in-New
-returns-in-New c =
-    let r = c in
-    rw (c.in-New.is, ← waits_are r.remove-others.ensures) c.append.ensures
+ready : {l m : List ℤ} {n r k : ℕ} → Admits l n k → Stored m r (without k (waits n l)) → length m ≡ length l → Stored m r (waits r m) × (r < length m) × (k + 1 < index_limit)
+ready {l = l} {n = n} {k = k} a s e =
+    let b = back_room (length l) k (waits n l) a.queue a.slot in
+    (kept s, omega (arith, b, s.count), omega (arith, a.slot, a.small))
 
 pub prepend-requires : goal.prepend-requires
-prepend-requires c = ready c
+prepend-requires c = ready c.requires c.remove-others.ensures c.remove-others.auto.list
 
 pub append-requires : goal.append-requires
-append-requires c = ready c
+append-requires c = ready c.requires c.remove-others.ensures c.remove-others.auto.list
+
+pub returns-in-Old : goal.returns-in-Old
+returns-in-Old c = rw (c.in-Old.is, ← waits_are c.remove-others.ensures) c.prepend.ensures
+
+pub returns-in-New : goal.returns-in-New
+returns-in-New c = rw (c.in-New.is, ← waits_are c.remove-others.ensures) c.append.ensures

@@ -10,4 +10,4 @@ returns c =
     let s = c in
     let r = c.remove_word in
     let q = told (sfits_of {z = w.result} w.type_inv) w.ensures in
-    put_others s.args.slot.0 r.new.list r.result s.requires.0 r.auto.list r.ensures.few (rw q at r.ensures.kept.0) r.ensures.kept.1
+    put_others s.args.slot.0 r.new.list r.result s.requires.0 r.auto.list r.ensures.few (rw q at r.ensures.kept) r.ensures.rest

@@ -1,8 +1,6 @@
 -- `waitlist::remove_word` meets its contract.
-use Rattle.semantics.proofs.Prelude.{◌≡◌, ◌-◌, arith, pos, get_or, set, length-set, w32, to_z, of_z, to_z-of_z, sfits_of}
-use Rattle.semantics.specs.Chart.{eq_z}
-use Rattle.waitlist.specs.Waits.{next_place, kept_at}
-use Rattle.waitlist.proofs.ShiftedWords.{Removing, word_here, remove_turn, removing_start, removing_end}
+use Rattle.semantics.proofs.Prelude.{◌-◌}
+use Rattle.waitlist.proofs.ShiftedWords.{Removing}
 use Rattle.waitlist.proofs.remove_word.Given as goal
 
 abbrev pub invariant-loop-i : goal.invariant-loop-i

@@ -1,7 +1,6 @@
 -- `waitlist::shift_down` meets its contract.
-use Rattle.semantics.proofs.Prelude.{◌≡◌, refl, sym, ap, ◌∙◌, ◌++◌, ℕ, ◌+◌, ◌-◌, ◌≤◌, arith, pos, length, take, drop, get_or, set, length-set, w32, to_z-of_z, sfits_of}
+use Rattle.semantics.proofs.Prelude.{◌≡◌, ◌++◌, ◌+◌, ◌-◌, ◌≤◌, length, take, drop}
 use Rattle.waitlist.specs.Waits.{shifted}
-use Rattle.waitlist.proofs.ShiftedWords.{shift_turn, shift_end}
 use Rattle.waitlist.proofs.shift_down.Given as goal
 
 abbrev pub invariant-loop-i : goal.invariant-loop-i

@@ -1,5 +1,4 @@
 -- `waitlist::take_old` meets its contract.
-use Rattle.semantics.proofs.Prelude.{sym, arith, length-take-le}
 use Rattle.waitlist.specs.Waits.{waits}
 use Rattle.waitlist.proofs.ShiftedWords.{take_first_held}
 use Rattle.waitlist.proofs.take_old.Goals as goal

@@ -1,6 +1,5 @@
 -- `waitlist::wait` meets its contract.
-use Rattle.semantics.proofs.Prelude.{◌≡◌, sym, ◌∙◌, true, false, arith, eqb, length}
-use Rattle.semantics.specs.Lists.{some_of}
+use Rattle.semantics.proofs.Prelude.{sym, ◌∙◌, arith, length}
 use Rattle.waitlist.specs.Waits.{waits}
 use Rattle.waitlist.proofs.WaitWords.{queue_room}
 use Rattle.waitlist.proofs.wait.Goals as goal

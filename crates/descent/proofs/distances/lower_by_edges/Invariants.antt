@@ -2,8 +2,8 @@
 use Rattle.semantics.proofs.Prelude.{◌≡◌, refl, sym, ap, subst, ◌∙◌, inl, inr, true, ℕ, ◌-◌, ◌≤◌, ◌<◌, dec_lt, arith, length, drop}
 use Rattle.semantics.specs.Encoding.{edge_in, edge_count}
 use Rattle.transfer.specs.Transfer.{edge_at}
-use Rattle.descent.specs.Rows.{edge_of, Is_edge}
-use Rattle.descent.specs.Distances.{distance_in, Near_by}
+use Rattle.descent.specs.Rows.{edge_of, IsEdge}
+use Rattle.descent.specs.Distances.{distance_in, NearBy}
 use Rattle.descent.proofs.Moves.{leaves}
 use Rattle.descent.proofs.DistanceTests.{Asked, edge_asks, is_edge, every_edge, Settled, settled_turn}
 use Rattle.descent.proofs.distances.lower_by_edges.Given as goal

@@ -2,7 +2,7 @@
 use Rattle.semantics.proofs.Prelude.{◌≡◌, refl, sym, ◌∙◌, subst, List, ℕ, arith, length}
 use Rattle.semantics.proofs.Bools.{left_true, right_true}
 use Rattle.semantics.specs.Encoding.{decode}
-use Rattle.descent.specs.Distances.{Distances, distance_in, Kinds_allow}
+use Rattle.descent.specs.Distances.{Distances, distance_in, KindsAllow}
 use Rattle.descent.proofs.DistanceTests.{zeros_serve}
 use Rattle.descent.proofs.distances.measure.Given as goal
 

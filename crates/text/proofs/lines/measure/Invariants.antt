@@ -1,13 +1,20 @@
 -- `text::lines::measure` meets its contract. What is left of the line says, with what was counted, what the whole of it is.
-use Rattle.semantics.proofs.Prelude.{◌≡◌, refl, sym, ap, ◌∙◌, Bool, ◌&&◌, not, and_assoc, ℕ, ◌+◌, ◌-◌, ◌≤◌, ◌<◌, max, arith, eqb, length, get_or, drop, List}
-use Rattle.semantics.specs.Lists.{pick}
+use Rattle.semantics.proofs.Prelude.{◌≡◌, Bool, ◌&&◌, ℕ, ◌+◌, ◌-◌, ◌≤◌, max, eqb, length, drop, List}
 use Rattle.semantics.specs.Text.{fields}
 use Rattle.semantics.specs.Reading.{none_empty}
 use Rattle.text.specs.Fields.{up_to}
-use Rattle.text.specs.Places.{line_from, shape_of, ended_after}
-use Rattle.text.proofs.LineEnds.{up_to_here, up_to_skip, up_to_end, line_goes_on}
-use Rattle.text.proofs.LineFields.{count_cons, tab_few, well_parted, filled_is}
+use Rattle.text.specs.Places.{line_from}
+use Rattle.text.proofs.LineFields.{well_parted}
 use Rattle.text.proofs.lines.measure.Given as goal
+
+-- from i on: what is left of the line, after so many fields, filled so far
+pub record Along (text : List ℕ) (at n : ℕ) (filled : Bool) (last i : ℕ) : Type 0 where
+  pub after : at ≤ i
+  pub within : i ≤ max at (length text)
+  pub ends : i + up_to 10 (drop i text) ≡ at + up_to 10 (drop at text)
+  pub few : n ≤ i + 1
+  pub counted : n + length (fields (line_from text i)) ≡ length (fields (line_from text at)) + 1
+  pub full : none_empty (fields (line_from text at)) ≡ filled && well_parted (eqb last 9) (line_from text i)
 
 abbrev pub invariant-loop-i : goal.invariant-loop-i
 invariant-loop-i l = Along l.text l.at l.fields l.filled l.last l.i
