@@ -1,6 +1,7 @@
 //! What the prover said of a build, and whether that is a refusal of what was changed.
 
 use std::collections::{BTreeMap, BTreeSet};
+use std::ops::Range;
 
 use crate::edit::Target;
 use crate::function::{folder_of, Unit};
@@ -141,9 +142,9 @@ impl Log {
     fn open<'a>(&'a self, unit: &'a Unit) -> impl Iterator<Item = Error<'a>> {
         self.notes().filter(|note| {
             let line = note.place.split(':').nth(1).and_then(|line| line.parse().ok());
-            let here = |file: &str| file.strip_prefix("src/") == Some(note.file);
-            let stands =
-                |line| unit.lines.iter().any(|(file, at)| here(file) && at.contains(&line));
+            let here =
+                |at: &(String, Range<usize>), line| at.0 == note.file && at.1.contains(&line);
+            let stands = |line| unit.lines.iter().any(|at| here(at, line));
             line.is_some_and(stands)
         })
     }
