@@ -1,5 +1,5 @@
 -- In the order of a file's way: scans, fields judged, the rows grown, names looked for, the words held, one line, line
--- after line; Reborrow is of lent slices alone.
+-- after line.
 pub mod Scans
 pub mod CheckSteps
 pub mod OneRowMore
@@ -7,4 +7,3 @@ pub mod NewNames
 pub mod CopiedOut
 pub mod Reading
 pub mod NextLine
-pub mod Reborrow

@@ -145,7 +145,7 @@ fn nothing_judged() -> Descent
     }
 }
 
-// The reader goes down the text line by line, and each line is judged. Proved by hand: the reader lies in a local.
+// The reader goes down the text line by line, and each line is judged.
 fn go_down(text: &[u8], rows: &mut [i32], names: &mut [i32]) -> Descent
     requires { (length rows.old ≡ most_rows) × (length names.old ≡ most_names) }
     ensures { Came text.now result.line result.last rows.new }

@@ -1,6 +1,6 @@
 -- An exploration put into lent words: it is in form there, the words are enough for it, and it is read back. Assumes
 -- nothing.
-use Rattle.semantics.proofs.Prelude.{◌≡◌, true, false, ◌++◌, ◌*◌, arith, length, drop, length-append, le-ltb}
+use Rattle.semantics.proofs.Prelude.{◌≡◌, true, false, ◌*◌, arith, length, drop, length-append, le-ltb}
 use Rattle.semantics.specs.Chart.{Chart}
 use Rattle.semantics.specs.Algorithm.{Exploration}
 use Rattle.semantics.specs.Constants.{AbstractState}

@@ -1,6 +1,6 @@
 -- What a path says of the chart holds of every exploration that a start and runs make: following parents from any slot
 -- ends at slot 0, and an alarm has its edge at the end of such a way. Document 02, 2.2. Assumes nothing.
-use Rattle.semantics.proofs.Prelude.{◌≡◌, refl, sym, ap, ◌∙◌, subst, inl, inr, Bool, true, false, List, [], ◌∷◌, ◌++◌, append_assoc, map, some, ℕ, zero, suc, ◌+◌, ◌≤◌, ◌<◌, add-zero, zero-add, arith, T, eqb, eqb→eq, eqb_refl, eqb-suc-zero, ltb→lt, length, length-map, get_or}
+use Rattle.semantics.proofs.Prelude.{◌≡◌, refl, sym, ap, ◌∙◌, subst, inl, inr, Bool, true, false, List, [], ◌∷◌, ◌++◌, append_assoc, some, ℕ, zero, suc, ◌+◌, ◌≤◌, ◌<◌, add-zero, zero-add, arith, T, eqb, eqb→eq, eqb_refl, eqb-suc-zero, ltb→lt, length, length-map, get_or}
 use Rattle.semantics.proofs.Bools.{from_true, and_left, and_right, both_true}
 use Rattle.semantics.specs.Lists.{In, get, pick, all_pairs}
 use Rattle.semantics.specs.Chart.{Value, known, top, Edge, Numbered, number_from, numbered, Chart, error_location}

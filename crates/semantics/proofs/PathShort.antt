@@ -1,8 +1,8 @@
 -- A path is short: 24,576 bytes hold every path of an analysis that a call has begun, or that is in form. Assumes nothing.
-use Rattle.semantics.proofs.Prelude.{◌≡◌, refl, sym, subst, inl, inr, Bool, true, false, ◌&&◌, List, [], ◌∷◌, ◌++◌, map, Option, none, some, ℕ, zero, suc, ◌+◌, ◌*◌, ◌≤◌, ◌<◌, arith, T, eqb, ltb, leb→le, eqb→eq, ltb→lt, length, length-append, length-map, take, get_or, ℤ, pos, nat_abs, non_neg}
+use Rattle.semantics.proofs.Prelude.{◌≡◌, refl, sym, subst, inl, inr, Bool, true, false, ◌&&◌, List, [], ◌∷◌, ◌++◌, map, Option, none, some, ℕ, zero, suc, ◌+◌, ◌*◌, ◌≤◌, ◌<◌, arith, T, eqb, ltb, leb→le, eqb→eq, ltb→lt, length, length-append, take, get_or, ℤ, pos, nat_abs, non_neg}
 use Rattle.semantics.specs.Lists.{In, some_of, get, map_or, each, all, pick}
 use Rattle.semantics.specs.Layout.{most_slots, listing_bytes, no_slot}
-use Rattle.semantics.specs.Text.{bytes, decimal, line_of}
+use Rattle.semantics.specs.Text.{bytes, decimal}
 use Rattle.semantics.specs.Chart.{Edge, Chart}
 use Rattle.semantics.specs.Algorithm.{Order, Old, New, Origin, Exploration, Taken, later, take_last, take_by}
 use Rattle.semantics.specs.Constants.{AbstractState}

@@ -1,8 +1,8 @@
 -- The search over a chart: its moves and overruns are the chart's, so that what it answers is a real run, found exactly when
 -- one exists, the shortest and the first. Assumes nothing.
-use Rattle.semantics.proofs.Prelude.{◌≡◌, refl, sym, ap, ◌∙◌, subst, inl, inr, Bool, true, false, ◌||◌, not, List, [], ◌∷◌, map, Option, none, some, ℕ, zero, suc, ◌+◌, ◌*◌, ◌≤◌, ◌<◌, zero-mul, suc-mul, arith, T, eqb, eqb→eq, eqb_refl, ltb, ltb→lt, lt→ltb, length, length-append, length-map, get_or, set, ℤ, pos, ◌+ℤ◌, ◌-ℤ◌}
+use Rattle.semantics.proofs.Prelude.{◌≡◌, refl, sym, ap, ◌∙◌, subst, inl, inr, Bool, true, false, ◌||◌, not, List, [], ◌∷◌, map, Option, none, some, ℕ, zero, suc, ◌+◌, ◌*◌, ◌≤◌, zero-mul, suc-mul, arith, T, eqb, eqb→eq, eqb_refl, ltb, ltb→lt, lt→ltb, length, length-append, length-map, get_or, set, ℤ, pos, ◌+ℤ◌, ◌-ℤ◌}
 use Rattle.semantics.specs.Lists.{pick, In, some_of, all, each}
-use Rattle.semantics.specs.Chart.{Value, known, top, Var, Op, assign, add, sub, input, assume, skip, Edge, Chart, Numbered, numbered, State, Moves, Overruns, Error, within, holds, in_range, small, Ranged, value, Becomes, result_outside}
+use Rattle.semantics.specs.Chart.{Value, known, top, Var, Op, assign, add, sub, input, assume, skip, Edge, Chart, Numbered, State, Moves, Overruns, Error, within, holds, in_range, small, Ranged, value, Becomes, result_outside}
 use Rattle.semantics.specs.Algorithm.{Step, blocked, fault, to}
 use Rattle.semantics.specs.Coverage.{Leads, Execution, system}
 use Rattle.semantics.specs.Search.{Trail, here, overrun, by, ErrorRun, moves, run_from, first_run, Choice, up, size, interval, inputs, choose, choices, stored, apply, state, at_location, move, init_values, starting_values, explicit}

@@ -1,5 +1,5 @@
 // A reader that goes down a text line by line. The work is on the slice and a place; the functions over a `Reader`
-// are thin, and proved by hand.
+// are thin.
 ghost use Rattle.std.specs.Prelude.{◌≡◌, ◌&&◌, eqb, leb};
 ghost use Rattle.semantics.specs.Lists.{pick};
 ghost use Rattle.text.specs.Places.{shape_of, ended_after, line_at, place_after};

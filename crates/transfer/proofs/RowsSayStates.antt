@@ -1,5 +1,5 @@
 -- Rows in form say the abstract states that are read in them, and the words after them the origins. Assumes nothing.
-use Rattle.semantics.proofs.Prelude.{◌≡◌, refl, sym, ap, subst, ◌∙◌, List, [], ◌∷◌, map, ℕ, zero, suc, ◌*◌, ◌≤◌, arith, T, ℤ, length, take, drop, length-drop, length-take-le}
+use Rattle.semantics.proofs.Prelude.{◌≡◌, refl, sym, subst, ◌∙◌, List, ◌∷◌, map, ℕ, zero, suc, ◌*◌, ◌≤◌, arith, T, ℤ, length, take, drop, length-drop, length-take-le}
 use Rattle.semantics.specs.Layout.{origin_size}
 use Rattle.semantics.specs.Chart.{Chart}
 use Rattle.semantics.specs.Memory.{width, stride, tail, state_in, states_in, origin_in, row_ok, slots_ok}

@@ -119,6 +119,7 @@ fn results(s: Arithmetic, a: Span, b: Span) -> Span
 
 // Variable k becomes a result that may be any number of the span: top, or the one number that it is. A fault where some
 // number of the span lies outside k's range.
+#[tactic(auto, unfolding(crate::specs::Transfer::assign_result))]
 fn assign_result(chart: &[i32], k: usize, top: bool, span: Span, row: &mut [i32]) -> Move
     requires { k < index_limit }
     ensures { step_of result row.new ≡ assign_result chart.now k top span row.old }
@@ -135,6 +136,7 @@ fn assign_result(chart: &[i32], k: usize, top: bool, span: Span, row: &mut [i32]
     Move::Successor
 }
 
+#[tactic(auto, unfolding(crate::specs::Transfer::assign_at))]
 fn assign(chart: &[i32], edge: EdgeRow, row: &mut [i32]) -> Move
     requires { edge.at < index_limit }
     ensures { step_of result row.new ≡ assign_at chart.now edge.at row.old }
@@ -146,6 +148,7 @@ fn assign(chart: &[i32], edge: EdgeRow, row: &mut [i32]) -> Move
     assign_result(chart, k, a == words::TOP, span, row)
 }
 
+#[tactic(auto, unfolding(crate::specs::Transfer::compute_at))]
 fn compute(chart: &[i32], edge: EdgeRow, s: Arithmetic, row: &mut [i32]) -> Move
     requires { edge.at < index_limit }
     ensures { step_of result row.new ≡ compute_at s chart.now edge.at row.old }
@@ -160,6 +163,7 @@ fn compute(chart: &[i32], edge: EdgeRow, s: Arithmetic, row: &mut [i32]) -> Move
 }
 
 // A value from p up to q: known only where they are the same.
+#[tactic(auto, unfolding(crate::specs::Transfer::input_at))]
 fn input(chart: &[i32], edge: EdgeRow, row: &mut [i32]) -> Move
     requires { edge.at < index_limit }
     ensures { step_of result row.new ≡ input_at chart.now edge.at row.old }
@@ -273,6 +277,7 @@ fn satisfying(rel: Relation, z: i64, range: Span) -> Span
 
 // Variable k, at top, stands in the relation to x, which is known (request 2.6): no successor where no number of its range
 // does; known where a single one does, else top as it is.
+#[tactic(auto, unfolding(crate::specs::Transfer::refine_by))]
 fn refine(chart: &[i32], rel: Relation, k: usize, x: i32, row: &mut [i32]) -> Move
     requires { k < index_limit }
     ensures { step_of result row.new ≡ refine_by chart.now (the_relation rel) k x row.old }
@@ -290,6 +295,7 @@ fn refine(chart: &[i32], rel: Relation, k: usize, x: i32, row: &mut [i32]) -> Mo
 
 // The relation between the target and an operand: a test where both are known, what it says of the one at top, or nothing
 // where neither is known.
+#[tactic(auto, unfolding(crate::specs::Transfer::assume_at, crate::specs::Transfer::tested_by))]
 fn assume(chart: &[i32], rel: Relation, edge: EdgeRow, row: &mut [i32]) -> Move
     requires { edge.at < index_limit }
     ensures { step_of result row.new ≡ assume_at chart.now (the_relation rel) edge.at row.old }
@@ -316,6 +322,7 @@ fn assume(chart: &[i32], rel: Relation, edge: EdgeRow, row: &mut [i32]) -> Move
 // ---- every operation
 
 // The operation of the edge, by its code.
+#[tactic(auto, unfolding(crate::specs::Transfer::op_by))]
 fn apply(chart: &[i32], edge: EdgeRow, row: &mut [i32]) -> Move
     requires { edge.at < index_limit }
     ensures { step_of result row.new ≡ op_by (count chart.now (edge.at + operation_place)) chart.now edge.at row.old }
@@ -334,6 +341,7 @@ fn apply(chart: &[i32], edge: EdgeRow, row: &mut [i32]) -> Move
 // ---- the transfer
 
 // The move of the row by the edge, its successor into `out`.
+#[tactic(auto, unfolding(crate::specs::Transfer::post_at))]
 pub fn successor(chart: &[i32], edge: EdgeRow, row: &[i32], out: &mut [i32]) -> Move
     requires { (0 < length row.now) × (length out.old ≡ length row.now) × (edge.at < index_limit) }
     ensures { step_of result out.new ≡ post_at chart.now edge.at row.now }
@@ -349,6 +357,7 @@ pub fn successor(chart: &[i32], edge: EdgeRow, row: &[i32], out: &mut [i32]) -> 
 }
 
 // Whether the row stands at an error location.
+#[tactic(auto, unfolding(crate::specs::Transfer::error_row))]
 pub fn is_error(chart: &[i32], row: &[i32]) -> bool
     ensures { result ≡ error_row chart.now row.now }
 {
@@ -356,6 +365,7 @@ pub fn is_error(chart: &[i32], row: &[i32]) -> bool
 }
 
 // The row of the initial abstract state. The start is location 0.
+#[tactic(auto, unfolding(crate::specs::Transfer::initial_row))]
 pub fn initial(chart: &[i32], out: &mut [i32])
     requires { length out.old ≡ width_of (layout_of chart.now) }
     ensures { out.new ≡ initial_row chart.now }

@@ -1,19 +1,9 @@
 -- `reached::merge_slots` meets its contract.
-use Rattle.semantics.proofs.Prelude.{◌≡◌, refl, sym, ap, subst, ◌∙◌, List, ◌++◌, ℕ, suc, ◌+◌, ◌-◌, ◌*◌, ◌≤◌, ◌<◌, mul-le-mul_right, suc-mul, sub-zero, add-one, ltb-true, arith, ℤ, length, get_or, take, drop, drop-drop, take-append-drop}
-use Rattle.semantics.specs.Lists.{pick}
-use Rattle.semantics.specs.Algorithm.{wait}
+use Rattle.semantics.proofs.Prelude.{◌≡◌, ◌++◌, ◌-◌, ◌*◌, length, take, drop}
 use Rattle.semantics.specs.Tidy.{Queue}
-use Rattle.semantics.proofs.Tidy.{queue_in_more}
-use Rattle.words.proofs.Rows.{row_in, span, part_length, length_put, drop_put}
-use Rattle.state.specs.declared.Layout.{Layout}
-use Rattle.state.specs.Rows.{width_of, row_of, row_merge, same_words, rows_merge, rows_of}
-use Rattle.state.proofs.Slots.{none_left, place_of, put_slot, slot_length, slot, merge_turn}
+use Rattle.state.specs.Rows.{rows_merge, rows_of}
 use Rattle.waitlist.specs.Waits.{waits, Stored}
-use Rattle.waitlist.proofs.WaitWords.{waits_are, kept}
 use Rattle.reached.specs.Reached.{rewaits}
-use Rattle.reached.specs.Links.{chain_of, chain_in, chains_of, Passed}
-use Rattle.reached.proofs.SlotLoops.{unless_queue}
-use Rattle.reached.proofs.SlotChains.{chains_length, chains_get, drop_later, passed_rows, passed_waits, passed_merge}
 use Rattle.reached.proofs.merge_slots.Given as goal
 
 abbrev pub invariant-loop-layout : goal.invariant-loop-layout

@@ -1,9 +1,7 @@
 -- `transfer::initial` meets its contract.
-use Rattle.semantics.proofs.Prelude.{◌≡◌, sym, ◌∙◌, ◌++◌, ◌+◌, ◌-◌, ◌<◌, ◌≤◌, arith, sfits_of, length, take, w32, to_z-of_z}
-use Rattle.semantics.specs.Layout.{variable_size, variable_at, init_place}
-use Rattle.state.proofs.Layouts.{id_fits}
+use Rattle.semantics.proofs.Prelude.{◌≡◌, ◌++◌, ◌+◌, ◌-◌, ◌≤◌, length, take}
+use Rattle.semantics.specs.Layout.{variable_at, init_place}
 use Rattle.transfer.specs.Transfer.{initial_row, initial_words}
-use Rattle.transfer.proofs.TransferTests.{initial_start, initial_turn, initial_end}
 use Rattle.transfer.proofs.initial.Given as goal
 
 abbrev pub invariant-loop-k : goal.invariant-loop-k

@@ -1,6 +1,5 @@
 -- `words::all_zero` meets its contract: what is said of the whole is said of the words passed and of what is left.
-use Rattle.semantics.proofs.Prelude.{◌≡◌, refl, sym, ap, ◌∙◌, Bool, ◌&&◌, and_assoc, and-true, ◌-◌, ◌≤◌, add-one, arith, pos, length, drop, get_or, drop_of_length-le, drop-cons, w32, to_z-of_z, sfits_of}
-use Rattle.semantics.specs.Chart.{eq_z}
+use Rattle.semantics.proofs.Prelude.{◌≡◌, ◌&&◌, ◌-◌, ◌≤◌, length, drop}
 use Rattle.semantics.specs.Memory.{zeros}
 use Rattle.words.proofs.all_zero.Given as goal
 

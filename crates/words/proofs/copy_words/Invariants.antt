@@ -1,5 +1,5 @@
 -- `words::copy_words` meets its contract.
-use Rattle.semantics.proofs.Prelude.{◌≡◌, refl, sym, ◌∙◌, ◌-◌, ◌≤◌, ◌<◌, add-one, arith, pos, length, take, get_or, length-set, take_all, take-suc, take-suc-set, w32, to_z-of_z, sfits_of}
+use Rattle.semantics.proofs.Prelude.{◌≡◌, ◌-◌, ◌≤◌, length, take}
 use Rattle.words.proofs.copy_words.Given as goal
 
 abbrev pub invariant-loop-i : goal.invariant-loop-i

@@ -1,6 +1,5 @@
 -- `words::fill_zero` meets its contract.
-use Rattle.semantics.proofs.Prelude.{◌≡◌, refl, sym, ◌∙◌, ◌-◌, ◌≤◌, arith, pos, length, take, replicate, length-set, take_all}
-use Rattle.words.proofs.Rows.{zero_turn}
+use Rattle.semantics.proofs.Prelude.{◌≡◌, ◌-◌, ◌≤◌, pos, length, take, replicate}
 use Rattle.words.proofs.fill_zero.Given as goal
 
 abbrev pub invariant-loop-i : goal.invariant-loop-i

@@ -1,5 +1,5 @@
 -- `writer::copy_bytes` meets its contract.
-use Rattle.semantics.proofs.Prelude.{arith, ◌≡◌, refl, sym, ◌∙◌, ◌-◌, ◌≤◌, ◌<◌, add-one, length, take, get_or, length-set, take_all, take-suc, take-suc-set}
+use Rattle.semantics.proofs.Prelude.{◌≡◌, ◌-◌, ◌≤◌, length, take}
 use Rattle.writer.proofs.copy_bytes.Given as goal
 
 abbrev pub invariant-loop-i : goal.invariant-loop-i

@@ -1,6 +1,6 @@
 -- `writer::put_each` meets its contract: with the bytes left, all are put.
-use Rattle.semantics.proofs.Prelude.{arith, ◌≡◌, refl, ◌∙◌, ◌-◌, ◌≤◌, add-one, length, drop, drop_of_length-le, drop-cons}
-use Rattle.writer.proofs.Written.{Completes, one_more, all_put}
+use Rattle.semantics.proofs.Prelude.{arith, ◌∙◌, add-one, drop_of_length-le, drop-cons}
+use Rattle.writer.proofs.Written.{one_more, all_put}
 use Rattle.writer.proofs.put_each.Goals as goal
 
 pub loop-i-preserved : goal.loop-i-preserved

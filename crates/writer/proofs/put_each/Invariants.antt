@@ -1,6 +1,6 @@
 -- `writer::put_each` meets its contract: with the bytes left, all are put.
-use Rattle.semantics.proofs.Prelude.{arith, ◌≡◌, refl, ◌∙◌, ◌-◌, ◌≤◌, add-one, length, drop, drop_of_length-le, drop-cons}
-use Rattle.writer.proofs.Written.{Completes, one_more, all_put}
+use Rattle.semantics.proofs.Prelude.{◌≡◌, ◌-◌, ◌≤◌, length, drop}
+use Rattle.writer.proofs.Written.{Completes}
 use Rattle.writer.proofs.put_each.Given as goal
 
 abbrev pub invariant-loop-i : goal.invariant-loop-i

@@ -1,6 +1,5 @@
 -- `writer::put_large` meets its contract: the digits still to come stand before those in the row.
-use Rattle.semantics.proofs.Prelude.{arith, ◌≡◌, refl, sym, ◌++◌, append-nil, ◌^◌, ◌≤◌, ◌<◌, length, length-set, drop}
-use Rattle.semantics.specs.Text.{decimal}
+use Rattle.semantics.proofs.Prelude.{arith, length-set}
 use Rattle.writer.proofs.Written.{put_same}
 use Rattle.writer.proofs.Decimals.{row_more, row_end, row_room}
 use Rattle.writer.proofs.put_large.Goals as goal

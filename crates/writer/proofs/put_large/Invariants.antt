@@ -1,8 +1,6 @@
 -- `writer::put_large` meets its contract: the digits still to come stand before those in the row.
-use Rattle.semantics.proofs.Prelude.{arith, ◌≡◌, refl, sym, ◌++◌, append-nil, ◌^◌, ◌≤◌, ◌<◌, length, length-set, drop}
+use Rattle.semantics.proofs.Prelude.{◌≡◌, ◌++◌, ◌^◌, ◌≤◌, ◌<◌, length, drop}
 use Rattle.semantics.specs.Text.{decimal}
-use Rattle.writer.proofs.Written.{put_same}
-use Rattle.writer.proofs.Decimals.{row_more, row_end, row_room}
 use Rattle.writer.proofs.put_large.Given as goal
 
 abbrev pub invariant-loop-left : goal.invariant-loop-left

@@ -2,7 +2,7 @@
 use Rattle.semantics.proofs.Prelude.{◌≡◌, sym, ap, ◌∙◌, ◌∷◌, ℕ, nat_abs, w32, to_z-of_z}
 use Rattle.semantics.specs.Text.{decimal}
 use Rattle.writer.proofs.Written.{put_then, put_same}
-use Rattle.writer.proofs.Decimals.{decimal_z_below, decimal_z_else}
+use Rattle.writer.proofs.Decimals.{decimal_z_below}
 use Rattle.writer.proofs.put_signed.Goals as goal
 
 pub returns-then-z-lt0 : goal.returns-then-z-lt0

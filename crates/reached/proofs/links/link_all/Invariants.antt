@@ -1,9 +1,7 @@
 -- `reached::links::link_all` meets its contract.
-use Rattle.semantics.proofs.Prelude.{◌≡◌, refl, sym, ap, ◌∙◌, ◌-◌, ◌≤◌, ltb-false, arith, length}
-use Rattle.state.specs.Rows.{Placed, location_in}
-use Rattle.state.proofs.Slots.{InUse, in_use}
+use Rattle.semantics.proofs.Prelude.{◌≡◌, ◌-◌, ◌≤◌, length}
+use Rattle.state.specs.Rows.{Placed}
 use Rattle.reached.specs.Links.{chains_of, Linked}
-use Rattle.reached.proofs.SlotChains.{chains_length, chains_next}
 use Rattle.reached.proofs.links.link_all.Given as goal
 
 abbrev pub invariant-loop-layout : goal.invariant-loop-layout

@@ -1,8 +1,6 @@
 -- `reader::scan::bad_byte` meets its contract.
-use Rattle.semantics.proofs.Prelude.{◌≡◌, refl, sym, ◌∙◌, suc, ◌+◌, ◌-◌, ◌≤◌, arith, length, get_or, drop, eqb, not-true, not-false}
+use Rattle.semantics.proofs.Prelude.{◌≡◌, ◌+◌, ◌-◌, ◌≤◌, length, drop}
 use Rattle.semantics.specs.Reading.{bad_byte_line}
-use Rattle.semantics.specs.Lists.{pick}
-use Rattle.reader.proofs.Scans.{bad_none, bad_step, bad_stop, bad_end, line_near}
 use Rattle.reader.proofs.scan.bad_byte.Given as goal
 
 abbrev pub invariant-loop-i : goal.invariant-loop-i

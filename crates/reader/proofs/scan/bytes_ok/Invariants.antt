@@ -1,8 +1,7 @@
 -- `reader::scan::bytes_ok` meets its contract.
-use Rattle.semantics.proofs.Prelude.{arith, ◌≡◌, refl, sym, ap, ◌∙◌, Bool, ◌&&◌, and-true, ◌-◌, ◌≤◌, length, drop}
+use Rattle.semantics.proofs.Prelude.{◌≡◌, ◌&&◌, ◌-◌, ◌≤◌, length, drop}
 use Rattle.semantics.specs.Lists.{all}
 use Rattle.semantics.specs.Reading.{byte_ok}
-use Rattle.text.proofs.Bytes.{all_turn, all_end}
 use Rattle.reader.proofs.scan.bytes_ok.Given as goal
 
 abbrev pub invariant-loop-i : goal.invariant-loop-i

@@ -1,8 +1,6 @@
 -- `reader::scan::open_line` meets its contract.
-use Rattle.semantics.proofs.Prelude.{◌≡◌, refl, sym, ◌∙◌, ◌∷◌, false, suc, ◌-◌, ◌≤◌, add-one, arith, length, drop, get_or, eqb}
+use Rattle.semantics.proofs.Prelude.{◌≡◌, ◌∷◌, ◌-◌, ◌≤◌, length, drop, get_or}
 use Rattle.semantics.specs.Reading.{open_line}
-use Rattle.semantics.specs.Lists.{pick}
-use Rattle.reader.proofs.Scans.{open_step, open_end, open_none, line_near}
 use Rattle.reader.proofs.scan.open_line.Given as goal
 
 abbrev pub invariant-loop-i : goal.invariant-loop-i

@@ -1,0 +1,24 @@
+use Rattle.semantics.proofs.Prelude.{◌∙◌, sfits_of, sfits_lit}
+use Rattle.semantics.specs.Layout.{top_word}
+use Rattle.words.proofs.Words.{told, told_eqb}
+use Rattle.transfer.specs.Transfer.{compute_at}
+use Rattle.transfer.proofs.compute.Goals as goal
+
+pub returns : goal.returns
+unfolding compute_at
+returns c =
+    let f = sfits_of {z = c.first_operand-a.result} c.first_operand-a.type_inv in
+    let g = sfits_of {z = c.second_operand-b.result} c.second_operand-b.type_inv in
+    c.assign_result.ensures
+    ∙ rw (
+      told_eqb f c.first_operand-a.ensures {n = top_word} (sfits_lit tt),
+      told_eqb g c.second_operand-b.ensures {n = top_word} (sfits_lit tt),
+      c.results-span.ensures,
+      c.span_of.ensures.span,
+      c.span_of-2.ensures.span,
+      told f c.first_operand-a.ensures,
+      told g c.second_operand-b.ensures,
+      c.first_variable-i.ensures.number,
+      c.second_variable-j.ensures.number,
+      c.edge_target-k.ensures.number,
+    )
