@@ -56,28 +56,22 @@ impl Names {
         let (Some(before), Some(after)) = (self.0.get(unit), changed.0.get(unit)) else {
             return BTreeMap::new();
         };
-        if !before
-            .steps
-            .iter()
-            .map(|(older, _)| older)
-            .eq(after.steps.iter().map(|(older, _)| older))
-        {
+        let olders = |steps: &[(String, String)]| -> Vec<String> {
+            steps.iter().map(|(older, _)| older.clone()).collect()
+        };
+        if olders(&before.steps) != olders(&after.steps) {
             return BTreeMap::new();
         }
-        let mut found = renamed(&before.steps, &after.steps);
-        found.extend(renamed(&before.goals, &after.goals));
-        found
+        let steps = before.steps.iter().zip(&after.steps);
+        // A goal more or less, as for a sum that can wrap, leaves the others.
+        let goals = before.goals.iter().filter_map(|goal| {
+            let same = after.goals.iter().find(|(older, _)| *older == goal.0);
+            same.map(|same| (goal, same))
+        });
+        let pairs = steps.chain(goals).map(|((_, name), (_, other))| (name, other));
+        let others = pairs.filter(|(name, other)| name != other);
+        others.map(|(name, other)| (name.clone(), other.clone())).collect()
     }
-}
-
-/// The names that differ under the same older name. A goal more or less, as for a sum that can wrap, leaves the others.
-fn renamed(before: &[(String, String)], after: &[(String, String)]) -> BTreeMap<String, String> {
-    let after: BTreeMap<&String, &String> =
-        after.iter().map(|(older, name)| (older, name)).collect();
-    let each = before.iter().filter_map(|(older, name)| Some((name, *after.get(older)?)));
-    each.filter(|(name, other)| name != other)
-        .map(|(name, other)| (name.clone(), other.clone()))
-        .collect()
 }
 
 /// A proof file with these names in place of its own.
@@ -142,6 +136,22 @@ mod tests {
         let other = said("n-lt11", "").replace("Then1", "Else1");
         let other = Names::read(&other, "rows").unwrap();
         assert!(names("n-lt10", "").changed(&other, "low::put").is_empty());
+    }
+
+    #[test]
+    fn steps_of_one_kind_are_told_apart_by_their_order() {
+        let arms = |first: &str, second: &str| {
+            let text = format!(
+                r#"{{"Rattle-rows-proofs.+turn.Lts-put": {{"loops": [], "needs": [],
+                    "places": [["Told", null, ["told", "in-{first}"]], ["Past", null, ["told", "in-{second}"]]],
+                    "places_by_name": ["In-{first}", "In-{second}"]}}}}"#
+            );
+            Names::read(&text, "rows").unwrap()
+        };
+        assert!(arms("Old", "New").changed(&arms("Old", "New"), "+turn").is_empty());
+        let found = arms("Old", "New").changed(&arms("New", "Old"), "+turn");
+        assert_eq!(found["in-Old"], "in-New");
+        assert_eq!(found["in-New"], "in-Old");
     }
 
     #[test]
