@@ -1,5 +1,5 @@
 -- `analysis::iteration_with` meets its contract.
-use Rattle.semantics.proofs.Prelude.{◌≡◌, ap, ◌∙◌, ◌++◌, ℕ, ◌-◌, ◌*◌, arith, length, take, drop}
+use Rattle.semantics.proofs.Prelude.{◌≡◌, ap, ◌∙◌, ◌++◌, ℕ, ◌*◌, arith, length, take, drop}
 use Rattle.semantics.specs.Algorithm.{visit_all, takers, brought}
 use Rattle.semantics.proofs.Tidy.{queue_in_more}
 use Rattle.words.proofs.Rows.{row_in}

@@ -1,5 +1,5 @@
 -- `analysis::visit_all` meets its contract.
-use Rattle.semantics.proofs.Prelude.{◌≡◌, refl, sym, ap, ◌∙◌, List, [], ◌∷◌, ◌++◌, ℕ, suc, ◌+◌, ◌-◌, ◌≤◌, ◌<◌, max, add-one, arith, leb-true, ℤ, length, get_or, length_front}
+use Rattle.semantics.proofs.Prelude.{◌≡◌, refl, sym, ap, ◌∙◌, List, [], ◌++◌, ℕ, suc, ◌+◌, ◌-◌, ◌≤◌, ◌<◌, max, arith, leb-true, ℤ, length, get_or, length_front}
 use Rattle.semantics.specs.declared.Settings.{Settings}
 use Rattle.semantics.specs.Algorithm.{Origin, Out, then, taking, brought, visit, visit_all, takers}
 use Rattle.state.specs.declared.Layout.{Layout}

@@ -1,9 +1,9 @@
 -- `checks::analysis_ok` meets its contract.
-use Rattle.semantics.proofs.Prelude.{◌≡◌, sym, ap, ◌∙◌, Bool, ◌&&◌, and-false, and-true, ℕ}
+use Rattle.semantics.proofs.Prelude.{sym, ap, ◌∙◌, Bool, ◌&&◌, and-false, and-true}
 use Rattle.semantics.specs.Lists.{all_of}
 use Rattle.semantics.specs.Encoding.{decode}
-use Rattle.semantics.specs.Memory.{lent_tests, record_tests}
-use Rattle.checks.proofs.FormTests.{both_parts, few_slots}
+use Rattle.semantics.specs.Memory.{lent_tests}
+use Rattle.checks.proofs.FormTests.{both_parts}
 use Rattle.checks.proofs.analysis_ok.Goals as goal
 
 pub returns-then-not-record_ok : goal.returns-then-not-record_ok

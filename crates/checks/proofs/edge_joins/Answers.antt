@@ -1,5 +1,5 @@
 -- `checks::edge_joins` meets its contract: no edge, one past the last, or one of the chart.
-use Rattle.semantics.proofs.Prelude.{◌≡◌, sym, ◌∙◌, ◌&&◌, List, ℕ, ◌+◌, ◌-◌, ◌*◌, ◌≤◌, ◌<◌, arith, eqb, eqb-false, leb-true, leb-false, ℤ}
+use Rattle.semantics.proofs.Prelude.{◌≡◌, sym, ◌∙◌, ◌&&◌, ◌+◌, ◌-◌, ◌*◌, ◌≤◌, ◌<◌, arith, eqb, eqb-false, leb-true, leb-false}
 use Rattle.semantics.specs.Layout.{edge_size}
 use Rattle.semantics.specs.Encoding.{edge_count}
 use Rattle.chart.specs.Encoded.{edges_at}

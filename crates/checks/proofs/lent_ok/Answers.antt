@@ -1,5 +1,5 @@
 -- `checks::lent_ok` meets its contract: the counts first, then all the rest.
-use Rattle.semantics.proofs.Prelude.{◌≡◌, sym, ap, ◌∙◌, ◌*◌, le-leb, take, drop}
+use Rattle.semantics.proofs.Prelude.{sym, ap, ◌∙◌, ◌*◌, le-leb, take, drop}
 use Rattle.semantics.specs.Encoding.{decode}
 use Rattle.semantics.specs.Memory.{zeros}
 use Rattle.words.proofs.Rows.{drop_take}

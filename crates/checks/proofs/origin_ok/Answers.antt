@@ -1,7 +1,7 @@
 -- `checks::origin_ok` meets its contract: slot 0 apart, and for any other the locations of two slots in use.
 use Rattle.semantics.proofs.Prelude.{◌≡◌, sym, ap, ◌∙◌, true, ℕ, ◌<◌, arith, ltb, ltb-true, get_or}
 use Rattle.semantics.specs.Encoding.{decode}
-use Rattle.semantics.specs.Memory.{states_in, origin_in, joins, locations, origin_ok}
+use Rattle.semantics.specs.Memory.{states_in, origin_in, joins, locations}
 use Rattle.state.specs.Rows.{location_in, row_of, tail_of}
 use Rattle.state.proofs.Layouts.{is_layout}
 use Rattle.checks.proofs.Origins.{location_at, origin_later}

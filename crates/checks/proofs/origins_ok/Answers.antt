@@ -1,7 +1,7 @@
 -- `checks::origins_ok` meets its contract.
 use Rattle.semantics.proofs.Prelude.{◌≡◌, sym, ap, ◌∙◌, Bool, true, false, ◌&&◌, List, ℕ, suc, ◌+◌, ◌-◌, ◌*◌, ◌<◌, arith, ℤ, drop, ltb-true}
 use Rattle.semantics.specs.Encoding.{decode}
-use Rattle.semantics.specs.Memory.{states_in, origin_in, origins_in, locations, origin_ok, origins_ok}
+use Rattle.semantics.specs.Memory.{origin_in, origins_in, origin_ok, origins_ok}
 use Rattle.state.specs.declared.Layout.{Layout}
 use Rattle.state.specs.Rows.{tail_of}
 use Rattle.state.proofs.Layouts.{LayoutOf, is_layout}

@@ -1,9 +1,9 @@
 -- `checks::waits_ok` meets its contract.
-use Rattle.semantics.proofs.Prelude.{◌≡◌, refl, sym, ap, ◌∙◌, Bool, true, false, not, List, ℕ, ◌<◌, arith, ℤ, pos, nat_abs, length, length-set, get_or, rules, w32, of_z, to_z, to_z-of_z}
+use Rattle.semantics.proofs.Prelude.{◌≡◌, refl, sym, ap, ◌∙◌, true, ◌<◌, arith, pos, nat_abs, length-set, rules, w32, of_z, to_z, to_z-of_z}
 use Rattle.semantics.specs.Layout.{most_slots}
 use Rattle.semantics.specs.Encoding.{word_at}
 use Rattle.semantics.specs.Memory.{below}
-use Rattle.checks.proofs.Marks.{fresh, none_marked, refused, marks_turn, says_slot}
+use Rattle.checks.proofs.Marks.{fresh, none_marked, marks_turn, says_slot}
 use Rattle.checks.proofs.waits_ok.Goals as goal
 
 pub loop-i-init : goal.loop-i-init
