@@ -1,7 +1,7 @@
 -- Record and words in form are exactly those of the exploration that they say, also as the semantics' own
 -- exploration: what `run_core` leaves, after `start_core` too, is what document 01's run and 2.9's call put there.
 -- Assumes nothing.
-use Rattle.semantics.proofs.Prelude.{◌≡◌, refl, sym, ap, subst, ◌∙◌, List, [], ◌∷◌, ◌++◌, map, nil≢cons, ℕ, zero, suc, ◌+◌, ◌-◌, ◌*◌, ◌≤◌, min, suc-mul, add_comm, arith, T, ℤ, pos, length, take, drop, replicate, take-append-drop, length-map, take-add, take-take, length-drop, length-take-le}
+use Rattle.semantics.proofs.Prelude.{◌≡◌, sym, ap, subst, ◌∙◌, List, [], ◌∷◌, ◌++◌, map, nil≢cons, ℕ, zero, suc, ◌+◌, ◌-◌, ◌*◌, ◌≤◌, min, suc-mul, add_comm, arith, T, ℤ, pos, length, take, drop, replicate, take-append-drop, length-map, take-add, take-take, length-drop, length-take-le}
 use Rattle.semantics.specs.Layout.{most_iterations}
 use Rattle.semantics.specs.declared.Analysis.{Analysis}
 use Rattle.semantics.specs.declared.Settings.{Settings}

@@ -1,14 +1,11 @@
 -- Facts behind the check of origins: the edges of a chart by their places, and the locations and origins of slots.
 -- Assumes nothing.
-use Rattle.semantics.proofs.Prelude.{◌≡◌, refl, ap, ◌∙◌, Bool, false, ◌&&◌, List, [], ◌∷◌, none, some, ℕ, zero, suc, ◌+◌, ◌-◌, ◌*◌, ◌≤◌, ◌<◌, add-zero, add-one, suc-mul, mul-suc, mul-zero, arith, T, eqb, ltb, ℤ, pos, take, drop, get_or, drop-drop, get_or-drop}
-use Rattle.semantics.specs.Lists.{get}
+use Rattle.semantics.proofs.Prelude.{◌≡◌, refl, Bool, false, ◌&&◌, List, [], ◌∷◌, ℕ, zero, suc, ◌+◌, ◌-◌, ◌*◌, ◌≤◌, ◌<◌, add-zero, add-one, suc-mul, arith, eqb, ltb, ℤ, pos, take, drop, get_or, drop-drop, get_or-drop}
 use Rattle.semantics.specs.Chart.{Chart}
-use Rattle.semantics.specs.Layout.{no_slot, edge_size, to_place, index_limit}
+use Rattle.semantics.specs.Layout.{no_slot, edge_size, to_place}
 use Rattle.semantics.specs.Algorithm.{Origin}
-use Rattle.semantics.specs.Encoding.{count, several, edge_in, edge_count, decode, well_formed}
+use Rattle.semantics.specs.Encoding.{count, edge_count, decode}
 use Rattle.semantics.specs.Memory.{width, state_in, states_in, origin_in, origins_in, locations, joins, origin_ok, origins_ok}
-use Rattle.semantics.proofs.Decoded.{vars_count, locs_count, edges_count}
-use Rattle.semantics.proofs.Encoded.{formed_bounds}
 use Rattle.chart.specs.Encoded.{edges_at}
 use Rattle.chart.proofs.Places.{edge_got, edge_past}
 use Rattle.state.specs.declared.Layout.{Layout}

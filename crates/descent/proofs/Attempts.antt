@@ -3,7 +3,6 @@ use mathlib.Core.Option.{map}
 use Rattle.semantics.proofs.Prelude.{◌≡◌, refl, sym, ap, ◌∙◌, subst, inl, inr, Bool, true, false, not, List, [], ◌∷◌, ◌++◌, Option, none, some, ℕ, zero, suc, ◌+◌, ◌-◌, ◌≤◌, ◌<◌, add-one, arith, T, leb, le-leb, lt-leb, ltb→lt, ℤ, length, drop, drop-append_seam}
 use Rattle.semantics.specs.Lists.{pick, In, all}
 use Rattle.semantics.specs.Chart.{Edge, Chart, Numbered, number_from, State, Ranged}
-use Rattle.semantics.specs.Algorithm.{to}
 use Rattle.semantics.specs.Encoding.{edge_ok}
 use Rattle.semantics.specs.Search.{Trail, here, overrun, by, ErrorRun, run_from, or_else, first_of, found, attempt, deepen, first_run, Choice, state, starting_values, explicit}
 use Rattle.semantics.specs.RealRuns.{Follows}

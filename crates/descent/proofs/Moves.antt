@@ -7,7 +7,6 @@ use Rattle.semantics.specs.Chart.{Value, known, Op, input, Operand, Edge, Chart,
 use Rattle.semantics.specs.Algorithm.{Step, blocked, fault, to}
 use Rattle.semantics.specs.Constants.{AbstractState, one_of, arrive_at, effect, post}
 use Rattle.semantics.specs.Encoding.{word, word_at, count, op_of, op_ok, decode, well_formed}
-use Rattle.semantics.specs.Memory.{row}
 use Rattle.semantics.specs.Search.{choose, inputs, apply, state, at_location, move}
 use Rattle.semantics.proofs.Bools.{to_true, and_left, and_right}
 use Rattle.semantics.proofs.AtAndIn.{none_some}

@@ -1,5 +1,5 @@
 -- What a view that nothing refuses may rely on, and what it leaves: one proof for listing and path. Assumes nothing.
-use Rattle.semantics.proofs.Prelude.{◌≡◌, refl, sym, ◌∙◌, List, [], ◌∷◌, ◌++◌, ℕ, ◌≤◌, T, ltb, ltb-false, ℤ, length, drop}
+use Rattle.semantics.proofs.Prelude.{◌≡◌, refl, sym, ◌∙◌, List, ℕ, ◌≤◌, T, ltb-false, ℤ, length}
 use Rattle.semantics.specs.declared.View.{View}
 use Rattle.semantics.specs.declared.View.TheVariants.{Listing, Path}
 use Rattle.semantics.specs.Encoding.{decode}

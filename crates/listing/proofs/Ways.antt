@@ -1,6 +1,6 @@
 -- The way to a slot, followed back from parent to parent, and the slots of a table that it names. Assumes nothing.
-use Rattle.semantics.proofs.Prelude.{◌≡◌, refl, sym, ap, ◌∙◌, subst, Bool, true, false, List, [], ◌∷◌, ◌++◌, map, append_snoc, some, ℕ, zero, suc, ◌+◌, ◌-◌, ◌*◌, ◌≤◌, ◌<◌, zero-add, suc-mul, add-one, arith, T, eqb, eqb-suc-zero, leb→le, ltb→lt, mul-le-mul_right, ℤ, nat_abs, length, take, drop, get_or, set, drop-drop, drop-cons, drop-set-lt}
-use Rattle.semantics.specs.Lists.{get, pick}
+use Rattle.semantics.proofs.Prelude.{◌≡◌, refl, sym, ap, ◌∙◌, List, [], ◌∷◌, ◌++◌, map, append_snoc, some, ℕ, zero, suc, ◌+◌, ◌-◌, ◌*◌, ◌≤◌, ◌<◌, zero-add, suc-mul, add-one, arith, T, eqb-suc-zero, leb→le, ltb→lt, mul-le-mul_right, ℤ, nat_abs, length, take, drop, get_or, set, drop-drop, drop-cons, drop-set-lt}
+use Rattle.semantics.specs.Lists.{get}
 use Rattle.semantics.specs.Chart.{Chart}
 use Rattle.semantics.specs.declared.Verdict.{Verdict}
 use Rattle.semantics.specs.declared.Verdict.TheVariants.{Open, Safe, Alarm, Full}

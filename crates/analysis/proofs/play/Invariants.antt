@@ -1,13 +1,11 @@
 -- `analysis::play` meets its contract.
-use Rattle.semantics.proofs.Prelude.{◌≡◌, refl, sym, ◌∙◌, List, ℕ, suc, ◌+◌, ◌-◌, ◌≤◌, arith, ℤ, length}
+use Rattle.semantics.proofs.Prelude.{◌≡◌, ◌+◌, ◌≤◌, length}
 use Rattle.semantics.specs.Layout.{most_iterations}
-use Rattle.semantics.specs.Algorithm.{Domain, Exploration, run}
-use Rattle.semantics.proofs.SettingsKept.{run_closed, run_open, run_none}
+use Rattle.semantics.specs.Algorithm.{run}
 use Rattle.reached.specs.Links.{chains_of, Linked}
 use Rattle.transfer.specs.Transfer.{edges_from}
 use Rattle.progress.specs.Progress.{load_of}
 use Rattle.analysis.specs.Loaded.{domain_of, Resumable}
-use Rattle.analysis.proofs.Iterations.{open_waits}
 use Rattle.analysis.proofs.play.Given as goal
 
 abbrev pub invariant-loop-rest : goal.invariant-loop-rest

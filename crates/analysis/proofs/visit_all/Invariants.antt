@@ -1,15 +1,10 @@
 -- `analysis::visit_all` meets its contract.
-use Rattle.semantics.proofs.Prelude.{◌≡◌, refl, sym, ap, ◌∙◌, List, [], ◌∷◌, ◌++◌, append-nil, ℕ, suc, ◌+◌, ◌-◌, ◌≤◌, max, add-one, arith, leb-true, leb-false, ℤ, length, get_or, take, length-take-le, length_front}
-use Rattle.semantics.specs.Algorithm.{Origin, Out, then, taking, brought, visit, visit_all, takers}
-use Rattle.state.specs.Rows.{most_width, location_in, rows_of, origins_of}
+use Rattle.semantics.proofs.Prelude.{◌≡◌, ◌++◌, ◌+◌, ◌-◌, ◌≤◌, length}
+use Rattle.semantics.specs.Algorithm.{brought, visit_all, takers}
+use Rattle.state.specs.Rows.{most_width, rows_of, origins_of}
 use Rattle.waitlist.specs.Waits.{waits}
-use Rattle.reached.proofs.Table.{rows_length}
-use Rattle.transfer.specs.Transfer.{edge_at, post_at, post_words, edges_from}
-use Rattle.analysis.specs.Chains.{from_at}
-use Rattle.progress.specs.Progress.{out_of}
-use Rattle.analysis.specs.Loaded.{IsEdge, Ready, domain_of}
-use Rattle.analysis.proofs.Arrival.{edges_turn, edges_none, post_is, then_on, then_ended, origins_on, origins_ended}
-use Rattle.analysis.proofs.PassedEdges.{passed_over, passed_takers}
+use Rattle.transfer.specs.Transfer.{edges_from}
+use Rattle.analysis.specs.Loaded.{Ready, domain_of}
 use Rattle.analysis.proofs.visit_all.Given as goal
 
 abbrev pub invariant-loop-slot : goal.invariant-loop-slot

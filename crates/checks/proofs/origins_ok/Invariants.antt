@@ -1,13 +1,9 @@
 -- `checks::origins_ok` meets its contract. The invariant: the origins of the slots in use pass exactly when those from
 -- the loop's slot on do.
-use Rattle.semantics.proofs.Prelude.{◌≡◌, sym, ap, ◌∙◌, Bool, true, false, ◌&&◌, List, ℕ, ◌+◌, ◌-◌, ◌*◌, sub-zero, arith, not-true, not-false, ℤ, drop}
+use Rattle.semantics.proofs.Prelude.{◌≡◌, Bool, List, ℕ, ◌-◌, ◌*◌, ℤ, drop}
 use Rattle.semantics.specs.Encoding.{decode}
 use Rattle.semantics.specs.Memory.{states_in, origins_in, locations, origins_ok}
-use Rattle.state.specs.declared.Layout.{Layout}
 use Rattle.state.specs.Rows.{Placed}
-use Rattle.state.proofs.Layouts.{LayoutOf, is_layout}
-use Rattle.state.proofs.Slots.{InUse, in_use, none_left}
-use Rattle.checks.proofs.Origins.{origins_ok_turn}
 use Rattle.checks.proofs.origins_ok.Given as goal
 
 -- the origins of slot s and of n - 1 after it, whose words these are, in a table of so many slots in use

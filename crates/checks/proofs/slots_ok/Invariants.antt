@@ -1,13 +1,9 @@
 -- `checks::slots_ok` meets its contract. The invariant: the slots in use pass exactly when those from the loop's slot on
 -- do.
-use Rattle.semantics.proofs.Prelude.{◌≡◌, sym, ap, ◌∙◌, Bool, true, false, ◌&&◌, List, ℕ, ◌+◌, ◌-◌, ◌*◌, ◌≤◌, sub-zero, arith, not-true, not-false, ℤ, drop}
+use Rattle.semantics.proofs.Prelude.{◌≡◌, ◌-◌, ◌*◌, drop}
 use Rattle.semantics.specs.Encoding.{decode}
 use Rattle.semantics.specs.Memory.{slots_ok}
-use Rattle.state.specs.declared.Layout.{Layout}
-use Rattle.state.specs.Rows.{width_of, Placed}
-use Rattle.state.proofs.Layouts.{LayoutOf, is_layout}
-use Rattle.state.proofs.Slots.{InUse, in_use, none_left}
-use Rattle.checks.proofs.FormTests.{slots_ok_turn}
+use Rattle.state.specs.Rows.{Placed}
 use Rattle.checks.proofs.slots_ok.Given as goal
 
 abbrev pub invariant-loop-layout : goal.invariant-loop-layout

@@ -1,11 +1,10 @@
 -- `checks::waits_ok` meets its contract. The invariant: the list passes exactly when what is left passes, where the slots
 -- named before are marked.
-use Rattle.semantics.proofs.Prelude.{◌≡◌, refl, sym, ap, ◌∙◌, Bool, true, false, ◌&&◌, not, List, ℕ, ◌-◌, ◌<◌, ◌≤◌, arith, sfits_of, not-true, not-false, ℤ, pos, nat_abs, length, length-set, drop, drop_of_length-le, get_or, w32, of_z, to_z, to_z-of_z}
+use Rattle.semantics.proofs.Prelude.{◌≡◌, ◌&&◌, ◌-◌, ◌≤◌, length, drop}
 use Rattle.semantics.specs.Layout.{most_slots}
 use Rattle.semantics.specs.Lists.{all}
-use Rattle.semantics.specs.Encoding.{word_at}
 use Rattle.semantics.specs.Memory.{below, each_once}
-use Rattle.checks.proofs.Marks.{fresh, passes, none_marked, refused, marks_turn, says_slot}
+use Rattle.checks.proofs.Marks.{passes}
 use Rattle.checks.proofs.waits_ok.Given as goal
 
 abbrev pub invariant-loop-i : goal.invariant-loop-i

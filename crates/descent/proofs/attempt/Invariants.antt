@@ -1,14 +1,11 @@
 -- `descent::attempt` meets its contract. The invariant: what is found from the starting states left is what is found from all.
 --
-use Rattle.semantics.proofs.Prelude.{◌≡◌, refl, sym, ap, ◌∙◌, subst, Bool, true, not, ℕ, ◌*◌, ◌≤◌, suc, arith, length}
+use Rattle.semantics.proofs.Prelude.{◌≡◌, true, length}
 use Rattle.semantics.specs.Encoding.{decode}
 use Rattle.semantics.specs.Memory.{width}
 use Rattle.semantics.specs.Search.{attempt, first_of, explicit}
-use Rattle.semantics.proofs.Decoded.{vars_count}
-use Rattle.semantics.proofs.Encoded.{formed_bounds}
 use Rattle.descent.specs.Starts.{Starts, left_over}
-use Rattle.descent.proofs.StartingValues.{starts_concrete}
-use Rattle.descent.proofs.Attempts.{from_values, attempts, start_found, start_kept, start_next, fewer, next_starts}
+use Rattle.descent.proofs.Attempts.{from_values}
 use Rattle.descent.proofs.attempt.Given as goal
 
 abbrev pub invariant-loop-more : goal.invariant-loop-more

@@ -1,9 +1,8 @@
 -- `descent::deepen` meets its contract. The invariant: none has fewer moves than are tried next.
-use Rattle.semantics.proofs.Prelude.{◌≡◌, refl, sym, ap, ◌∙◌, subst, not, ℕ, suc, ◌+◌, ◌-◌, ◌*◌, ◌≤◌, mul-le-mul_right, arith, length, lt-leb}
+use Rattle.semantics.proofs.Prelude.{◌≡◌, ◌+◌, ◌-◌, ◌≤◌, length}
 use Rattle.semantics.specs.Encoding.{decode}
-use Rattle.semantics.specs.Memory.{width}
 use Rattle.semantics.specs.Search.{first_run, explicit}
-use Rattle.descent.proofs.Attempts.{from_moves, from_none, attempt_found, attempt_next}
+use Rattle.descent.proofs.Attempts.{from_moves}
 use Rattle.descent.proofs.deepen.Given as goal
 
 abbrev pub invariant-loop-moves : goal.invariant-loop-moves

@@ -1,9 +1,7 @@
 -- `listing::mark_waiting` meets its contract. The invariant: setting the marks of the slots left gives those of the
 -- whole list.
-use Rattle.semantics.proofs.Prelude.{◌≡◌, refl, sym, ap, ◌∙◌, Bool, true, List, map, ℕ, ◌+◌, ◌-◌, ◌≤◌, arith, sfits_of, ℤ, nat_abs, length, drop, set, drop_of_length-le, w32, to_z-of_z}
-use Rattle.semantics.specs.Encoding.{count}
+use Rattle.semantics.proofs.Prelude.{◌≡◌, map, ◌-◌, ◌≤◌, nat_abs, length, drop}
 use Rattle.listing.specs.Pieces.{marked}
-use Rattle.listing.proofs.TextPieces.{marks_turn}
 use Rattle.listing.proofs.mark_waiting.Given as goal
 
 abbrev pub invariant-loop-i : goal.invariant-loop-i

@@ -1,10 +1,7 @@
 -- `listing::put_name` meets its contract. The invariant: with the bytes left, the name is written after the tab.
 --
-use Rattle.semantics.proofs.Prelude.{◌≡◌, refl, sym, ap, ◌∙◌, List, map, ℕ, ◌-◌, ◌≤◌, add-one, arith, sfits_of, pos, nat_abs, length, get_or, length-map, get_or-map, drop_of_length-le, drop, drop-cons, w32, to_z-of_z}
-use Rattle.chart.specs.Encoded.{byte_of}
-use Rattle.chart.proofs.NameBytes.{names_are_bytes}
-use Rattle.writer.proofs.Written.{put_then, put_same, Completes, one_more, all_put}
-use Rattle.listing.specs.Pieces.{tabbed}
+use Rattle.semantics.proofs.Prelude.{◌≡◌, map, ◌-◌, ◌≤◌, nat_abs, length, drop}
+use Rattle.writer.proofs.Written.{Completes}
 use Rattle.listing.proofs.put_name.Given as goal
 
 abbrev pub invariant-loop-i : goal.invariant-loop-i

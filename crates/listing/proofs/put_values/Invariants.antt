@@ -1,8 +1,7 @@
 -- `listing::put_values` meets its contract. The invariant: with the values left, all are written.
-use Rattle.semantics.proofs.Prelude.{◌≡◌, refl, ◌∙◌, ◌-◌, ◌≤◌, arith, sfits_of, length, drop, drop_of_length-le, w32, to_z-of_z}
-use Rattle.writer.proofs.Written.{Completes, one_more, all_put}
+use Rattle.semantics.proofs.Prelude.{◌≡◌, ◌-◌, ◌≤◌, length, drop}
+use Rattle.writer.proofs.Written.{Completes}
 use Rattle.listing.specs.Pieces.{values_text}
-use Rattle.listing.proofs.TextPieces.{values_turn}
 use Rattle.listing.proofs.put_values.Given as goal
 
 abbrev pub invariant-loop-i : goal.invariant-loop-i

@@ -1,14 +1,9 @@
 -- `listing::trace_back` meets its contract. The invariant: the way to the loop's slot, and what is written after that
 -- slot, are the whole. A slot is never above its place, since parents fall.
-use Rattle.semantics.proofs.Prelude.{◌≡◌, refl, sym, ap, ◌∙◌, List, [], ◌++◌, append-nil, ℕ, ◌+◌, ◌-◌, ◌*◌, ◌≤◌, ◌<◌, arith, ℤ, length, drop, get_or, set, length-set, get_or-set_same, drop_of_length-le}
-use Rattle.semantics.specs.Algorithm.{Origin}
-use Rattle.semantics.specs.Memory.{origin_in}
-use Rattle.semantics.specs.Path.{parent_of, way_to}
-use Rattle.words.proofs.Rows.{row_in}
+use Rattle.semantics.proofs.Prelude.{◌≡◌, List, ◌++◌, ℕ, ◌+◌, ◌≤◌, ◌<◌, ℤ, length, drop, get_or}
+use Rattle.semantics.specs.Path.{way_to}
 use Rattle.state.specs.declared.Layout.{Layout}
-use Rattle.state.specs.Rows.{tail_of, origins_of}
-use Rattle.state.proofs.Slots.{place_of}
-use Rattle.listing.proofs.Ways.{parent_get, traced_turn, traced_end}
+use Rattle.state.specs.Rows.{origins_of}
 use Rattle.listing.proofs.trace_back.Given as goal
 
 -- the way to slot s

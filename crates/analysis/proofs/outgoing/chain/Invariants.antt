@@ -1,9 +1,6 @@
 -- `analysis::outgoing::chain` meets its contract.
-use Rattle.semantics.proofs.Prelude.{◌≡◌, refl, ap, ◌∙◌, ◌+◌, ◌-◌, ◌≤◌, arith, length}
-use Rattle.semantics.specs.Encoding.{count}
-use Rattle.transfer.specs.Transfer.{edge_at}
-use Rattle.analysis.specs.Chains.{from_at, Chained}
-use Rattle.analysis.proofs.Chaining.{linked}
+use Rattle.semantics.proofs.Prelude.{◌≡◌, ◌≤◌, length}
+use Rattle.analysis.specs.Chains.{Chained}
 use Rattle.analysis.proofs.outgoing.chain.Given as goal
 
 abbrev pub invariant-loop-number : goal.invariant-loop-number

@@ -1,6 +1,5 @@
 -- `descent::distances::fill` meets its contract.
-use Rattle.semantics.proofs.Prelude.{◌≡◌, refl, sym, ◌∙◌, ◌-◌, ◌≤◌, arith, length, take, replicate, length-set, take_all}
-use Rattle.descent.proofs.DistanceTests.{fill_turn}
+use Rattle.semantics.proofs.Prelude.{◌≡◌, ◌-◌, ◌≤◌, length, take, replicate}
 use Rattle.descent.proofs.distances.fill.Given as goal
 
 abbrev pub invariant-loop-i : goal.invariant-loop-i

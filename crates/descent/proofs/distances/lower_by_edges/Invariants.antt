@@ -1,11 +1,7 @@
 -- `descent::distances::lower_by_edges` meets its contract.
-use Rattle.semantics.proofs.Prelude.{◌≡◌, refl, sym, ap, subst, ◌∙◌, inl, inr, true, ℕ, ◌-◌, ◌≤◌, ◌<◌, dec_lt, arith, length, drop}
-use Rattle.semantics.specs.Encoding.{edge_in, edge_count}
-use Rattle.transfer.specs.Transfer.{edge_at}
-use Rattle.descent.specs.Rows.{edge_of, IsEdge}
-use Rattle.descent.specs.Distances.{distance_in, NearBy}
-use Rattle.descent.proofs.Moves.{leaves}
-use Rattle.descent.proofs.DistanceTests.{Asked, edge_asks, is_edge, every_edge, Settled, settled_turn}
+use Rattle.semantics.proofs.Prelude.{◌≡◌, true, ◌≤◌, ◌<◌, length}
+use Rattle.semantics.specs.Encoding.{edge_count}
+use Rattle.descent.proofs.DistanceTests.{Asked, Settled}
 use Rattle.descent.proofs.distances.lower_by_edges.Given as goal
 
 abbrev pub invariant-loop-number : goal.invariant-loop-number

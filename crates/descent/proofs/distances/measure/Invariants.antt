@@ -1,9 +1,5 @@
 -- `descent::distances::measure` meets its contract.
-use Rattle.semantics.proofs.Prelude.{◌≡◌, refl, sym, ◌∙◌, subst, List, ℕ, arith, length}
-use Rattle.semantics.proofs.Bools.{left_true, right_true}
-use Rattle.semantics.specs.Encoding.{decode}
-use Rattle.descent.specs.Distances.{Distances, distance_in, KindsAllow}
-use Rattle.descent.proofs.DistanceTests.{zeros_serve}
+use Rattle.semantics.proofs.Prelude.{◌≡◌, length}
 use Rattle.descent.proofs.distances.measure.Given as goal
 
 abbrev pub invariant-loop-left : goal.invariant-loop-left

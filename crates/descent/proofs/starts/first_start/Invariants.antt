@@ -1,12 +1,7 @@
 -- `descent::starts::first_start` meets its contract.
-use Rattle.semantics.proofs.Prelude.{◌≡◌, sym, ap, ◌∙◌, append-nil, ◌+◌, ◌-◌, ◌<◌, ◌≤◌, arith, sfits_of, pos, length, take_all, take-suc-set}
+use Rattle.semantics.proofs.Prelude.{◌≡◌, ◌+◌, ◌-◌, ◌≤◌, length}
 use Rattle.semantics.specs.Encoding.{decode}
-use Rattle.semantics.proofs.Encoded.{formed_bounds}
-use Rattle.words.proofs.Words.{told}
-use Rattle.state.specs.Rows.{with_value}
-use Rattle.state.proofs.Layouts.{id_fits}
-use Rattle.descent.specs.Starts.{variable_in}
-use Rattle.descent.proofs.StartingValues.{next_variable, no_variable, first_row, Written, written_one}
+use Rattle.descent.proofs.StartingValues.{Written}
 use Rattle.descent.proofs.starts.first_start.Given as goal
 
 abbrev pub invariant-loop-k : goal.invariant-loop-k

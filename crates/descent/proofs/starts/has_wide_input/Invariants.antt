@@ -1,10 +1,7 @@
 -- `descent::starts::has_wide_input` meets its contract.
-use Rattle.semantics.proofs.Prelude.{◌≡◌, refl, sym, ap, ◌∙◌, true, false, List, ◌∷◌, ℕ, ◌+◌, ◌-◌, ◌≤◌, ◌<◌, arith, ℤ, drop}
-use Rattle.semantics.specs.Layout.{index_limit}
-use Rattle.semantics.specs.Chart.{Edge}
-use Rattle.semantics.specs.Encoding.{decode, edge_in}
-use Rattle.chart.proofs.Places.{edges_near}
-use Rattle.descent.proofs.StartingValues.{next_edge, no_edge, some_wide, wide_turn}
+use Rattle.semantics.proofs.Prelude.{◌≡◌, ◌-◌, ◌≤◌, drop}
+use Rattle.semantics.specs.Encoding.{decode}
+use Rattle.descent.proofs.StartingValues.{some_wide}
 use Rattle.descent.proofs.starts.has_wide_input.Given as goal
 
 abbrev pub invariant-loop-passed : goal.invariant-loop-passed

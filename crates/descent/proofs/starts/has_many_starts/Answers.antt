@@ -1,0 +1,31 @@
+use Rattle.semantics.proofs.Prelude.{sym, ap, ◌∙◌, ℕ, ◌+◌, ◌*◌, arith, le-ltb, drop}
+use Rattle.semantics.specs.Layout.{most_starts}
+use Rattle.semantics.specs.RunListing.{start_count}
+use Rattle.semantics.specs.Encoding.{decode}
+use Rattle.semantics.proofs.Encoded.{formed_bounds}
+use Rattle.descent.specs.Starts.{variable_in}
+use Rattle.descent.proofs.StartingValues.{next_variable, no_variable, count_turn, count_end, too_many}
+use Rattle.descent.proofs.starts.has_many_starts.Goals as goal
+
+pub returns-then-starts-gt-MOST_STARTS : goal.returns-then-starts-gt-MOST_STARTS
+returns-then-starts-gt-MOST_STARTS c =
+    let l = c.loop-k in
+    let ws = c.args.chart.now in
+    let vars = (decode ws).vars in
+    let turn = count_turn vars l.starts l.k l.invariant.2 (variable_in ws l.k) (next_variable ws l.k (omega (arith, c.variable_count-n.ensures.count))) ∙ ap (λ (m : ℕ). l.starts * m * start_count (drop (l.k + 1) vars)) (sym c.start_values-starts.ensures.count) in
+    sym (too_many vars (l.starts * c.start_values-starts.result) (l.k + 1) turn (formed_bounds ws c.requires).vars c.if-starts-gt-MOST_STARTS.true)
+
+pub loop-k-preserved : goal.loop-k-preserved
+loop-k-preserved c =
+    let l = c.loop-k in
+    let ws = c.args.chart.now in
+    let vars = (decode ws).vars in
+    let turn = count_turn vars l.starts l.k l.invariant.2 (variable_in ws l.k) (next_variable ws l.k (omega (arith, c.variable_count-n.ensures.count))) ∙ ap (λ (m : ℕ). l.starts * m * start_count (drop (l.k + 1) vars)) (sym c.start_values-starts.ensures.count) in
+    (omega arith, omega arith, turn)
+
+pub returns : goal.returns
+returns c =
+    let l = c.loop-k in
+    let ws = c.args.chart.now in
+    let all = count_end (decode ws).vars l.starts l.k l.invariant.2 (no_variable ws l.k (omega (arith, c.variable_count-n.ensures.count))) in
+    sym (le-ltb most_starts (start_count (decode ws).vars) (omega (arith, all)))
