@@ -41,7 +41,11 @@ impl Names {
                 listed.steps.push(pair(step)?);
             }
             for one in said.get("loops")?.list()? {
-                listed.steps.push(pair(one.list()?.first()?)?);
+                let (older, name) = pair(one.list()?.first()?)?;
+                for kind in ["invariant", "decreases"] {
+                    listed.steps.push((format!("{kind} {older}"), format!("{kind}-{name}")));
+                }
+                listed.steps.push((older, name));
             }
             for need in said.get("needs")?.list()? {
                 listed.goals.push(pair(need)?);
@@ -122,6 +126,15 @@ mod tests {
             ]
         );
         assert!(names("n-lt10", "").changed(&names("n-lt10", ""), "low::put").is_empty());
+    }
+
+    #[test]
+    fn a_loop_is_renamed_with_its_invariant() {
+        let other = said("n-lt10", "").replace("loop-i", "loop-s");
+        let other = Names::read(&other, "rows").unwrap();
+        let found = names("n-lt10", "").changed(&other, "low::put");
+        let text = respelled("invariant-loop-i l = c.loop-i.i ≤ decreases-loop-i", &found);
+        assert_eq!(text, "invariant-loop-s l = c.loop-s.i ≤ decreases-loop-s");
     }
 
     #[test]
