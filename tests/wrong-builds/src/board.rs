@@ -1,7 +1,6 @@
 //! The checks that are still to be made, which the workers share.
 
 use std::sync::{Condvar, Mutex};
-use std::time::Duration;
 
 /// A check of one crate, by the number of its plan.
 #[derive(Clone, Debug, PartialEq, Eq)]
@@ -32,35 +31,29 @@ struct Tasks {
     running: usize,
 }
 
-/// How often a task that cannot begin yet is looked at again.
-const PAUSE: Duration = Duration::from_millis(200);
-
 impl Board {
     pub fn new(open: Vec<Task>) -> Board {
         Board { tasks: Mutex::new(Tasks { open, running: 0 }), changed: Condvar::new() }
     }
 
     /// The next task that can begin, once there is one; none when all are done.
-    pub fn take(
-        &self,
-        can_begin: impl Fn(&Task) -> Result<bool, String>,
-    ) -> Result<Option<Task>, String> {
+    pub fn take(&self, can_begin: impl Fn(&Task) -> bool) -> Option<Task> {
         let mut tasks = self.tasks.lock().unwrap();
         while !tasks.open.is_empty() || tasks.running > 0 {
             let mut best: Option<usize> = None;
             for (at, task) in tasks.open.iter().enumerate() {
                 let better = best.is_none_or(|best| tasks.open[best].weight() < task.weight());
-                if better && can_begin(task)? {
+                if better && can_begin(task) {
                     best = Some(at);
                 }
             }
             if let Some(at) = best {
                 tasks.running += 1;
-                return Ok(Some(tasks.open.remove(at)));
+                return Some(tasks.open.remove(at));
             }
-            tasks = self.changed.wait_timeout(tasks, PAUSE).unwrap().0;
+            tasks = self.changed.wait(tasks).unwrap();
         }
-        Ok(None)
+        None
     }
 
     /// A task that was taken is done, and these follow from it.
@@ -87,7 +80,7 @@ mod tests {
     #[test]
     fn controls_come_first_and_large_groups_before_small_ones() {
         let board = Board::new(vec![Edits(0, vec![1]), Edits(0, vec![2, 3]), Control(1)]);
-        let next = || board.take(|_| Ok(true)).unwrap();
+        let next = || board.take(|_| true);
         assert_eq!(next(), Some(Control(1)));
         assert_eq!(next(), Some(Edits(0, vec![2, 3])));
         board.done(vec![Edits(1, vec![0, 1])]);
@@ -102,10 +95,9 @@ mod tests {
     #[test]
     fn what_cannot_begin_is_left() {
         let board = Board::new(vec![Control(0), Edits(1, vec![0])]);
-        let second = |task: &Task| Ok(!matches!(task, Control(_)));
-        assert_eq!(board.take(second), Ok(Some(Edits(1, vec![0]))));
-        assert_eq!(board.take(|_| Err("ended".into())), Err("ended".to_string()));
+        let second = |task: &Task| !matches!(task, Control(_));
+        assert_eq!(board.take(second), Some(Edits(1, vec![0])));
         board.stop();
-        assert_eq!(board.take(|_| Ok(true)), Ok(None));
+        assert_eq!(board.take(|_| true), None);
     }
 }

@@ -3,7 +3,7 @@
 
 use std::collections::{BTreeMap, BTreeSet};
 
-use crate::function::{functions, is_of_name, path_of};
+use crate::function::{functions, is_of_name, proved_in, unit_of};
 
 /// The texts of a crate by their path in it, `src/lib.rt`.
 pub type Sources = BTreeMap<String, String>;
@@ -24,8 +24,8 @@ pub struct Replacement {
 /// What an edit changes.
 #[derive(Clone, Debug, PartialEq, Eq)]
 pub enum Target {
-    /// The bodies of these functions, each named as the prover names it after the crate: `module::function`; or a constant
-    /// that they and no others name.
+    /// The bodies of these functions, each by its unit: `module::function`, or the cycle that it is in; or a constant that they
+    /// and no others name.
     Bodies(BTreeSet<String>),
     /// A definition, a contract or a type, which any function may rest on.
     Whole,
@@ -89,11 +89,14 @@ impl Edit {
     }
 }
 
-/// The function whose body the place lies in, or those that name the constant which it lies in; none where it is another.
+/// The function whose body or proof the place lies in, or those that name the constant which it lies in; none where it is another.
 fn changed_at(sources: &Sources, file: &str, at: usize) -> BTreeSet<String> {
+    if let Some(unit) = proved_in(file) {
+        return [unit].into();
+    }
     let text = &sources[file];
     if let Some(found) = functions(text).into_iter().find(|one| one.body.contains(&at)) {
-        return path_of(file, &found.name).into_iter().collect();
+        return unit_of(file, &found).into_iter().collect();
     }
     let line = text[..at].rfind('\n').map_or(0, |end| end + 1);
     let words = text[line..].trim_start_matches("pub ");
@@ -104,7 +107,7 @@ fn changed_at(sources: &Sources, file: &str, at: usize) -> BTreeSet<String> {
     let names_it = |code: &str| code.split(|c| !is_of_name(c)).any(|word| word == name);
     let each = sources.iter().flat_map(|(file, text)| {
         let users = functions(text).into_iter().filter(|one| names_it(&text[one.whole.clone()]));
-        users.filter_map(move |one| path_of(file, &one.name))
+        users.filter_map(move |one| unit_of(file, &one))
     });
     each.collect()
 }
@@ -139,12 +142,12 @@ mod tests {
 // fn said is no function
 pub const MOST: usize = 64;
 
-#[no_mangle]
+#[unsafe(no_mangle)]
 pub extern \"C\" fn first(
     a: usize,
 ) -> usize
-    requires { ⌜ a ≡ 1 ⌝ }
-    ensures { λ r. ⌜ r ≡ 2 ⌝ }
+    requires { a ≡ 1 }
+    ensures { result ≡ 2 }
 {
     while a < 3 {
         a += 4;
@@ -166,6 +169,8 @@ enum Kind {
             ("src/lib.rt".into(), CODE.into()),
             ("src/more.rt".into(), CODE.into()),
             ("specs/Rules.antt".into(), specs),
+            ("proofs/Laws.antt".into(), "law = refl\n".to_string()),
+            ("proofs/more/first/Answers.antt".into(), "returns c = refl\n".to_string()),
         ])
     }
 
@@ -224,10 +229,12 @@ enum Kind {
         assert_eq!(target("src/lib.rt", "a < 3"), Ok(bodies(&["first"])));
         assert_eq!(target("src/more.rt", "a += 4"), Ok(bodies(&["more::first"])));
         assert_eq!(target("src/lib.rt", "true"), Ok(bodies(&["second"])));
-        for old in ["a: usize", "a ≡ 1", "r ≡ 2", "Five"] {
+        for old in ["a: usize", "a ≡ 1", "result ≡ 2", "Five"] {
             assert_eq!(target("src/lib.rt", old), Ok(Target::Whole), "{old}");
         }
         assert_eq!(target("specs/Rules.antt", "60000"), Ok(Target::Whole));
+        assert_eq!(target("proofs/Laws.antt", "refl"), Ok(Target::Whole));
+        assert_eq!(target("proofs/more/first/Answers.antt", "refl"), Ok(bodies(&["more::first"])));
     }
 
     #[test]

@@ -1,6 +1,6 @@
-//! The functions of a crate: where they stand, what they call, and the part of the crate that some of them stand on.
+//! The functions of a crate: where they stand, what the prover calls them, and where their proofs lie.
 
-use std::collections::{BTreeMap, BTreeSet};
+use std::collections::BTreeMap;
 use std::ops::Range;
 
 use crate::edit::Sources;
@@ -9,6 +9,8 @@ use crate::edit::Sources;
 pub struct Function {
     /// Of a method with its type: `Type::method`.
     pub name: String,
+    /// The word of its `#[cycle(word)]`, which functions that call one another share.
+    pub cycle: Option<String>,
     /// With its attributes and its contract.
     pub whole: Range<usize>,
     pub body: Range<usize>,
@@ -34,7 +36,8 @@ pub fn functions(text: &str) -> Vec<Function> {
             implemented = type_name.split(|c| !is_of_name(c)).next();
         } else if margin && words == "}" {
             if let (Some(name), Some(body)) = (name.take(), body.take()) {
-                found.push(Function { name, whole: start..next, body: body..at });
+                let cycle = cycle_of(&text[start..body]);
+                found.push(Function { name, cycle, whole: start..next, body: body..at });
             }
         } else if let (true, Some((_, head))) = (margin, line.split_once("fn ")) {
             let word = head.split(|c| !is_of_name(c)).next();
@@ -57,6 +60,12 @@ pub fn is_of_name(c: char) -> bool {
     c.is_alphanumeric() || c == '_'
 }
 
+fn cycle_of(head: &str) -> Option<String> {
+    let attributes = head.lines().map(str::trim).take_while(|line| line.starts_with("#["));
+    let mut cycles = attributes.filter_map(|line| line.strip_prefix("#[cycle("));
+    Some(cycles.next()?.strip_suffix(")]")?.to_string())
+}
+
 /// The name of a function as the prover has it after the crate's: `module::function`.
 pub fn path_of(file: &str, name: &str) -> Option<String> {
     let module = file.strip_prefix("src/")?.strip_suffix(".rt")?;
@@ -66,86 +75,51 @@ pub fn path_of(file: &str, name: &str) -> Option<String> {
     })
 }
 
-/// The functions that a proof file is of: `proofs/module/function/Proof.antt`, `+function` for one that calls itself.
-pub fn proved_in(file: &str) -> Option<Vec<String>> {
-    let path = file.strip_prefix("proofs/")?.strip_suffix("/Proof.antt")?;
-    let (module, last) = path.rsplit_once('/').map_or(("", path), |(module, last)| (module, last));
-    let names = last.split('+').filter(|name| !name.is_empty());
-    let module = if module.is_empty() { String::new() } else { module.replace('/', "::") + "::" };
-    Some(names.map(|name| format!("{module}{name}")).collect())
+/// What is proved at once: a function, or all functions of a cycle.
+#[derive(Clone, Debug, Default, PartialEq, Eq)]
+pub struct Unit {
+    /// The functions, as the prover names them after the crate.
+    pub functions: Vec<String>,
+    /// Where each stands: its file, and its lines, counted from 1.
+    pub lines: Vec<(String, Range<usize>)>,
 }
 
-/// The part of a crate that some of its functions stand on.
-pub struct Part {
-    /// The sources without every other function and its proof.
-    pub sources: Sources,
-    /// The functions of the part that stand on none of those that it was made for.
-    pub below: BTreeSet<String>,
-}
-
-/// All that stands on the functions is left out, since of it a check could only say that what it stands on is refused. A
-/// function that is left out leaves its lines empty, so that every other keeps its place. What the functions called before they
-/// were changed is kept too, since their proofs may name it.
-pub fn part(before: &Sources, sources: &Sources, of: &BTreeSet<String>) -> Part {
-    let mut calls = calls(sources);
-    for (name, called) in self::calls(before) {
-        calls.entry(name).or_default().extend(called);
-    }
-    let kept = reached(&calls, of);
-    let mut left = Sources::new();
-    for (file, text) in sources {
-        if proved_in(file).is_some_and(|names| names.iter().any(|name| !kept.contains(name))) {
-            continue;
-        }
-        let mut text = text.clone();
-        if file.ends_with(".rt") {
-            let places: Vec<Range<usize>> = functions(&text)
-                .into_iter()
-                .filter(|f| path_of(file, &f.name).is_some_and(|path| !kept.contains(&path)))
-                .map(|f| f.whole)
-                .collect();
-            for place in places.into_iter().rev() {
-                let lines = text[place.clone()].matches('\n').count();
-                text.replace_range(place, &"\n".repeat(lines));
-            }
-        }
-        left.insert(file.clone(), text);
-    }
-    let stands_on = |name: &String| !reached(&calls, &[name.clone()].into()).is_disjoint(of);
-    let below = kept.iter().filter(|name| !stands_on(name)).cloned().collect();
-    Part { sources: left, below }
-}
-
-/// Which functions of the crate each calls. Names are told apart by their last word alone, so this may be too many.
-fn calls(sources: &Sources) -> BTreeMap<String, BTreeSet<String>> {
-    let mut words = BTreeMap::new();
+/// The units of a crate by name: `module::function`, and `module::+cycle` for a cycle.
+pub fn units(sources: &Sources) -> BTreeMap<String, Unit> {
+    let mut found: BTreeMap<String, Unit> = BTreeMap::new();
     for (file, text) in sources {
         for function in functions(text) {
             let Some(path) = path_of(file, &function.name) else { continue };
-            let parts: Vec<&str> = text[function.body].split('(').collect();
-            let before = parts[..parts.len() - 1].iter();
-            let called = before.filter_map(|part| part.rsplit(|c| !is_of_name(c)).next());
-            words.insert(path, called.collect::<BTreeSet<&str>>());
-        }
-    }
-    let last = |path: &String| path.rsplit("::").next().unwrap_or(path).to_string();
-    let each = |called: &BTreeSet<&str>| {
-        words.keys().filter(|path| called.contains(&last(path)[..])).cloned().collect()
-    };
-    words.iter().map(|(path, called)| (path.clone(), each(called))).collect()
-}
-
-fn reached(calls: &BTreeMap<String, BTreeSet<String>>, of: &BTreeSet<String>) -> BTreeSet<String> {
-    let mut found = of.clone();
-    let mut open: Vec<&String> = of.iter().collect();
-    while let Some(next) = open.pop() {
-        for called in calls.get(next).into_iter().flatten() {
-            if found.insert(called.clone()) {
-                open.push(called);
-            }
+            let unit = unit_of(file, &function);
+            let unit = found.entry(unit.unwrap_or_else(|| path.clone())).or_default();
+            unit.functions.push(path);
+            let before = text[..function.whole.start].matches('\n').count();
+            let long = text[function.whole].matches('\n').count();
+            unit.lines.push((file.clone(), before + 1..before + long + 1));
         }
     }
     found
+}
+
+/// The name of the unit that a function of the file is in.
+pub fn unit_of(file: &str, function: &Function) -> Option<String> {
+    match &function.cycle {
+        Some(cycle) => path_of(file, &format!("+{cycle}")),
+        None => path_of(file, &function.name),
+    }
+}
+
+/// The folder of a unit's proof.
+pub fn folder_of(unit: &str) -> String {
+    format!("proofs/{}/", unit.replace("::", "/"))
+}
+
+/// The unit that a proof file is of.
+pub fn proved_in(file: &str) -> Option<String> {
+    let (folder, name) = file.strip_prefix("proofs/")?.rsplit_once('/')?;
+    ["Answers.antt", "Invariants.antt", "Proof.antt"]
+        .contains(&name)
+        .then(|| folder.replace('/', "::"))
 }
 
 #[cfg(test)]
@@ -156,47 +130,34 @@ mod tests {
 // fn said is no function
 pub const MOST: usize = 64;
 
-#[no_mangle]
+#[unsafe(no_mangle)]
 pub extern \"C\" fn first(
     a: usize,
 ) -> usize
-    requires { ⌜ a ≡ 1 ⌝ }
+    requires { a ≡ 1 }
 {
     while low::second(a) < 3 {
         a += 4;
     }
 }
 
+#[cycle(turn)]
 fn third() -> bool {
     first(3) == third()
 }
 ";
     const LOW: &str = "pub fn second(a: usize) -> usize {\n    MOST\n}\n";
 
-    fn sources() -> Sources {
-        let files = [
-            ("src/lib.rt", CODE),
-            ("src/low.rt", LOW),
-            ("proofs/first/Proof.antt", "1"),
-            ("proofs/low/second/Proof.antt", "2"),
-            ("proofs/+third/Proof.antt", "3"),
-            ("proofs/Laws.antt", "4"),
-        ];
-        files.map(|(file, text)| (file.to_string(), text.to_string())).into()
-    }
-
-    fn names(names: &[&str]) -> BTreeSet<String> {
-        names.iter().map(|name| name.to_string()).collect()
-    }
-
     #[test]
     fn a_function_has_its_attributes_and_its_body() {
         let found = functions(CODE);
         assert_eq!(found.iter().map(|f| &f.name[..]).collect::<Vec<_>>(), ["first", "third"]);
-        assert!(CODE[found[0].whole.clone()].starts_with("#[no_mangle]\npub"));
+        assert!(CODE[found[0].whole.clone()].starts_with("#[unsafe(no_mangle)]\npub"));
         assert!(CODE[found[0].whole.clone()].ends_with("    }\n}\n"));
         assert!(CODE[found[0].body.clone()].starts_with("    while low"));
         assert_eq!(&CODE[found[1].body.clone()], "    first(3) == third()\n");
+        assert_eq!(found[0].cycle, None);
+        assert_eq!(found[1].cycle.as_deref(), Some("turn"));
     }
 
     #[test]
@@ -209,7 +170,7 @@ fn before() -> u8 {
 impl<'a> Held<'a> {
     // Not fn said.
     pub fn one(self) -> u8
-        ensures { λ r. ⌜ r ≡ 2 ⌝ }
+        ensures { result ≡ 2 }
     {
         before()
     }
@@ -227,7 +188,7 @@ impl Side {
     }
 }
 
-fn after() -> u8 {
+fn after<R: Read>(r: R) -> u8 {
     5
 }
 ";
@@ -238,48 +199,24 @@ fn after() -> u8 {
         assert!(code[found[2].whole.clone()].starts_with("    fn two"));
         assert!(code[found[2].whole.clone()].ends_with("        4\n    }\n"));
         assert_eq!(&code[found[4].body.clone()], "    5\n");
-
-        let held = Sources::from([("src/low.rt".to_string(), code.to_string())]);
-        let Part { sources: left, .. } = part(&held, &held, &["low::Held::one".to_string()].into());
-        assert!(left["src/low.rt"].contains("fn before") && left["src/low.rt"].contains("fn one"));
-        assert!(!left["src/low.rt"].contains("fn two") && !left["src/low.rt"].contains("fn after"));
     }
 
     #[test]
-    fn a_part_has_what_it_stands_on() {
-        let Part { sources: left, below } = part(&sources(), &sources(), &names(&["first"]));
-        assert_eq!(below, names(&["low::second"]));
-        assert!(left["src/lib.rt"].contains("fn first") && !left["src/lib.rt"].contains("third"));
-        assert_eq!(left["src/lib.rt"].lines().count(), CODE.lines().count());
-        assert_eq!(left["src/low.rt"], LOW);
-        let files: Vec<&String> = left.keys().filter(|file| file.starts_with("proofs/")).collect();
-        assert_eq!(
-            files,
-            ["proofs/Laws.antt", "proofs/first/Proof.antt", "proofs/low/second/Proof.antt"]
-        );
-    }
-
-    #[test]
-    fn a_part_of_all_leaves_nothing_out() {
-        let Part { sources: left, below } = part(&sources(), &sources(), &names(&["third"]));
-        assert_eq!(left, sources());
-        assert_eq!(below, names(&["first", "low::second"]));
-    }
-
-    #[test]
-    fn what_was_called_before_is_kept() {
-        let mut changed = sources();
-        changed.insert("src/lib.rt".into(), CODE.replace("low::second(a)", "2"));
-        let Part { sources: left, .. } = part(&sources(), &changed, &names(&["first"]));
-        assert_eq!(left["src/low.rt"], LOW);
-    }
-
-    #[test]
-    fn a_proof_file_names_its_functions() {
-        assert_eq!(proved_in("proofs/a/b/Proof.antt"), Some(vec!["a::b".to_string()]));
-        assert_eq!(proved_in("proofs/+c/Proof.antt"), Some(vec!["c".to_string()]));
-        let both = vec!["m::even".to_string(), "m::odd".to_string()];
-        assert_eq!(proved_in("proofs/m/+even+odd/Proof.antt"), Some(both));
-        assert_eq!(proved_in("proofs/Lib.antt"), None);
+    fn functions_of_a_cycle_are_one_unit() {
+        let files = [("src/lib.rt", CODE), ("src/low.rt", LOW), ("proofs/Laws.antt", "4")];
+        let sources: Sources =
+            files.map(|(file, text)| (file.to_string(), text.to_string())).into();
+        let found = units(&sources);
+        let names: Vec<&String> = found.keys().collect();
+        assert_eq!(names, ["+turn", "first", "low::second"]);
+        assert_eq!(found["+turn"].functions, ["third"]);
+        assert_eq!(found["first"].lines, [("src/lib.rt".to_string(), 4..14)]);
+        assert_eq!(found["low::second"].lines, [("src/low.rt".to_string(), 1..4)]);
+        assert_eq!(folder_of("+turn"), "proofs/+turn/");
+        assert_eq!(folder_of("low::second"), "proofs/low/second/");
+        assert_eq!(proved_in("proofs/low/second/Answers.antt"), Some("low::second".to_string()));
+        assert_eq!(proved_in("proofs/+turn/Invariants.antt"), Some("+turn".to_string()));
+        assert_eq!(proved_in("proofs/Laws.antt"), None);
+        assert_eq!(proved_in("proofs/low/Laws.antt"), None);
     }
 }

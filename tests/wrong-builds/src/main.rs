@@ -1,21 +1,23 @@
-//! `wrong-builds` tries the wrong builds of `crates/*/wrong-builds/*.edit` over the modules that were just proved.
+//! `wrong-builds` tries the wrong builds of `crates/*/wrong-builds/*.edit`: a proof must refuse each.
 //!
 //!     wrong-builds                   every edit; fails unless each is refused
 //!     wrong-builds CRATE[/EDIT]..    these alone (a named edit may stand in must-fail/ too)
-//!     wrong-builds beside FILE       every edit, of each crate once the `rt ci` that runs beside it has proved that crate;
-//!                                    FILE is written when `rt ci` ends, and says its status
 //!     wrong-builds list              each edit of must-fail/ and wrong-builds/ with what it stands for
 //!
-//! It is run in a repository whose target/ was left by `rt ci` or `rt check` (or, beside `rt ci`, was removed before both
-//! began, so that nothing older is trusted), and works on copies of it, in memory where it has room. Each crate is first checked as it stands, and must be proved: else a refusal would show nothing. Edits of the
-//! bodies of different functions are then tried together, in the part of the crate that these functions stand on; an edit of
-//! anything else, or one whose error others hide, is tried alone. An edit is refused where each function that it changes has an error of its own: not one that follows from
-//! another's, and none for the shape of the code. The whole logs are left in target/wrong-builds/.
+//! Each crate is first checked as it stands, by `rt check` in its folder, and must be proved: else a refusal would show nothing.
+//! Its edits are then tried on copies of it, over what that check kept in out/. Edits of the bodies of different functions are
+//! tried together, in a check of these functions and those that they call; an edit of anything else, or one whose error others
+//! hide, is tried alone, and that of a contract or a definition in the whole crate. An edit is refused where each function that
+//! it changes has an error of its own: not one that follows from another's, and none for the shape of the code. Where the code's
+//! words that it changes stand in names that a proof cites, the proof is brought to the new names first. The whole logs are left
+//! in target/wrong-builds/.
 
 mod board;
 mod edit;
 mod function;
+mod json;
 mod log;
+mod names;
 mod scratch;
 
 use std::collections::{BTreeMap, BTreeSet};
@@ -24,21 +26,19 @@ use std::fs;
 use std::io;
 use std::path::{Path, PathBuf};
 use std::process::ExitCode;
-use std::sync::Mutex;
+use std::sync::{Mutex, OnceLock};
 use std::time::{Duration, Instant};
 
 use board::{Board, Task};
 use edit::{Edit, Sources, Target};
-use function::Part;
 use log::Log;
-use scratch::{Room, Scratch};
+use scratch::{Base, Kit, Room, Scratch};
 
 fn main() -> ExitCode {
     let arguments: Vec<String> = std::env::args().skip(1).collect();
     let done = repository().and_then(|root| match &arguments[..] {
         [word] if word == "list" => list(&root),
-        [word, file] if word == "beside" => try_all(&root, &[], &Proving::Beside(file.into())),
-        names => try_all(&root, names, &Proving::Done),
+        names => try_all(&root, names),
     });
     match done {
         Ok(()) => ExitCode::SUCCESS,
@@ -60,7 +60,8 @@ fn repository() -> Result<PathBuf, String> {
 fn crates(root: &Path) -> Result<Vec<String>, String> {
     let text = fs::read_to_string(root.join("crates.txt")).map_err(said)?;
     let lines = text.lines().filter(|line| !line.starts_with('#'));
-    Ok(lines.filter_map(|line| Some(line.split_once(':')?.0.trim().to_string())).collect())
+    let heads = lines.filter_map(|line| line.split_once(':')?.0.split_whitespace().next());
+    Ok(heads.map(str::to_string).collect())
 }
 
 /// The edits in a folder of a crate, by name.
@@ -157,38 +158,16 @@ fn plans(root: &Path, names: &[String]) -> Result<Vec<Plan>, String> {
     wanted.into_iter().map(|(name, edits)| Plan::new(root, &name, edits)).collect()
 }
 
-/// The proving that the edits are tried after.
-enum Proving {
-    Done,
-    /// It goes on beside, and this file is written when it ends.
-    Beside(PathBuf),
-}
-
-impl Proving {
-    /// Whether a crate is proved; an error if it never will be.
-    fn has_proved(&self, root: &Path, name: &str) -> Result<bool, String> {
-        let Proving::Beside(ended) = self else { return Ok(true) };
-        // asked first: what is not proved at its end was not proved
-        let status = fs::read_to_string(ended).ok();
-        let word = fs::read_to_string(root.join(format!("target/log/{name}.res")));
-        // a program is built, and counts as proved once it has run
-        let proved = word.is_ok_and(|word| matches!(word.trim(), "proved" | "built"));
-        match status {
-            Some(status) if status.trim() != "0" => Err("rt ci failed".into()),
-            Some(_) if !proved => Err(format!("rt ci ended, and {name} is not proved")),
-            _ => Ok(proved),
-        }
-    }
-}
-
-/// What was shown of each edit, by its crate and name.
 type Results<'a> = BTreeMap<(&'a str, &'a str), Result<String, String>>;
 
 /// What the workers share.
 struct Work<'a> {
     root: &'a Path,
+    kit: &'a Kit,
     plans: &'a [Plan],
-    proving: &'a Proving,
+    /// What the checks of each plan begin with, once its control is done.
+    bases: Vec<OnceLock<Base>>,
+    below: BTreeMap<String, BTreeSet<String>>,
     board: Board,
     spent: Spent,
     results: Mutex<Results<'a>>,
@@ -200,11 +179,11 @@ impl<'a> Work<'a> {
     /// Does tasks until none is left, or one cannot be done.
     fn go_on(&self, scratch: &Scratch) -> Result<(), String> {
         let can_begin = |task: &Task| match task {
-            Task::Control(plan) => self.proving.has_proved(self.root, &self.plans[*plan].name),
-            Task::Edits(..) => Ok(true),
+            Task::Control(number) => self.is_next(*number),
+            Task::Edits(..) => true,
         };
         let all = || {
-            while let Some(task) = self.board.take(can_begin)? {
+            while let Some(task) = self.board.take(can_begin) {
                 self.board.done(self.follow(scratch, task)?);
             }
             Ok(())
@@ -212,22 +191,32 @@ impl<'a> Work<'a> {
         all().inspect_err(|_| self.board.stop())
     }
 
+    /// Whether the crates below that of the plan are built, as far as they have a plan.
+    fn is_next(&self, number: usize) -> bool {
+        let below = &self.below[&self.plans[number].name];
+        let plans = self.plans.iter().zip(&self.bases);
+        plans.filter(|(plan, _)| below.contains(&plan.name)).all(|(_, base)| base.get().is_some())
+    }
+
     /// Does one task, and answers those that follow from it.
     fn follow(&self, scratch: &Scratch, task: Task) -> Result<Vec<Task>, String> {
         match task {
             Task::Control(number) => {
                 let plan = &self.plans[number];
-                let control = || scratch.control(&plan.name);
+                let control = || self.kit.control(self.root, &plan.name);
                 let log = self.spent.on(&plan.name, control).map_err(said)?;
                 if !log.is_proved() {
                     return Err(format!("{} is not proved as it stands:\n{}", plan.name, log.text));
                 }
+                let base = scratch.base(self.root, &plan.name, &plan.sources).map_err(said)?;
+                let _ = self.bases[number].set(base);
                 let groups = edit::groups(&plan.targets).into_iter();
                 Ok(groups.map(|members| Task::Edits(number, members)).collect())
             }
             Task::Edits(number, members) => {
                 let plan = &self.plans[number];
-                let attempt = || attempt(self.root, scratch, plan, &members);
+                let base = self.bases[number].get().ok_or("edits before their control")?;
+                let attempt = || attempt(self.root, scratch, base, plan, &members);
                 let shown = self.spent.on(&plan.name, attempt)?;
                 let mut alone = Vec::new();
                 for (&member, result) in members.iter().zip(shown) {
@@ -246,21 +235,20 @@ impl<'a> Work<'a> {
     }
 }
 
-fn try_all(root: &Path, names: &[String], proving: &Proving) -> Result<(), String> {
+fn try_all(root: &Path, names: &[String]) -> Result<(), String> {
     let began = Instant::now();
     let plans = plans(root, names)?;
-    let count = worker_count();
-    let room = Room::new(count).map_err(said)?;
-    let modules_name = room.modules_name().map_err(said)?;
-    let workers: Vec<Scratch> = (0..count)
-        .map(|number| Scratch::new(&room, number, root, &modules_name))
-        .collect::<io::Result<_>>()
-        .map_err(said)?;
+    let kit = Kit::find().map_err(said)?;
+    let room = Room::new().map_err(said)?;
+    let workers: Vec<Scratch> =
+        (0..worker_count()).map(|number| Scratch::new(&kit, &room, number)).collect();
 
     let work = Work {
         root,
+        kit: &kit,
         plans: &plans,
-        proving,
+        bases: plans.iter().map(|_| OnceLock::new()).collect(),
+        below: scratch::crates_below(root).map_err(said)?,
         board: Board::new((0..plans.len()).map(Task::Control).collect()),
         spent: Spent::default(),
         results: Mutex::default(),
@@ -319,34 +307,61 @@ impl fmt::Display for Spent {
 fn attempt(
     root: &Path,
     scratch: &Scratch,
+    base: &Base,
     plan: &Plan,
     members: &[usize],
 ) -> Result<Vec<Result<String, String>>, String> {
-    let changed = match plan.changed(members) {
+    let mut changed = match plan.changed(members) {
         // edits that do not go together are tried alone
         Err(why) if members.len() > 1 => {
             return Ok(members.iter().map(|_| Err(why.clone())).collect())
         }
         other => other?,
     };
+    let units = function::units(&changed);
     let bodies: Option<Vec<_>> =
         members.iter().map(|&member| plan.targets[member].bodies()).collect();
-    let Part { sources, below } = match bodies {
-        Some(bodies) => {
-            let names = bodies.into_iter().flatten().cloned().collect();
-            function::part(&plan.sources, &changed, &names)
-        }
-        None => Part { sources: changed, below: BTreeSet::new() },
-    };
-    let log = scratch.check(&plan.name, &plan.sources, &sources).map_err(said)?;
+    let names: BTreeSet<String> =
+        bodies.iter().flatten().flat_map(|names| names.iter().cloned()).collect();
+    if bodies.is_some() {
+        respell(scratch, base, &plan.name, &mut changed, &names).map_err(said)?;
+    }
+    let functions =
+        names.iter().filter_map(|name| units.get(name)).flat_map(|unit| &unit.functions);
+    let only = functions.map(|function| format!("{}::{function}", plan.name)).collect();
+    let log = scratch.check(base, &plan.name, &changed, &only).map_err(said)?;
     for &member in members {
         keep(root, &plan.name, &plan.edits[member].0, &log).map_err(said)?;
     }
-    if let Some(name) = below.iter().find(|name| !log.proves(&plan.name, name)) {
+    if let Some(name) = log.lost(&plan.name, &names, &units).filter(|_| bodies.is_some()) {
         let why = format!("{name}, which is as it was, is not proved");
         return Ok(members.iter().map(|_| Err(why.clone())).collect());
     }
-    Ok(members.iter().map(|&member| log.refusal(&plan.name, &plan.targets[member])).collect())
+    let refusal = |&member: &usize| log.refusal(&plan.name, &plan.targets[member], &units);
+    Ok(members.iter().map(refusal).collect())
+}
+
+/// Brings the proofs of these units to the names that the changed code gives to its steps, places and goals.
+fn respell(
+    scratch: &Scratch,
+    base: &Base,
+    crate_name: &str,
+    changed: &mut Sources,
+    units: &BTreeSet<String>,
+) -> io::Result<()> {
+    let is_theirs = |file: &str| function::proved_in(file).filter(|unit| units.contains(unit));
+    let Some(before) =
+        base.names.as_ref().filter(|_| changed.keys().any(|file| is_theirs(file).is_some()))
+    else {
+        return Ok(());
+    };
+    let Some(after) = scratch.names(base, crate_name, changed)? else { return Ok(()) };
+    for (file, text) in changed {
+        if let Some(unit) = is_theirs(file) {
+            *text = names::respelled(text, &before.changed(&after, &unit));
+        }
+    }
+    Ok(())
 }
 
 fn keep(root: &Path, name: &str, label: &str, log: &Log) -> io::Result<()> {
@@ -355,11 +370,15 @@ fn keep(root: &Path, name: &str, label: &str, log: &Log) -> io::Result<()> {
     fs::write(folder.join(format!("{label}.log")), &log.text)
 }
 
-/// RT_JOBS, or the processors: at most 8, since each worker has a copy of target/rlib.
+/// RT_JOBS, or the processors, but no more than there is memory for: a check was seen to take 2 GiB.
 fn worker_count() -> u64 {
     let asked = std::env::var("RT_JOBS").ok().and_then(|jobs| jobs.parse().ok());
-    let processors = || std::thread::available_parallelism().map_or(1, |n| n.get() as u64).min(8);
-    asked.unwrap_or_else(processors).max(1)
+    let memory = fs::read_to_string("/proc/meminfo").unwrap_or_default();
+    let free = memory.lines().find_map(|line| line.strip_prefix("MemAvailable:"));
+    let free = free.and_then(|line| line.split_whitespace().next()?.parse::<u64>().ok());
+    let most = free.map_or(8, |kib| kib >> 21);
+    let processors = || std::thread::available_parallelism().map_or(1, |n| n.get() as u64);
+    asked.unwrap_or_else(|| processors().min(most)).max(1)
 }
 
 fn said(error: io::Error) -> String {

@@ -1,4 +1,4 @@
-//! A copy of the repository in which wrong builds are tried over the modules that were proved there.
+//! Where wrong builds are tried: copies of a crate, over what `rt check` kept of it.
 
 use std::collections::{BTreeMap, BTreeSet};
 use std::fs;
@@ -8,6 +8,53 @@ use std::process::{Command, Stdio};
 
 use crate::edit::Sources;
 use crate::log::Log;
+use crate::names::Names;
+
+/// The toolchain that `rt` is of.
+pub struct Kit {
+    bin: PathBuf,
+}
+
+/// Writes the words of a check of a crate, one a line, as rt itself puts them together for a must-fail edit.
+const WORDS: &str = "\
+import sys
+sys.path.insert(0, sys.argv[1])
+import rtlib
+print('\\n'.join(rtlib.Crate(sys.argv[2], sys.argv[3], {}).words(['--jobs', '1'], keeps=False)))
+";
+
+impl Kit {
+    pub fn find() -> io::Result<Kit> {
+        let path = std::env::var_os("PATH").unwrap_or_default();
+        let rt =
+            std::env::split_paths(&path).map(|folder| folder.join("rt")).find(|rt| rt.is_file());
+        let rt = rt.ok_or(io::Error::other("no `rt` in PATH"))?.canonicalize()?;
+        Ok(Kit { bin: rt.parent().unwrap_or(Path::new("/")).to_path_buf() })
+    }
+
+    /// Checks a crate where it stands, and those below it that are not built. What it proves is kept in the crate's out/.
+    pub fn control(&self, root: &Path, name: &str) -> io::Result<Log> {
+        run(Command::new(self.bin.join("rt")).arg("check").current_dir(home(root, name)))
+    }
+
+    /// The words of a check of a crate over the libraries below it.
+    fn words(&self, root: &Path, name: &str) -> io::Result<Vec<String>> {
+        let mut python = Command::new("python3");
+        python.args(["-c", WORDS]).arg(&self.bin).arg(home(root, name)).arg(root);
+        let log = run(&mut python)?;
+        match log.status {
+            Some(0) => Ok(log.text.lines().map(str::to_string).collect()),
+            _ => Err(io::Error::other(format!(
+                "rt says no words of a check of {name}: {}",
+                log.text
+            ))),
+        }
+    }
+}
+
+fn home(root: &Path, name: &str) -> PathBuf {
+    root.join("crates").join(name)
+}
 
 /// The folder of all copies, removed at the end.
 pub struct Room {
@@ -15,32 +62,11 @@ pub struct Room {
 }
 
 impl Room {
-    /// In memory where there is a GiB for each worker and one more; two workers were seen to take 1.6.
-    pub fn new(workers: u64) -> io::Result<Room> {
-        let memory = PathBuf::from("/dev/shm");
-        let parent =
-            if free(&memory) >= (workers + 1) << 20 { memory } else { std::env::temp_dir() };
-        let path = parent.join(format!("wrong-builds.{}", std::process::id()));
+    pub fn new() -> io::Result<Room> {
+        let path = std::env::temp_dir().join(format!("wrong-builds.{}", std::process::id()));
         remove(&path)?;
         fs::create_dir(&path)?;
         Ok(Room { path })
-    }
-
-    /// The name that the prover gives to a folder of checked modules, learnt from a crate with nothing to prove.
-    pub fn modules_name(&self) -> io::Result<String> {
-        let home = self.path.join("empty");
-        fs::create_dir_all(home.join("crates/empty/src"))?;
-        fs::write(home.join("crates.txt"), "empty:\n")?;
-        fs::write(home.join("crates/empty/src/lib.rt"), "pub fn nothing() {\n}\n")?;
-        let log = dev(&home, "empty")?;
-        let names: Vec<_> = match fs::read_dir(home.join("target/inc/empty")) {
-            Ok(entries) => entries.collect::<io::Result<_>>()?,
-            Err(_) => Vec::new(),
-        };
-        match &names[..] {
-            [only] => Ok(only.file_name().to_string_lossy().into_owned()),
-            _ => Err(io::Error::other(format!("`rt dev` kept no modules:\n{}", log.text))),
-        }
     }
 }
 
@@ -50,106 +76,111 @@ impl Drop for Room {
     }
 }
 
-/// One copy, for one worker.
-pub struct Scratch {
-    repository: PathBuf,
-    room: PathBuf,
-    home: PathBuf,
-    modules_name: String,
+/// What checks of a crate begin with: their words, what was proved of the crate, and the names that its proofs cite.
+pub struct Base {
+    words: Vec<String>,
+    proved: PathBuf,
+    pub names: Option<Names>,
 }
 
-impl Scratch {
-    pub fn new(
-        room: &Room,
-        number: u64,
-        repository: &Path,
-        modules_name: &str,
-    ) -> io::Result<Scratch> {
-        let home = room.path.join(number.to_string());
-        for part in ["crates", "crates.txt"] {
-            copy(&repository.join(part), &home.join(part))?;
-        }
-        fs::create_dir_all(home.join("target/stamp"))?;
-        Ok(Scratch {
-            repository: repository.to_path_buf(),
-            room: room.path.clone(),
-            home,
-            modules_name: modules_name.to_string(),
-        })
+/// One worker's place.
+pub struct Scratch<'a> {
+    kit: &'a Kit,
+    room: &'a Path,
+    home: PathBuf,
+}
+
+impl<'a> Scratch<'a> {
+    pub fn new(kit: &'a Kit, room: &'a Room, number: u64) -> Scratch<'a> {
+        Scratch { kit, room: &room.path, home: room.path.join(number.to_string()) }
     }
 
-    /// Checks a crate as it stands, over the modules that it was proved with, and keeps its modules for the edits.
-    pub fn control(&self, name: &str) -> io::Result<Log> {
-        self.bring_below(name)?;
-        let modules = self.modules(name);
-        remove(&modules)?;
-        let checked = self.repository.join(format!("target/rlib/{name}.rlib/toolchain/checked"));
-        if checked.is_dir() {
-            copy(&checked, &modules.join(&self.modules_name))?;
-        }
-        let log = dev(&self.home, name)?;
-        copy(&modules, &self.kept(name))?;
-        Ok(log)
+    /// Takes what `rt check` proved of a crate.
+    pub fn base(&self, root: &Path, name: &str, sources: &Sources) -> io::Result<Base> {
+        let words = self.kit.words(root, name)?;
+        let proved = self.room.join("proved").join(name);
+        link(&home(root, name).join("out/incremental"), &proved)?;
+        let base = Base { words, proved, names: None };
+        let names = self.names(&base, name, sources)?;
+        Ok(Base { names, ..base })
     }
 
-    /// Checks a crate with some of its files changed, over the modules of the control.
-    pub fn check(&self, name: &str, sources: &Sources, changed: &Sources) -> io::Result<Log> {
-        self.bring_below(name)?;
-        let modules = self.modules(name);
-        remove(&modules)?;
-        copy(&self.kept(name), &modules)?;
-        self.write(name, changed)?;
-        let log = dev(&self.home, name);
-        self.write(name, sources)?;
+    /// Checks a crate as these sources have it: the functions named and those that they call, or all where none is named.
+    pub fn check(
+        &self,
+        base: &Base,
+        name: &str,
+        sources: &Sources,
+        only: &BTreeSet<String>,
+    ) -> io::Result<Log> {
+        let flags = only.iter().flat_map(|function| ["--only", function]);
+        self.rattle(base, name, sources, flags.collect())
+    }
+
+    /// The names that the proofs of these sources cite, where the prover tells them.
+    pub fn names(&self, base: &Base, name: &str, sources: &Sources) -> io::Result<Option<Names>> {
+        let to = self.home.join("generated");
+        remove(&to)?;
+        let folder = to.to_string_lossy().into_owned();
+        self.rattle(base, name, sources, vec!["--generated", &folder, "--old-names"])?;
+        let text = fs::read_to_string(to.join("names.json")).ok();
+        Ok(text.and_then(|text| Names::read(&text, name)))
+    }
+
+    fn rattle(
+        &self,
+        base: &Base,
+        name: &str,
+        sources: &Sources,
+        flags: Vec<&str>,
+    ) -> io::Result<Log> {
+        let (copy, begun) = (self.home.join(name), self.home.join("begun"));
+        write(&copy, sources)?;
+        remove(&begun)?;
+        link(&base.proved, &begun)?;
+        let mut rattle = Command::new(self.kit.bin.join("rattle"));
+        rattle.arg("check").args(&base.words).args(flags).arg("--incremental").arg(&begun);
+        let log = run(rattle.current_dir(&copy));
+        remove(&begun)?;
         log
     }
-
-    /// Copies the proved crates that a crate stands on, but those that are here already.
-    fn bring_below(&self, name: &str) -> io::Result<()> {
-        for below in crates_below(&self.repository, name)? {
-            let stamp = format!("target/stamp/{below}");
-            if !self.home.join(&stamp).exists() {
-                for part in [format!("target/rlib/{below}.rlib"), stamp] {
-                    copy(&self.repository.join(&part), &self.home.join(&part))?;
-                }
-            }
-        }
-        Ok(())
-    }
-
-    /// Makes the files of a crate be these and no others, and leaves those that are so already.
-    fn write(&self, name: &str, files: &Sources) -> io::Result<()> {
-        let home = self.home.join("crates").join(name);
-        let there = sources(&home)?;
-        for file in there.keys().filter(|file| !files.contains_key(*file)) {
-            fs::remove_file(home.join(file))?;
-        }
-        for (file, text) in files.iter().filter(|(file, text)| there.get(*file) != Some(text)) {
-            fs::write(home.join(file), text)?;
-        }
-        Ok(())
-    }
-
-    fn modules(&self, name: &str) -> PathBuf {
-        self.home.join("target/inc").join(name)
-    }
-
-    fn kept(&self, name: &str) -> PathBuf {
-        self.room.join("kept").join(name)
-    }
 }
 
-/// The crates of the repository that a crate stands on, by crates.txt.
-fn crates_below(repository: &Path, name: &str) -> io::Result<BTreeSet<String>> {
-    let text = fs::read_to_string(repository.join("crates.txt"))?;
-    let lines = text.lines().filter_map(|line| line.split('#').next()?.split_once(':'));
-    let named: BTreeMap<&str, &str> = lines.map(|(name, below)| (name.trim(), below)).collect();
-    let (mut found, mut open) = (BTreeSet::new(), vec![name]);
-    while let Some(line) = open.pop().and_then(|next| named.get(next)) {
-        let fresh = line.split_whitespace().filter(|next| named.contains_key(next));
-        open.extend(fresh.filter(|next| found.insert(next.to_string())));
+fn run(command: &mut Command) -> io::Result<Log> {
+    let done = command.stdin(Stdio::null()).output()?;
+    let text = String::from_utf8_lossy(&done.stderr) + String::from_utf8_lossy(&done.stdout);
+    Ok(Log { status: done.status.code(), text: text.into_owned() })
+}
+
+/// Makes the files of a copy be these and no others, and leaves those that are so already.
+fn write(copy: &Path, files: &Sources) -> io::Result<()> {
+    let there = sources(copy)?;
+    for file in there.keys().filter(|file| !files.contains_key(*file)) {
+        fs::remove_file(copy.join(file))?;
     }
-    Ok(found)
+    for (file, text) in files.iter().filter(|(file, text)| there.get(*file) != Some(text)) {
+        let path = copy.join(file);
+        fs::create_dir_all(path.parent().unwrap_or(copy))?;
+        fs::write(path, text)?;
+    }
+    Ok(())
+}
+
+/// The crates of the repository that each crate stands on, by crates.txt.
+pub fn crates_below(root: &Path) -> io::Result<BTreeMap<String, BTreeSet<String>>> {
+    let text = fs::read_to_string(root.join("crates.txt"))?;
+    let lines = text.lines().filter_map(|line| line.split('#').next()?.split_once(':'));
+    let named = lines.map(|(name, below)| (name.split_whitespace().next().unwrap_or(""), below));
+    let direct: BTreeMap<&str, &str> = named.collect();
+    let below = |name: &str| {
+        let (mut found, mut open) = (BTreeSet::new(), vec![name]);
+        while let Some(line) = open.pop().and_then(|next| direct.get(next)) {
+            let fresh = line.split_whitespace().filter(|next| direct.contains_key(next));
+            open.extend(fresh.filter(|next| found.insert(next.to_string())));
+        }
+        found
+    };
+    Ok(direct.keys().map(|name| (name.to_string(), below(name))).collect())
 }
 
 /// The files of a crate that an edit can change.
@@ -174,25 +205,6 @@ fn read_into(found: &mut Sources, home: &Path, part: &str) -> io::Result<()> {
     Ok(())
 }
 
-fn dev(home: &Path, name: &str) -> io::Result<Log> {
-    let temporary = home.join("tmp");
-    fs::create_dir_all(&temporary)?;
-    let mut rt = Command::new("rt");
-    rt.args(["dev", name]).current_dir(home).env("TMPDIR", &temporary).env("RT_CUT", "0");
-    let done = rt.stdin(Stdio::null()).output()?;
-    let text = String::from_utf8_lossy(&done.stderr) + String::from_utf8_lossy(&done.stdout);
-    Ok(Log { status: done.status.code(), text: text.into_owned() })
-}
-
-/// The free KiB of a folder's file system, by `df`; 0 where it cannot be told.
-fn free(folder: &Path) -> u64 {
-    let said = Command::new("df").arg("-Pk").arg(folder).output();
-    let table =
-        said.map(|said| String::from_utf8_lossy(&said.stdout).into_owned()).unwrap_or_default();
-    let row = table.lines().nth(1).unwrap_or_default();
-    row.split_whitespace().nth(3).and_then(|free| free.parse().ok()).unwrap_or(0)
-}
-
 fn remove(path: &Path) -> io::Result<()> {
     match fs::remove_dir_all(path) {
         Err(error) if error.kind() != io::ErrorKind::NotFound => Err(error),
@@ -200,13 +212,19 @@ fn remove(path: &Path) -> io::Result<()> {
     }
 }
 
-fn copy(from: &Path, to: &Path) -> io::Result<()> {
+/// Copies a folder of checked modules. The modules themselves get a second name where one can be made: a check replaces such
+/// a file, and changes none.
+fn link(from: &Path, to: &Path) -> io::Result<()> {
     if from.is_dir() {
         fs::create_dir_all(to)?;
         for entry in fs::read_dir(from)? {
             let entry = entry?;
-            copy(&entry.path(), &to.join(entry.file_name()))?;
+            link(&entry.path(), &to.join(entry.file_name()))?;
         }
+        return Ok(());
+    }
+    let is_module = from.extension().is_some_and(|ending| ending == "oantt");
+    if is_module && fs::hard_link(from, to).is_ok() {
         return Ok(());
     }
     fs::copy(from, to).map(|_| ())
