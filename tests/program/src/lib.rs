@@ -16,11 +16,11 @@ const PAUSE: Duration = Duration::from_micros(50);
 /// No machine is so busy that the program reads nothing for so long.
 const PATIENCE: Duration = Duration::from_secs(60);
 
-/// `TARKNOTTER_WALK`, or `target/bin/walk` of the repository; a test without a program must fail.
+/// `TARKNOTTER_WALK`, or what `rt ci` or `rt run` made of the crate `walk`; a test without a program must fail.
 pub fn path() -> PathBuf {
-    let built = Path::new(env!("CARGO_MANIFEST_DIR")).join("../../target/bin/walk");
+    let built = Path::new(env!("CARGO_MANIFEST_DIR")).join("../../crates/walk/out/walk");
     let path = env::var_os("TARKNOTTER_WALK").map_or(built, PathBuf::from);
-    assert!(path.is_file(), "{} is missing: `rt check walk` builds it", path.display());
+    assert!(path.is_file(), "{} is missing: `rt ci` builds it", path.display());
     path
 }
 

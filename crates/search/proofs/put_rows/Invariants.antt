@@ -1,13 +1,8 @@
 -- `search::put_rows` meets its contract. The invariant: with the lines of the rows left, all are written.
-use Rattle.semantics.proofs.Prelude.{◌≡◌, refl, sym, ◌∙◌, List, ◌++◌, ℕ, suc, ◌+◌, ◌-◌, ◌≤◌, sub-zero, arith, ℤ, length, drop}
+use Rattle.semantics.proofs.Prelude.{◌≡◌, ◌-◌, ◌≤◌, length, drop}
 use Rattle.semantics.specs.Encoding.{decode}
-use Rattle.semantics.specs.Memory.{width}
-use Rattle.semantics.specs.RunListing.{state_text}
-use Rattle.state.proofs.Layouts.{is_layout}
-use Rattle.descent.specs.Rows.{state_of}
-use Rattle.writer.proofs.Written.{Completes, one_more, all_put}
+use Rattle.writer.proofs.Written.{Completes}
 use Rattle.search.specs.RunLines.{Rows, rows_text}
-use Rattle.search.proofs.RunPieces.{Turn, turn, lent_row}
 use Rattle.search.proofs.put_rows.Given as goal
 
 abbrev pub invariant-loop-i : goal.invariant-loop-i

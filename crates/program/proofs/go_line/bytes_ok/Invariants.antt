@@ -1,7 +1,6 @@
 -- `program::go_line::bytes_ok` meets its contract: the bytes that are left say whether all are bytes of a line.
-use Rattle.semantics.proofs.Prelude.{◌≡◌, refl, sym, ◌∙◌, ◌-◌, ◌≤◌, arith, length, drop, not-true, not-false}
+use Rattle.semantics.proofs.Prelude.{◌≡◌, ◌-◌, ◌≤◌, length, drop}
 use Rattle.semantics.specs.Lists.{all}
-use Rattle.text.proofs.Bytes.{all_step, all_stop, all_end}
 use Rattle.semantics.specs.Program.{line_byte}
 use Rattle.program.proofs.go_line.bytes_ok.Given as goal
 
