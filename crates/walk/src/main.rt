@@ -51,8 +51,7 @@ fn fail(errors: &mut Stderr, what: &[u8], failure: Option<io::Error>) {
         let mut text = [0u8; REASON];
         let mut rest: &mut [u8] = &mut text;
         let _ = write!(rest, "{error}");
-        let left = rest.len();
-        let end = reason_length(&text[..REASON - left]);
+        let end = reason_length(&text);
         say(errors, b": ");
         say(errors, &text[..end]);
     }
