@@ -5,8 +5,8 @@ use Rattle.program.proofs.BufferEnough.{printed_within}
 use Rattle.walk.proofs.search.Goals as goal
 
 pub slice_bounds-out-end : goal.slice_bounds-out-end
-slice_bounds-out-end g c = printed_within (search_output _) c.respond_search_to-length.ensures
+slice_bounds-out-end c = printed_within (search_output _) c.respond_search_to-length.ensures
 
 pub slice_bounds-print-end : goal.slice_bounds-print-end
-slice_bounds-print-end g c =
+slice_bounds-print-end c =
     sym (length-take-le c.respond_search_to-length.result c.respond_search_to-length.new.out (printed_within (search_output _) c.respond_search_to-length.ensures))
