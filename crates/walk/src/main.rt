@@ -51,8 +51,7 @@ fn fail(errors: &mut Stderr, what: &[u8], failure: Option<io::Error>) {
         let mut text = [0u8; REASON];
         let mut rest: &mut [u8] = &mut text;
         let _ = write!(rest, "{error}");
-        let left = rest.len();
-        let end = reason_length(&text[..REASON - left]);
+        let end = reason_length(&text);
         say(errors, b": ");
         say(errors, &text[..end]);
     }
@@ -109,7 +108,7 @@ fn show(streams: &mut Streams, view: View) {
 }
 
 // The second argument is the count of moves, which is judged before the chart, but after both were read.
-fn search<R: Env>(rt: &R, streams: &mut Streams) {
+fn search(rt: &HostRuntime, streams: &mut Streams) {
     let mut argument = [0u8; LONGEST_ARGUMENT];
     let end = argument_in(rt, 2, &mut argument);
     let mut input = [0u8; program::INPUT];
@@ -123,7 +122,7 @@ fn search<R: Env>(rt: &R, streams: &mut Streams) {
 }
 
 // The argument's bytes at the start of the buffer, and how many there are: 0 where it is missing or does not fit.
-fn argument_in<R: Env>(rt: &R, i: usize, buf: &mut [u8]) -> usize
+fn argument_in(rt: &HostRuntime, i: usize, buf: &mut [u8]) -> usize
     ensures { result ≤ length buf.old }
 {
     match rt.arg(i, buf) {
@@ -133,7 +132,7 @@ fn argument_in<R: Env>(rt: &R, i: usize, buf: &mut [u8]) -> usize
 }
 
 // How many arguments follow the program's name.
-fn arguments_given<R: Env>(rt: &R) -> usize {
+fn arguments_given(rt: &HostRuntime) -> usize {
     let mut first = [0u8; 1];
     for i in 1..usize::MAX {
         if let Err(FillError::NotPresent) = rt.arg(i, &mut first) {
