@@ -69,6 +69,11 @@ impl Edit {
         Ok(Edit { comment: comments.join(" "), replacements })
     }
 
+    /// Whether it changes code, or a contract beside it.
+    pub fn is_in_code(&self) -> bool {
+        self.replacements.iter().any(|one| one.file.ends_with(".rt"))
+    }
+
     /// Makes the replacements one after the other, and says what was changed.
     pub fn apply(&self, sources: &mut Sources) -> Result<Target, String> {
         let mut bodies = BTreeSet::new();

@@ -323,8 +323,12 @@ fn attempt(
         members.iter().map(|&member| plan.targets[member].bodies()).collect();
     let names: BTreeSet<String> =
         bodies.iter().flatten().flat_map(|names| names.iter().cloned()).collect();
-    if bodies.is_some() {
-        respell(scratch, base, &plan.name, &mut changed, &names).map_err(said)?;
+    let is_cited = |file: &String| {
+        function::proved_in(file).is_some_and(|unit| bodies.is_none() || names.contains(&unit))
+    };
+    let is_in_code = members.iter().any(|&member| plan.edits[member].1.is_in_code());
+    if is_in_code && changed.keys().any(is_cited) {
+        respell(scratch, base, &plan.name, &mut changed).map_err(said)?;
     }
     let functions =
         names.iter().filter_map(|name| units.get(name)).flat_map(|unit| &unit.functions);
@@ -341,23 +345,17 @@ fn attempt(
     Ok(members.iter().map(refusal).collect())
 }
 
-/// Brings the proofs of these units to the names that the changed code gives to its steps, places and goals.
+/// Brings proofs to the names that the changed code gives to its steps, places and goals.
 fn respell(
     scratch: &Scratch,
     base: &Base,
     crate_name: &str,
     changed: &mut Sources,
-    units: &BTreeSet<String>,
 ) -> io::Result<()> {
-    let is_theirs = |file: &str| function::proved_in(file).filter(|unit| units.contains(unit));
-    let Some(before) =
-        base.names.as_ref().filter(|_| changed.keys().any(|file| is_theirs(file).is_some()))
-    else {
-        return Ok(());
-    };
+    let Some(before) = &base.names else { return Ok(()) };
     let Some(after) = scratch.names(base, crate_name, changed)? else { return Ok(()) };
     for (file, text) in changed {
-        if let Some(unit) = is_theirs(file) {
+        if let Some(unit) = function::proved_in(file) {
             *text = names::respelled(text, &before.changed(&after, &unit));
         }
     }

@@ -13,6 +13,8 @@ pub struct Names(BTreeMap<String, Listed>);
 
 #[derive(Clone, Debug, Default, PartialEq, Eq)]
 struct Listed {
+    /// Of each place what it is.
+    places: Vec<String>,
     steps: Vec<(String, String)>,
     goals: Vec<(String, String)>,
 }
@@ -27,51 +29,69 @@ impl Names {
             let Some(path) = module.strip_prefix(&start) else { continue };
             // The steps of each function of a cycle stand in a module of their own.
             let Some((unit, member)) = path.rsplit_once(".Lts") else { continue };
-            let older_of = |said: &Json| Some(format!("{member} {}", said.text()?));
-            let pair = |said: &Json| {
+            let stem = said.get("stem")?.text()?;
+            let pair = |said: &Json, start: &str| {
                 let [older, name] = said.list()? else { return None };
-                Some((older_of(older)?, name.text()?.to_string()))
+                Some((format!("{member} {}", older.text()?), format!("{start}{}", name.text()?)))
             };
             let listed = found.0.entry(unit.replace('.', "::")).or_default();
             let places = said.get("places")?.list()?;
             let by_name = said.get("places_by_name")?.list()?;
             for (place, name) in places.iter().zip(by_name) {
                 let [older, _, step, ..] = place.list()? else { return None };
-                listed.steps.push((older_of(older)?, name.text()?.to_string()));
-                listed.steps.push(pair(step)?);
+                let place = (format!("{member} {}", older.text()?), name.text()?.to_string());
+                listed.places.push(kind(&place.0).to_string());
+                listed.steps.extend([place, pair(step, "")?]);
             }
             for one in said.get("loops")?.list()? {
-                listed.steps.push(pair(one.list()?.first()?)?);
+                let one = one.list()?.first()?;
+                for start in
+                    [String::new(), format!("invariant-{stem}"), format!("decreases-{stem}")]
+                {
+                    listed.steps.push(pair(one, &start)?);
+                }
             }
             for need in said.get("needs")?.list()? {
-                listed.goals.push(pair(need)?);
+                listed.goals.push(pair(need, stem)?);
             }
         }
         Some(found)
     }
 
-    /// The names of a unit's proof that are others in the changed code. None where its steps are others, since a proof that is
-    /// written for other steps shows nothing.
+    /// The names of a unit's proof that are others in the changed code. None where the code has other places, since a proof that is
+    /// written for others shows nothing; a call at one of them may be another.
     pub fn changed(&self, changed: &Names, unit: &str) -> BTreeMap<String, String> {
         let (Some(before), Some(after)) = (self.0.get(unit), changed.0.get(unit)) else {
             return BTreeMap::new();
         };
-        let olders = |steps: &[(String, String)]| -> Vec<String> {
-            steps.iter().map(|(older, _)| older.clone()).collect()
-        };
-        if olders(&before.steps) != olders(&after.steps) {
+        if before.places != after.places || before.steps.len() != after.steps.len() {
             return BTreeMap::new();
         }
-        let steps = before.steps.iter().zip(&after.steps);
-        // A goal more or less, as for a sum that can wrap, leaves the others.
-        let goals = before.goals.iter().filter_map(|goal| {
-            let same = after.goals.iter().find(|(older, _)| *older == goal.0);
-            same.map(|same| (goal, same))
-        });
-        let pairs = steps.chain(goals).map(|((_, name), (_, other))| (name, other));
-        let others = pairs.filter(|(name, other)| name != other);
+        let kinds = |goals: &[(String, String)]| -> Vec<String> {
+            goals.iter().map(|(older, _)| kind(older).to_string()).collect()
+        };
+        let goals: Vec<_> = if kinds(&before.goals) == kinds(&after.goals) {
+            before.goals.iter().zip(&after.goals).collect()
+        } else {
+            // A goal more or less, as for a sum that can wrap, leaves the others.
+            let same =
+                |goal: &(String, String)| after.goals.iter().find(|(older, _)| *older == goal.0);
+            before.goals.iter().filter_map(|goal| Some((goal, same(goal)?))).collect()
+        };
+        let pairs = before.steps.iter().zip(&after.steps).chain(goals);
+        let others = pairs.map(|((_, name), (_, other))| (name, other));
+        let others = others.filter(|(name, other)| name != other);
         others.map(|(name, other)| (name.clone(), other.clone())).collect()
     }
+}
+
+/// What an older name says of its place or goal, whatever is called there: `After` of `After-put2`, `requires` of `put-requires`.
+fn kind(older: &str) -> &str {
+    if older.contains("-requires") {
+        return "requires";
+    }
+    let name = older.split(' ').next_back().unwrap_or(older);
+    name.split(|c: char| c == '-' || c.is_ascii_digit()).next().unwrap_or(name)
 }
 
 /// A proof file with these names in place of its own.
@@ -100,7 +120,8 @@ mod tests {
                 "loops": [[["loop", "loop-i"], ["s"]]],
                 "needs": [["returns", "returns-then-{condition}"]{goals}],
                 "places": [["Start", null, ["", ""], null, []], ["Then1", "Start", ["if1", "if-{condition}"], null, []]],
-                "places_by_name": ["Start", "Then-{condition}"]
+                "places_by_name": ["Start", "Then-{condition}"],
+                "stem": ""
             }}, "off:rows": []}}"#
         )
     }
@@ -125,6 +146,15 @@ mod tests {
     }
 
     #[test]
+    fn a_loop_is_renamed_with_its_invariant() {
+        let other = said("n-lt10", "").replace("loop-i", "loop-s");
+        let other = Names::read(&other, "rows").unwrap();
+        let found = names("n-lt10", "").changed(&other, "low::put");
+        let text = respelled("invariant-loop-i l = c.loop-i.i ≤ decreases-loop-i", &found);
+        assert_eq!(text, "invariant-loop-s l = c.loop-s.i ≤ decreases-loop-s");
+    }
+
+    #[test]
     fn a_goal_more_leaves_the_others() {
         let more = names("n-lt11", r#", ["add-n", "overflow_add-n"]"#);
         assert_eq!(names("n-lt10", "").changed(&more, "low::put").len(), 3);
@@ -144,7 +174,7 @@ mod tests {
             let text = format!(
                 r#"{{"Rattle-rows-proofs.+turn.Lts-put": {{"loops": [], "needs": [],
                     "places": [["Told", null, ["told", "in-{first}"]], ["Past", null, ["told", "in-{second}"]]],
-                    "places_by_name": ["In-{first}", "In-{second}"]}}}}"#
+                    "places_by_name": ["In-{first}", "In-{second}"], "stem": "put-"}}}}"#
             );
             Names::read(&text, "rows").unwrap()
         };
@@ -152,6 +182,21 @@ mod tests {
         let found = arms("Old", "New").changed(&arms("New", "Old"), "+turn");
         assert_eq!(found["in-Old"], "in-New");
         assert_eq!(found["in-New"], "in-Old");
+    }
+
+    #[test]
+    fn another_call_at_the_same_place_renames_what_it_gives() {
+        let calls = |called: &str| {
+            let text = format!(
+                r#"{{"Rattle-rows-proofs.+turn.Lts-put": {{"loops": [], "needs": [["{called}-requires", "{called}-x-requires"]],
+                    "places": [["After-{called}", null, ["{called}", "{called}-x"]]],
+                    "places_by_name": ["After-{called}-x"], "stem": "put-"}}}}"#
+            );
+            Names::read(&text, "rows").unwrap()
+        };
+        let found = calls("low").changed(&calls("high"), "+turn");
+        let text = respelled("put-low-x-requires c = c.low-x.ensures", &found);
+        assert_eq!(text, "put-high-x-requires c = c.high-x.ensures");
     }
 
     #[test]
