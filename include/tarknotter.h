@@ -1,4 +1,4 @@
-/* The calls of crates/tarknotter/out/libtarknotter.a, which `rt lib` writes in crates/tarknotter, for x86-64 Linux, from C11 or C++11 on.
+/* The calls of target/staticlib/libtarknotter.a, which `tools/archive` writes, for x86-64 Linux, from C11 or C++11 on.
    A buffer is lent by a pointer and a length that counts its elements: words for int32_t, bytes for uint8_t. The
    pointer is aligned for its elements, words to 4 bytes, and never NULL, even with length 0. What a call is lent must
    not overlap. A buffer, but for a file's text, may be longer than needed: what stands past that is neither looked at nor

@@ -8,7 +8,7 @@ ghost use Rattle.text.specs.Fields.{the_word, field_at};
 ghost use Rattle.text.specs.Places.{form_of};
 ghost use Rattle.reader.specs.Answers.{op_res, edge_res, edge_fields};
 ghost use Rattle.reader.specs.Lines.{op_read, edge_read, edge_worded};
-ghost use Rattle.reader.specs.Lines.{with_op as op-after, with_from as from-after};
+ghost use Rattle.reader.specs.Lines.{with_op as op_after, with_from as from_after};
 ghost use Rattle.reader.specs.ReadSoFar.{Few, Rows, Names, LineJudged, most_rows};
 
 use super::operation;
@@ -58,7 +58,7 @@ fn field_count(w: text::OpWord) -> usize
 
 // The edge, from its operation.
 fn with_op(from: LocationId, to: LocationId, op: OperationRead) -> EdgeRead
-    ensures { edge_res result ≡ op-after from.0 to.0 (op_res op) }
+    ensures { edge_res result ≡ op_after from.0 to.0 (op_res op) }
 {
     match op {
         OperationRead::Refused(k) => EdgeRead::Refused(k),
@@ -76,7 +76,7 @@ fn with_from(
     at: EdgeFields,
 ) -> EdgeRead
     requires { Few t × (at ≡ edge_fields line.now) }
-    ensures { edge_res result ≡ from-after from.0 t.locs (op_read rows.now t.vars w (fields line.now)) (fields line.now) }
+    ensures { edge_res result ≡ from_after from.0 t.locs (op_read rows.now t.vars w (fields line.now)) (fields line.now) }
 {
     let to_at = at.to;
     let word = at.word;

@@ -9,7 +9,7 @@ ghost use Rattle.text.specs.Fields.{field_at};
 ghost use Rattle.chart.specs.Encoded.{ranged};
 ghost use Rattle.reader.specs.Answers.{op_res};
 ghost use Rattle.reader.specs.Lines.{set_read, sum_read, input_read, input_high_read, assume_read, op_read};
-ghost use Rattle.reader.specs.Lines.{targeted as targeted-read, after_target as after-target-read};
+ghost use Rattle.reader.specs.Lines.{targeted as targeted_read, after_target as after_target_read};
 
 use semantics::{Arithmetic, Operation};
 use text::Field;
@@ -115,7 +115,7 @@ fn after_target(
     at: Field,
 ) -> OperationRead
     requires { (vars ≤ most_variables) × (at ≡ field_at line.now 5) }
-    ensures { op_res result ≡ after-target-read rows.now vars w v (fields line.now) }
+    ensures { op_res result ≡ after_target_read rows.now vars w v (fields line.now) }
 {
     match w {
         text::Action::Set => set(v, vars, text::field_bytes(line, at)),
@@ -128,7 +128,7 @@ fn after_target(
 // The fields from the target on.
 fn targeted(w: text::Action, vars: usize, rows: &[i32], line: &[u8], at: Field) -> OperationRead
     requires { (vars ≤ most_variables) × (at ≡ field_at line.now 4) }
-    ensures { op_res result ≡ targeted-read rows.now vars w (fields line.now) }
+    ensures { op_res result ≡ targeted_read rows.now vars w (fields line.now) }
 {
     match text::target_field(vars, text::field_bytes(line, at)) {
         text::VariableRead::Refused(k) => OperationRead::Refused(k),

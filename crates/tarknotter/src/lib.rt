@@ -1,5 +1,5 @@
-// The library's boundary: the calls for programs in other languages, on numbers and slices, under plain names. A slice
-// arrives as a pointer and a length. Each call is thin over the crate that does its work.
+// The library's boundary: the calls for programs in other languages, on numbers and slices, under plain names. Each call
+// is thin over the crate that does its work; the crate `tarknotter_c` exports them.
 #![tactic(auto)]
 
 ghost use Rattle.std.specs.Prelude.{◌≡◌};
@@ -211,8 +211,7 @@ fn answered(before: Record, c: calls::Called) -> Called
 }
 
 // A chart file's bytes into the words of the encoded chart.
-#[unsafe(no_mangle)]
-pub extern "C" fn tarknotter_read(text: &[u8], words: &mut [i32]) -> Reply
+pub fn tarknotter_read(text: &[u8], words: &mut [i32]) -> Reply
     ensures reply { result ≡ as_reply (read_outcome text.now words.old).answer }
     ensures words { words.new ≡ (read_outcome text.now words.old).words }
 {
@@ -220,8 +219,7 @@ pub extern "C" fn tarknotter_read(text: &[u8], words: &mut [i32]) -> Reply
 }
 
 // Whether the words begin with the encoding of a chart that reading can produce.
-#[unsafe(no_mangle)]
-pub extern "C" fn tarknotter_well_formed(words: &[i32]) -> bool
+pub fn tarknotter_well_formed(words: &[i32]) -> bool
     ensures { result ≡ well_formed words.now }
 {
     chart::well_formed(words)
@@ -229,8 +227,7 @@ pub extern "C" fn tarknotter_well_formed(words: &[i32]) -> bool
 
 // Begins an analysis and plays iterations, as many as the budget allows. The record is the one before, which a refused
 // call leaves.
-#[unsafe(no_mangle)]
-pub extern "C" fn tarknotter_begin(
+pub fn tarknotter_begin(
     chart: &[i32],
     merge: u32,
     stop: u32,
@@ -265,8 +262,7 @@ pub extern "C" fn tarknotter_begin(
 }
 
 // Plays iterations until a verdict, until the budget is spent, or until 60,000 were played.
-#[unsafe(no_mangle)]
-pub extern "C" fn tarknotter_run(
+pub fn tarknotter_run(
     chart: &[i32],
     budget: i32,
     record: Record,
@@ -282,8 +278,7 @@ pub extern "C" fn tarknotter_run(
 }
 
 // Writes the listing of an analysis and answers its length.
-#[unsafe(no_mangle)]
-pub extern "C" fn tarknotter_listing(
+pub fn tarknotter_listing(
     chart: &[i32],
     record: Record,
     table: &[i32],
@@ -297,8 +292,7 @@ pub extern "C" fn tarknotter_listing(
 }
 
 // Writes the path to the alarm of an analysis and answers its length.
-#[unsafe(no_mangle)]
-pub extern "C" fn tarknotter_path(
+pub fn tarknotter_path(
     chart: &[i32],
     record: Record,
     table: &[i32],
@@ -313,8 +307,7 @@ pub extern "C" fn tarknotter_path(
 
 // Writes a shortest run of at most k moves into an error location or an overrun, or that there is none, and answers its
 // length.
-#[unsafe(no_mangle)]
-pub extern "C" fn tarknotter_search(chart: &[i32], k: i32, space: &mut [u8]) -> Reply
+pub fn tarknotter_search(chart: &[i32], k: i32, space: &mut [u8]) -> Reply
     ensures reply { result ≡ as_reply (search_outcome chart.now k space.old).answer }
     ensures space { space.new ≡ (search_outcome chart.now k space.old).space }
 {

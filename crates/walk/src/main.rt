@@ -30,6 +30,18 @@ fn say(errors: &mut Stderr, bytes: &[u8]) {
     streams::write_all(errors, bytes);
 }
 
+// The text ends before its first 0.
+fn text_length(text: &[u8]) -> usize
+    ensures { result ≤ length text.now }
+{
+    for (i, b) in text.iter().enumerate() {
+        if *b == 0 {
+            return i;
+        }
+    }
+    text.len()
+}
+
 // The system's text of a failure, before the number that std puts behind it in brackets.
 fn reason_length(text: &[u8]) -> usize
     ensures { result ≤ length text.now }
@@ -41,7 +53,7 @@ fn reason_length(text: &[u8]) -> usize
             return if end > 0 { end - 1 } else { 0 };
         }
     }
-    text.len()
+    text_length(text)
 }
 
 // Says what failed, and why.

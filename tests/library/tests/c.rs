@@ -211,7 +211,7 @@ fn compiled(name: &str, (compiler, language): Compiler) -> PathBuf {
         .arg(package.join("../../include"))
         .arg(package.join("c").join(name).with_extension("c"))
         .args(["-x", "none"])
-        .arg(package.join("../../crates/tarknotter/out/libtarknotter.a"))
+        .arg(package.join("../../target/staticlib/libtarknotter.a"))
         .arg("-o")
         .arg(&program)
         .status()
