@@ -34,7 +34,7 @@ pub fn chain(chart: &[i32], edges: usize, heads: &mut [usize], nexts: &mut [usiz
 pub fn first(heads: &[usize], l: LocationId) -> EdgeId
     ensures { result.0 ≡ max 1 (get_or heads.now l.0 0) }
 {
-    EdgeId(1).or_later(EdgeId(numbers::number_in(heads, l.0)))
+    EdgeId(1).max(EdgeId(numbers::number_in(heads, l.0)))
 }
 
 // The edge to look at next. The chain of this one serves if it leaves the location.
@@ -46,8 +46,8 @@ pub fn next(chart: &[i32], edge: EdgeRow, nexts: &[usize], l: LocationId) -> Edg
     let id = edge.id;
     let after = id.after();
     let from = chart::edge_from(chart, edge);
-    if !from.equals(l) {
+    if from != l {
         return after;
     }
-    after.or_later(EdgeId(numbers::number_in(nexts, id.0 - 1)))
+    after.max(EdgeId(numbers::number_in(nexts, id.0 - 1)))
 }

@@ -87,7 +87,7 @@ fn edge_joins(chart: &[i32], edge: EdgeId, from: LocationId, to: LocationId) -> 
     let row = chart::edge_of(chart::first_edge(chart), edge);
     let leaves = chart::edge_from(chart, row);
     let comes = chart::edge_to(chart, row);
-    leaves.equals(from) & comes.equals(to)
+    (leaves == from) & (comes == to)
 }
 
 // The origin of a slot in use: slot 0 has 65,535 and 0, any other a parent below it and an edge that joins their locations.

@@ -169,7 +169,7 @@ fn by_edge(
     ensures { Went (by_edge (decode chart.now) left (state_of row.now) (edge_of chart.now edge)) path.old path.new result }
 {
     let from = chart::edge_from(chart, edge);
-    if !from.equals(state::location_of(row)) {
+    if from != state::location_of(row) {
         return Found::Nothing;
     }
     let count = input_count(chart, edge);

@@ -83,8 +83,8 @@ pub fn next(links: &[usize], slot: SlotId, at: LocationId, l: LocationId) -> Slo
     ensures passed { (cs : List ℕ) → Linked cs links.now → slot.0 < length cs → get_or cs slot.0 0 ≡ chain_of at.0 → Passed cs (chain_of l.0) (slot.0 + 1) result.0 }
 {
     let after = slot.after();
-    if !at.equals(l) {
+    if at != l {
         return after;
     }
-    after.or_later(SlotId(numbers::number_in(links, NEXTS + slot.0)))
+    after.max(SlotId(numbers::number_in(links, NEXTS + slot.0)))
 }

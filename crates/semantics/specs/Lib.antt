@@ -18,6 +18,7 @@ pub mod Path
 pub mod Search
 pub mod RunListing
 pub mod Outcomes
+pub mod Refusals
 pub mod Verdicts
 pub mod PathHolds
 pub mod RealRuns

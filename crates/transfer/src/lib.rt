@@ -347,7 +347,7 @@ pub fn successor(chart: &[i32], edge: EdgeRow, row: &[i32], out: &mut [i32]) -> 
     ensures { step_of result out.new ≡ post_at chart.now edge.at row.now }
 {
     let from = chart::edge_from(chart, edge);
-    if from.equals(state::location_of(row)) {
+    if from == state::location_of(row) {
         words::copy_words(out, row);
         let to = chart::edge_to(chart, edge);
         state::set_location(out, to);
