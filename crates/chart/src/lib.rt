@@ -2,7 +2,8 @@
 // and knows no word by its place. docs/memory.md shows the layout.
 #![tactic(auto)]
 
-ghost use Rattle.std.specs.Prelude.{◌≡◌, true, not, ◌∷◌, map, ◌+◌, ◌-◌, ◌*◌, ◌<◌, ◌≤◌, pos, nat_abs, length, drop};
+ghost use Rattle.semantics.specs.declared.Refusal.TheVariants.{BadChart};
+ghost use Rattle.std.specs.Prelude.{List, ℤ, IsOk, IfOk, IfErr, ◌↔◌, T, ◌≡◌, true, not, ◌∷◌, map, ◌+◌, ◌-◌, ◌*◌, ◌<◌, ◌≤◌, pos, nat_abs, length, drop};
 ghost use Rattle.semantics.specs.Lists.{all};
 ghost use Rattle.semantics.specs.Text.{same_bytes};
 ghost use Rattle.semantics.specs.Chart.{eq_z};
@@ -13,8 +14,10 @@ ghost use Rattle.semantics.specs.Listing.{loc_text};
 ghost use Rattle.chart.specs.Encoded.{rows, is_at_most, name_word, counts_fine, locations_at, edges_at, location_fine, operand_fine, ranged, two_fine, one_fine, input_fine, operands_fine, operation_fine, edge_fine, rows_fine, byte_of, name_number};
 ghost use Rattle.chart.specs.Rows.{stored, rows_size, the_variable, the_location, the_edge, sum_code, split_words};
 
+use std::marker::Model;
+
 use semantics::{
-    Arithmetic, EdgeId, LocationId, MOST_EDGES, MOST_LOCATIONS, MOST_VARIABLES, Operand, Operation,
+    Arithmetic, Refusal, EdgeId, LocationId, MOST_EDGES, MOST_LOCATIONS, MOST_VARIABLES, Operand, Operation,
     Relation,
 };
 
@@ -928,4 +931,39 @@ pub fn well_formed(chart: &[i32]) -> bool
         }
     }
     false
+}
+
+// The words of a chart in form, which only `Chart::new` makes: who is given one need not ask again. A clause sees the words.
+#[derive(Drop)]
+pub struct Chart<'a> {
+    words: &'a [i32],
+}
+
+impl<'a> Model for Chart<'a> {
+    ghost Value = { List ℤ };
+
+    ghost view = { λ chart. chart.words.now };
+
+    ghost invariant = { λ chart. T (well_formed chart.words.now) };
+}
+
+impl<'a> Chart<'a> {
+    // The words, if they begin with the encoding of a chart: else it refuses by 20.
+    pub fn new(words: &'a [i32]) -> Result<Chart<'a>, Refusal>
+        ensures in_form { IsOk result ↔ T (well_formed words.now) }
+        ensures same { IfOk result (λ chart. chart ≡ words.now) }
+        ensures refused { IfErr result (λ refusal. refusal ≡ BadChart) }
+    {
+        if well_formed(words) {
+            return Ok(Chart { words });
+        }
+        Err(Refusal::BadChart)
+    }
+
+    pub fn words(&self) -> &[i32]
+        ensures words { result.now ≡ self.now }
+        ensures in_form { T (well_formed self.now) }
+    {
+        self.words
+    }
 }

@@ -31,17 +31,22 @@ number_of refusal.BadMoves = 30
 number_of refusal.TooWide = 31
 
 -- the number by which a test refuses; 0 where it passes
-abbrev pub refusal_of : Result ⊤ Refusal → ℕ
+abbrev pub refusal_of : {A : Type 0} → Result A Refusal → ℕ
 refusal_of (Ok _) = 0
 refusal_of (Err r) = number_of r
 
--- "A call that goes through answers 0 and line 0, a listing call also its length in bytes", else "the answer is the number
--- and a line"
-abbrev pub answer_of : Result ℕ Refusal → Answer
-answer_of (Ok length) = fine length
+-- what a call answers that says `Ok` or `Err`: "A call that goes through answers 0 and line 0", "Otherwise the answer is the
+-- number and a line (.. 0 where no line applies)"
+abbrev pub answer_of : {A : Type 0} → Result A Refusal → Answer
+answer_of (Ok _) = fine 0
 answer_of (Err r) = refused_by (number_of r) 0
 
--- the same of a call that has no length and may name a line
-abbrev pub answer_at : Result ⊤ RefusedAt → Answer
-answer_at (Ok _) = fine 0
-answer_at (Err e) = refused_by (number_of e.refusal) e.line
+-- the same of a listing call, which says its length in bytes
+abbrev pub listed_of : Result ℕ Refusal → Answer
+listed_of (Ok length) = fine length
+listed_of (Err r) = refused_by (number_of r) 0
+
+-- the same of reading, which says the line at fault
+abbrev pub read_of : Result ⊤ RefusedAt → Answer
+read_of (Ok _) = fine 0
+read_of (Err e) = refused_by (number_of e.refusal) e.line
