@@ -1,4 +1,5 @@
--- Signed words, rows of a table, lent numbers: laws that every crate over words uses.
+-- Signed words, rows of a table, lent numbers, iterators: laws that every crate over words uses.
 pub mod Words
+pub mod Iterating
 pub mod Rows
 pub mod LentNumbers

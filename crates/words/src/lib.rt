@@ -22,17 +22,14 @@ pub const TOP: i32 = 32768;
 pub fn word_at(s: &[i32], i: usize) -> i32
     ensures { result ≡ get_or s.now i (pos 0) }
 {
-    if i < s.len() {
-        return s[i];
-    }
-    0
+    s.get(i).copied().unwrap_or(0)
 }
 
 // A word in 64 bits, where sums and negations fit.
 pub fn wide(a: i32) -> i64
     ensures { result ≡ a }
 {
-    a as i64
+    i64::from(a)
 }
 
 // The number that a word says, whatever its sign.
@@ -40,11 +37,7 @@ pub fn magnitude(w: i32) -> usize
     ensures number { result ≡ nat_abs w }
     ensures small { result < index_limit }
 {
-    if w < 0 {
-        let below = 0 - wide(w);
-        return below as usize;
-    }
-    w as usize
+    w.unsigned_abs() as usize
 }
 
 // The number at a place.
@@ -67,7 +60,7 @@ pub fn lies_within(lo: i32, hi: i32, w: i32) -> bool
 pub fn is_small(w: i32) -> bool
     ensures { result ≡ small w }
 {
-    (LEAST_NUMBER <= w) & (w <= MOST_NUMBER)
+    lies_within(LEAST_NUMBER, MOST_NUMBER, w)
 }
 
 // A number from 0 up to, not including, n.
@@ -84,55 +77,25 @@ pub fn copy_words(dst: &mut [i32], src: &[i32])
     requires { length dst.old ≡ length src.now }
     ensures { dst.new ≡ src.now }
 {
-    let mut i = 0;
-    while i < src.len() {
-        let x = src[i];
-        dst[i] = x;
-        i += 1;
-    }
+    dst.copy_from_slice(src);
 }
 
 pub fn fill_zero(s: &mut [i32])
     ensures { s.new ≡ replicate (length s.old) (pos 0) }
 {
-    let mut i = 0;
-    while i < s.len() {
-        s[i] = 0;
-        i += 1;
-    }
+    s.fill(0);
 }
 
 // Whether the word is one of those given.
 pub fn contains(s: &[i32], x: i32) -> bool
     ensures { result ≡ some_of (eq_z x) s.now }
 {
-    let mut i = 0;
-    while i < s.len() {
-        let y = s[i];
-        if x == y {
-            return true;
-        }
-        i += 1;
-    }
-    false
-}
-
-fn is_zero(x: i32) -> bool
-    ensures { result ≡ eq_z (pos 0) x }
-{
-    0 == x
+    s.contains(&x)
 }
 
 // No branch on a word, so that several are looked at at once: unused words are many and nearly always all 0.
 pub fn all_zero(s: &[i32]) -> bool
     ensures { result ≡ zeros s.now }
 {
-    let mut ok = true;
-    let mut i = 0;
-    while i < s.len() {
-        let x = s[i];
-        ok = ok & is_zero(x);
-        i += 1;
-    }
-    ok
+    s.iter().fold(true, |ok, w| ok & (*w == 0))
 }
