@@ -15,9 +15,8 @@ lent t l a = record { table = t; waitlist = l; analysis = a }
 abbrev pub ChartLayout : List ℤ → Layout → Type 0
 ChartLayout ws y = (y ≡ layout_of ws) × (width_of y ≤ index_limit)
 
--- the chart is in form (20), and the words lent are enough for r slots (14)
+-- the words lent are enough for r slots (14)
 pub record Enough (ws : List ℤ) (y : Layout) (r : ℕ) (t l : List ℤ) : Type 0 where
-  pub chart : T (well_formed ws)
   pub layout : ChartLayout ws y
   pub table : r * y.stride ≤ length t
   pub list : r ≤ length l

@@ -4,18 +4,20 @@
 // before 21; all else is total.
 #![tactic(auto)]
 
-ghost use Rattle.std.specs.Prelude.{◌≡◌, ◌&&◌, ◌||◌, ◌*◌, ◌<◌, ◌≤◌, T, eqb, ltb, length, drop};
+ghost use Rattle.std.specs.Prelude.{◌≡◌, ◌&&◌, ◌||◌, ◌*◌, ◌<◌, ◌≤◌, IfOk, eqb, ltb, length, drop};
 ghost use Rattle.semantics.specs.Lists.{all, all_pairs, all_of};
 ghost use Rattle.semantics.specs.Chart.{eq_z, within};
 ghost use Rattle.semantics.specs.Layout.{top_word, counts_size, variable_size, index_limit, most_slots};
 ghost use Rattle.semantics.specs.Algorithm.{allowed};
-ghost use Rattle.semantics.specs.Encoding.{several, var_in, decode, well_formed};
+ghost use Rattle.semantics.specs.Encoding.{several, var_in, decode};
 ghost use Rattle.semantics.specs.Memory.{width, capacity_ok, value_ok, below, row_ok, slots_ok, joins, locations, origin_ok, origins_ok, origin_in, origins_in, states_in, each_once, is_alarm, empty_if_safe, lent_tests, record_tests, analysis_ok};
 ghost use Rattle.semantics.specs.Outcomes.{refusal, budget_ok, asked_cases, size_of, form_of};
+ghost use Rattle.semantics.specs.Refusals.{refusal_of};
 ghost use Rattle.state.specs.Rows.{Placed, tail_of};
 ghost use Rattle.checks.specs.Form.{lent, ChartLayout, Enough};
 
-use semantics::{Analysis, EdgeId, LocationId, Mode, Settings, SlotId, Verdict};
+use chart::Chart;
+use semantics::{Analysis, EdgeId, LocationId, Mode, Refusal, Settings, SlotId, Verdict};
 use state::{Layout, SlotRow};
 
 // ---- the reached table
@@ -74,35 +76,29 @@ fn slots_ok(chart: &[i32], layout: Layout, table: &[i32], used: usize) -> bool
 // ---- the origins
 
 // Whether the edge is one of the chart, and leads from one location to the other.
-fn edge_joins(chart: &[i32], edge: EdgeId, from: LocationId, to: LocationId) -> bool
-    requires { T (well_formed chart.now) }
+fn edge_joins(chart: &Chart, edge: EdgeId, from: LocationId, to: LocationId) -> bool
     ensures { result ≡ joins (decode chart.now) edge.0 from.0 to.0 }
 {
-    if edge.is_none() {
+    let words = chart.words();
+    if edge.is_none() || !edge.is_within(chart::edge_count(words)) {
         return false;
     }
-    if !edge.is_within(chart::edge_count(chart)) {
-        return false;
-    }
-    let row = chart::edge_of(chart::first_edge(chart), edge);
-    let leaves = chart::edge_from(chart, row);
-    let comes = chart::edge_to(chart, row);
-    (leaves == from) & (comes == to)
+    let row = chart::edge_of(chart::first_edge(words), edge);
+    (chart::edge_from(words, row) == from) & (chart::edge_to(words, row) == to)
 }
 
 // The origin of a slot in use: slot 0 has 65,535 and 0, any other a parent below it and an edge that joins their locations.
-fn origin_ok(chart: &[i32], layout: Layout, table: &[i32], slot: SlotRow, used: usize) -> bool
-    requires { T (well_formed chart.now) × ChartLayout chart.now layout × Placed layout slot × (slot.id.0 < «used») × («used» * layout.stride ≤ length table.now) }
+fn origin_ok(chart: &Chart, layout: Layout, table: &[i32], slot: SlotRow, used: usize) -> bool
+    requires { ChartLayout chart.now layout × Placed layout slot × (slot.id.0 < «used») × («used» * layout.stride ≤ length table.now) }
     ensures { result ≡ origin_ok (decode chart.now) (locations (states_in (decode chart.now) «used» table.now)) slot.id.0 (origin_in (tail_of layout slot.id.0 table.now)) }
 {
     let tail = state::tail_of(layout, table, slot);
     let parent = state::origin_parent(tail);
     let edge = state::origin_edge(tail);
-    let id = slot.id;
-    if id.0 == 0 {
+    if slot.id.0 == 0 {
         return (parent.0 == semantics::NO_SLOT) & edge.is_none();
     }
-    if !parent.is_below(id.0) {
+    if !parent.is_below(slot.id.0) {
         return false;
     }
     let from = state::location_of(state::row_of(layout, table, layout.slot(parent)));
@@ -111,8 +107,8 @@ fn origin_ok(chart: &[i32], layout: Layout, table: &[i32], slot: SlotRow, used: 
 }
 
 // The origins of the slots in use.
-fn origins_ok(chart: &[i32], layout: Layout, table: &[i32], used: usize) -> bool
-    requires { T (well_formed chart.now) × ChartLayout chart.now layout × (used * layout.stride ≤ length table.now) }
+fn origins_ok(chart: &Chart, layout: Layout, table: &[i32], used: usize) -> bool
+    requires { ChartLayout chart.now layout × (used * layout.stride ≤ length table.now) }
     ensures { result ≡ origins_ok (decode chart.now) (locations (states_in (decode chart.now) used table.now)) 0 (origins_in (decode chart.now) used table.now) }
 {
     let mut slot = layout.slot(SlotId(0));
@@ -153,26 +149,21 @@ fn waits_ok(list: &[i32], used: usize) -> bool
 // ---- the words lent
 
 // The tests of a table and a waitlist, by the record's three counts.
-fn lent_ok(chart: &[i32], layout: Layout, table: &[i32], list: &[i32], a: Analysis) -> bool
+fn lent_ok(chart: &Chart, layout: Layout, table: &[i32], list: &[i32], a: Analysis) -> bool
     requires { Enough chart.now layout a.capacity table.now list.now × (a.capacity ≤ most_slots) }
     ensures { result ≡ all_of (lent_tests (decode chart.now) a.capacity a.used a.waiting table.now list.now) }
 {
     let capacity = a.capacity as usize;
-    let used = a.used;
-    let waiting = a.waiting;
-    if used > capacity {
+    if a.used > capacity || a.waiting > a.used {
         return false;
     }
-    if waiting > used {
-        return false;
-    }
-    let from = layout.slot(SlotId(used)).at;
+    let from = layout.slot(SlotId(a.used)).at;
     let to = capacity * layout.stride;
-    slots_ok(chart, layout, table, used)
-        & origins_ok(chart, layout, table, used)
-        & waits_ok(&list[..waiting], used)
+    slots_ok(chart.words(), layout, table, a.used)
+        & origins_ok(chart, layout, table, a.used)
+        & waits_ok(&list[..a.waiting], a.used)
         & words::all_zero(&table[from..to])
-        & words::all_zero(&list[waiting..capacity])
+        & words::all_zero(&list[a.waiting..capacity])
 }
 
 // ---- the record
@@ -181,40 +172,21 @@ fn lent_ok(chart: &[i32], layout: Layout, table: &[i32], list: &[i32], a: Analys
 pub fn is_alarm(v: Verdict) -> bool
     ensures { result ≡ is_alarm v }
 {
-    match v {
-        Verdict::Open => false,
-        Verdict::Safe => false,
-        Verdict::Alarm => true,
-        Verdict::Full => false,
-    }
+    v == Verdict::Alarm
 }
 
 // Safe with nothing waiting, or another verdict with something.
 fn empty_if_safe(v: Verdict, waiting: usize) -> bool
     ensures { result ≡ empty_if_safe v waiting }
 {
-    match v {
-        Verdict::Open => waiting != 0,
-        Verdict::Safe => waiting == 0,
-        Verdict::Alarm => waiting != 0,
-        Verdict::Full => waiting != 0,
-    }
+    (v == Verdict::Safe) == (waiting == 0)
 }
 
 // The settings that 12 lets pass.
-fn is_allowed(merge: Mode, stop: Mode) -> bool
-    ensures { result ≡ allowed merge stop }
+fn is_allowed(settings: Settings) -> bool
+    ensures { result ≡ allowed settings.merge settings.stop }
 {
-    match merge {
-        Mode::Sep => match stop {
-            Mode::Sep => true,
-            Mode::Join => false,
-        },
-        Mode::Join => match stop {
-            Mode::Sep => true,
-            Mode::Join => true,
-        },
-    }
+    (settings.merge == Mode::Join) | (settings.stop == Mode::Sep)
 }
 
 // No edge, or an alarm's.
@@ -228,17 +200,12 @@ fn edge_allowed(edge: EdgeId, v: Verdict) -> bool
 fn record_ok(a: Analysis, edges: usize) -> bool
     ensures { result ≡ all_of (record_tests edges a) }
 {
-    let settings = a.settings;
-    let merge = settings.merge;
-    let stop = settings.stop;
-    let verdict = a.verdict;
-    let edge = a.edge;
     (a.iterations <= semantics::MOST_ITERATIONS)
-        & edge.is_within(edges)
-        & edge_allowed(edge, verdict)
-        & ((1 <= a.capacity) & (a.capacity <= semantics::MOST_SLOTS as u32))
-        & is_allowed(merge, stop)
-        & empty_if_safe(verdict, a.waiting)
+        & a.edge.is_within(edges)
+        & edge_allowed(a.edge, a.verdict)
+        & (1..=semantics::MOST_SLOTS as u32).contains(&a.capacity)
+        & is_allowed(a.settings)
+        & empty_if_safe(a.verdict, a.waiting)
 }
 
 // ---- the tests of 11, 13, 14 and 21
@@ -247,14 +214,14 @@ fn record_ok(a: Analysis, edges: usize) -> bool
 fn capacity_ok(capacity: i32) -> bool
     ensures { result ≡ capacity_ok capacity }
 {
-    (1 <= capacity) & (capacity <= semantics::MOST_SLOTS as i32)
+    (1..=semantics::MOST_SLOTS as i32).contains(&capacity)
 }
 
 // A budget that 13 lets pass.
 pub fn budget_ok(budget: i32) -> bool
     ensures { result ≡ budget_ok budget }
 {
-    (0 <= budget) & (budget <= semantics::MOST_ITERATIONS as i32)
+    (0..=semantics::MOST_ITERATIONS as i32).contains(&budget)
 }
 
 // Fewer words are lent than the capacity takes (14).
@@ -267,63 +234,61 @@ fn too_few(layout: Layout, capacity: u32, table_length: usize, list_length: usiz
 }
 
 // Form rule 21: the record first, since its capacity bounds the slots. That the words lent are enough (14) is judged before.
-fn analysis_ok(chart: &[i32], layout: Layout, table: &[i32], list: &[i32], a: Analysis) -> bool
+fn analysis_ok(chart: &Chart, layout: Layout, table: &[i32], list: &[i32], a: Analysis) -> bool
     requires { Enough chart.now layout a.capacity table.now list.now }
     ensures { result ≡ analysis_ok (decode chart.now) (lent table.now list.now a) }
 {
-    if !record_ok(a, chart::edge_count(chart)) {
-        return false;
-    }
-    lent_ok(chart, layout, table, list, a)
+    record_ok(a, chart::edge_count(chart.words())) && lent_ok(chart, layout, table, list, a)
 }
 
 // ---- the refusals that calls share
 
-// 11, 12, 13: the first that refuses what a go line or a beginning asks, or 0. All three are asked before the first refuses,
-// so that their order stands in the tests below alone.
-pub fn asked_refusal(settings: Settings, capacity: i32, budget: i32) -> u32
-    ensures { result ≡ refusal (asked_cases settings capacity budget) }
+// 11, 12, 13: the first that refuses what a go line or a beginning asks.
+pub fn asked_refusal(settings: Settings, capacity: i32, budget: i32) -> Result<(), Refusal>
+    ensures { refusal_of result ≡ refusal (asked_cases settings capacity budget) }
 {
-    let merge = settings.merge;
-    let stop = settings.stop;
-    let capacity_fits = capacity_ok(capacity);
-    let allowed = is_allowed(merge, stop);
-    let budget_fits = budget_ok(budget);
-    if !capacity_fits {
-        return 11;
+    if !capacity_ok(capacity) {
+        return Err(Refusal::BadCapacity);
     }
-    if !allowed {
-        return 12;
+    if !is_allowed(settings) {
+        return Err(Refusal::BadSettings);
     }
-    if !budget_fits {
-        return 13;
+    if !budget_ok(budget) {
+        return Err(Refusal::BadBudget);
     }
-    0
+    Ok(())
 }
 
-// 20, 14: the first that refuses a call with a capacity and so many table and list words, or 0.
-pub fn size_refusal(chart: &[i32], capacity: u32, table_length: usize, list_length: usize) -> u32
-    ensures { result ≡ refusal (size_of chart.now capacity table_length list_length) }
+// 20, 14: the first that refuses a call with a capacity and so many table and list words; else the words are the chart's.
+pub fn size_refusal(
+    words: &[i32],
+    capacity: u32,
+    table_length: usize,
+    list_length: usize,
+) -> Result<Chart<'_>, Refusal>
+    ensures refused { refusal_of result ≡ refusal (size_of words.now capacity table_length list_length) }
+    ensures chart { IfOk result (λ chart. chart ≡ words.now) }
 {
-    if !chart::well_formed(chart) {
-        return 20;
+    let chart = Chart::new(words)?;
+    if too_few(state::layout_of(words), capacity, table_length, list_length) {
+        return Err(Refusal::FewWords);
     }
-    if too_few(state::layout_of(chart), capacity, table_length, list_length) {
-        return 14;
-    }
-    0
+    Ok(chart)
 }
 
-// 20, 14, 21: the first that refuses a call on an analysis, or 0.
-pub fn form_refusal(chart: &[i32], a: Analysis, table: &[i32], list: &[i32]) -> u32
-    ensures { result ≡ refusal (form_of chart.now (lent table.now list.now a)) }
+// 20, 14, 21: the first that refuses a call on an analysis; else the words are the chart's.
+pub fn form_refusal<'a>(
+    words: &'a [i32],
+    a: Analysis,
+    table: &[i32],
+    list: &[i32],
+) -> Result<Chart<'a>, Refusal>
+    ensures refused { refusal_of result ≡ refusal (form_of words.now (lent table.now list.now a)) }
+    ensures chart { IfOk result (λ chart. chart ≡ words.now) }
 {
-    let earlier = size_refusal(chart, a.capacity, table.len(), list.len());
-    if earlier != 0 {
-        return earlier;
+    let chart = size_refusal(words, a.capacity, table.len(), list.len())?;
+    if !analysis_ok(&chart, state::layout_of(words), table, list, a) {
+        return Err(Refusal::BadAnalysis);
     }
-    if !analysis_ok(chart, state::layout_of(chart), table, list, a) {
-        return 21;
-    }
-    0
+    Ok(chart)
 }

@@ -6,16 +6,16 @@ use Rattle.semantics.specs.Memory.{lent_tests}
 use Rattle.checks.proofs.FormTests.{both_parts}
 use Rattle.checks.proofs.analysis_ok.Goals as goal
 
-pub returns-then-not-record_ok : goal.returns-then-not-record_ok
-returns-then-not-record_ok c =
+pub returns-then-record_ok : goal.returns-then-record_ok
+returns-then-record_ok c =
     let s = c.args in
     let part = all_of (lent_tests (decode s.chart.now) s.a.capacity s.a.used s.a.waiting s.table.now s.list.now) in
-    let judged = rw c.edge_count.ensures.count at c.record_ok.ensures in
-    sym (and-false part) ∙ ap (λ (b : Bool). part && b) (sym c.if-not-record_ok.true ∙ judged) ∙ both_parts s.chart.now s.table.now s.list.now s.a
+    let judged = rw (c.edge_count.ensures.count, c.words.ensures.words) at c.record_ok.ensures in
+    c.lent_ok.ensures ∙ sym (and-true part) ∙ ap (λ (b : Bool). part && b) (sym c.if-record_ok.true ∙ judged) ∙ both_parts s.chart.now s.table.now s.list.now s.a
 
-pub returns : goal.returns
-returns c =
+pub returns-else-record_ok : goal.returns-else-record_ok
+returns-else-record_ok c =
     let s = c.args in
     let part = all_of (lent_tests (decode s.chart.now) s.a.capacity s.a.used s.a.waiting s.table.now s.list.now) in
-    let judged = rw c.edge_count.ensures.count at c.record_ok.ensures in
-    c.lent_ok.ensures ∙ sym (and-true part) ∙ ap (λ (b : Bool). part && b) (sym c.if-not-record_ok.false ∙ judged) ∙ both_parts s.chart.now s.table.now s.list.now s.a
+    let judged = rw (c.edge_count.ensures.count, c.words.ensures.words) at c.record_ok.ensures in
+    c.if-record_ok.false ∙ sym (and-false part) ∙ ap (λ (b : Bool). part && b) (sym c.if-record_ok.false ∙ judged) ∙ both_parts s.chart.now s.table.now s.list.now s.a

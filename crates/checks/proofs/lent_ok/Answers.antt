@@ -16,7 +16,8 @@ returns c =
     let d = decode a.chart.now in
     let n = (is_layout a.chart.now _ c.requires.0.layout.0).stride in
     let from = place_of a.layout c.slot-from.result c.slot-from.ensures.placed r.used c.slot-from.ensures.id in
+    let rows = rw c.words.ensures.words at c.slots_ok.ensures in
     let slots = (rw from at c.all_zero.ensures) ∙ ap zeros (sym (drop_take (r.used * a.layout.stride) (r.capacity * a.layout.stride) t))
     ∙ λ j. zeros (drop (r.used * n j) (take (r.capacity * n j) t)) in
     let list = c.all_zero-2.ensures ∙ ap zeros (sym (drop_take r.waiting r.capacity a.list.now)) in
-    lent_passes d r.capacity r.used r.waiting t a.list.now (le-leb _ _ c.if-used-capacity.false) (le-leb _ _ c.if-waiting-used.false) c.slots_ok.ensures c.origins_ok.ensures c.waits_ok.ensures slots list
+    lent_passes d r.capacity r.used r.waiting t a.list.now (le-leb _ _ c.if-a-capacity.false) (le-leb _ _ c.if-a.false) rows c.origins_ok.ensures c.waits_ok.ensures slots list

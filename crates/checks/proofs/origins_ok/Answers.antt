@@ -20,11 +20,11 @@ turn chart table y o ls used s h whole b r e said inv =
 
 pub returns-then-not-origin_ok : goal.returns-then-not-origin_ok
 returns-then-not-origin_ok c =
-    let o = is_layout c.args.chart.now c.args.layout c.requires.1.0 in
+    let o = is_layout c.args.chart.now c.args.layout c.requires.0.0 in
     sym (turn c.args.chart.now c.args.table.now c.args.layout o _ c.args.used c.loop-layout.slot.id.0 (ltb-true _ _ (sym c.is_below.ensures ∙ c.loop-layout-test.true)) _ false _ c.if-not-origin_ok.true c.origin_ok.ensures c.loop-layout.invariant.1)
 
 pub loop-layout-preserved : goal.loop-layout-preserved
 loop-layout-preserved c =
-    let o = is_layout c.args.chart.now c.args.layout c.requires.1.0 in
+    let o = is_layout c.args.chart.now c.args.layout c.requires.0.0 in
     let e = c.after-slot.ensures in
     (e.placed, rw e.id (turn c.args.chart.now c.args.table.now c.args.layout o _ c.args.used c.loop-layout.slot.id.0 (ltb-true _ _ (sym c.is_below.ensures ∙ c.loop-layout-test.true)) _ true _ c.if-not-origin_ok.false c.origin_ok.ensures c.loop-layout.invariant.1))
