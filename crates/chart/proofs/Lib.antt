@@ -4,6 +4,7 @@ pub mod Storing
 pub mod RowLoops
 pub mod Names
 pub mod Rows
+pub mod KindOf
 pub mod RowTests
 pub mod WellFormed
 pub mod NameBytes

@@ -7,19 +7,19 @@ ghost use Rattle.std.specs.Prelude.{List, ℤ, IsOk, IfOk, IfErr, ◌↔◌, T, 
 ghost use Rattle.semantics.specs.Lists.{all};
 ghost use Rattle.semantics.specs.Text.{same_bytes};
 ghost use Rattle.semantics.specs.Chart.{eq_z};
-ghost use Rattle.semantics.specs.Layout.{counts_size, variable_size, name_size, location_size, edge_size, variable_at, high_place, init_place, to_place, operation_place, target_place, first_tag_place, first_value_place, second_tag_place, second_value_place, ge_code, index_limit, most_variables, most_locations, most_edges};
+ghost use Rattle.semantics.specs.Layout.{counts_size, variable_size, name_size, location_size, edge_size, variable_at, high_place, init_place, to_place, operation_place, target_place, first_tag_place, first_value_place, second_tag_place, second_value_place, ge_code, number_tag, index_limit, most_variables, most_locations, most_edges};
 ghost use Rattle.semantics.specs.Encoding.{word_at, count, val, kind_word, rel_code, tag, operand_word, var_words, loc_words, op_words, edge_words, init_ok, var_in, var_ok, loc_in, several, distinct_names, decode, well_formed, variable_count, location_count, edge_count};
 ghost use Rattle.semantics.specs.Operations.{the_operand, the_relation, the_operation};
 ghost use Rattle.semantics.specs.Listing.{loc_text};
 ghost use Rattle.chart.specs.Encoded.{rows, is_at_most, name_word, counts_fine, locations_at, edges_at, location_fine, operand_fine, ranged, two_fine, one_fine, input_fine, operands_fine, operation_fine, edge_fine, rows_fine, byte_of, name_number};
+ghost use Rattle.chart.specs.Kinds.{relation_of, kind_of, tag_place, value_place};
 ghost use Rattle.chart.specs.Rows.{stored, rows_size, the_variable, the_location, the_edge, sum_code, split_words};
 
-use std::marker::Model;
-
 use semantics::{
-    Arithmetic, Refusal, EdgeId, LocationId, MOST_EDGES, MOST_LOCATIONS, MOST_VARIABLES, Operand, Operation,
-    Relation,
+    Arithmetic, EdgeId, LocationId, MOST_EDGES, MOST_LOCATIONS, MOST_VARIABLES, Operand, Operation,
+    Refusal, Relation,
 };
+use std::marker::Model;
 
 // ---- the layout, under the names of semantics/specs/Layout
 
@@ -571,11 +571,27 @@ fn names_differ(locations: &[i32], n: usize) -> bool
 
 // ---- edges
 
-// The two words of an operand.
+// The two words of an operand: what it is, and its number, or k of `$k`.
 #[derive(Clone, Copy)]
-struct OperandWords {
-    tag: i32,
-    value: i32,
+pub struct OperandWords {
+    pub tag: i32,
+    pub value: i32,
+}
+
+impl OperandWords {
+    pub fn is_number(self) -> bool
+        ensures { result ≡ eq_z self.tag number_tag }
+    {
+        self.tag == NUMBER_TAG
+    }
+
+    // The variable that it names, if it names one.
+    pub fn variable(self) -> usize
+        ensures number { result ≡ nat_abs self.value }
+        ensures small { result < index_limit }
+    {
+        words::magnitude(self.value)
+    }
 }
 
 fn operand_words(a: Operand) -> OperandWords
@@ -743,12 +759,96 @@ pub fn edge_operation(chart: &[i32], edge: EdgeRow) -> usize
     words::number_at(chart, edge.at + OPERATION_PLACE)
 }
 
+// What an edge's operation does, without its target and its operands.
+#[derive(Clone, Copy, PartialEq, Eq)]
+pub enum Kind {
+    Skip,
+    Set,
+    Compute(Arithmetic),
+    In,
+    If(Relation),
+}
+
+#[tactic(auto, unfolding(crate::specs::Kinds::relation_of))]
+fn relation_of(code: usize) -> Relation
+    ensures { result ≡ relation_of code }
+{
+    match code {
+        EQ_CODE => Relation::Eq,
+        NE_CODE => Relation::Ne,
+        LT_CODE => Relation::Lt,
+        LE_CODE => Relation::Le,
+        GT_CODE => Relation::Gt,
+        _ => Relation::Ge,
+    }
+}
+
+#[tactic(auto, unfolding(crate::specs::Kinds::kind_of))]
+fn kind_of(code: usize) -> Kind
+    ensures { result ≡ kind_of code }
+{
+    match code {
+        SKIP_CODE => Kind::Skip,
+        SET_CODE => Kind::Set,
+        ADD_CODE => Kind::Compute(Arithmetic::Add),
+        SUB_CODE => Kind::Compute(Arithmetic::Sub),
+        IN_CODE => Kind::In,
+        _ => Kind::If(relation_of(code)),
+    }
+}
+
+pub fn edge_kind(chart: &[i32], edge: EdgeRow) -> Kind
+    requires { edge.at < index_limit }
+    ensures { result ≡ kind_of (count chart.now (edge.at + operation_place)) }
+{
+    kind_of(words::number_at(chart, edge.at + OPERATION_PLACE))
+}
+
 pub fn edge_target(chart: &[i32], edge: EdgeRow) -> usize
     requires { edge.at < index_limit }
     ensures number { result ≡ count chart.now (edge.at + target_place) }
     ensures small { result < index_limit }
 {
     words::number_at(chart, edge.at + TARGET_PLACE)
+}
+
+// Which of an edge's two operands.
+#[derive(Clone, Copy, PartialEq, Eq)]
+pub enum Which {
+    First,
+    Second,
+}
+
+impl Which {
+    // Where its two words stand in the row.
+    fn tag_place(self) -> usize
+        ensures { result ≡ tag_place self }
+    {
+        match self {
+            Which::First => FIRST_TAG_PLACE,
+            Which::Second => SECOND_TAG_PLACE,
+        }
+    }
+
+    fn value_place(self) -> usize
+        ensures { result ≡ value_place self }
+    {
+        match self {
+            Which::First => FIRST_VALUE_PLACE,
+            Which::Second => SECOND_VALUE_PLACE,
+        }
+    }
+}
+
+pub fn edge_operand(chart: &[i32], edge: EdgeRow, which: Which) -> OperandWords
+    requires { edge.at < index_limit }
+    ensures tag { result.tag ≡ word_at chart.now (edge.at + tag_place which) }
+    ensures value { result.value ≡ word_at chart.now (edge.at + value_place which) }
+{
+    OperandWords {
+        tag: words::word_at(chart, edge.at + which.tag_place()),
+        value: words::word_at(chart, edge.at + which.value_place()),
+    }
 }
 
 // Its two operands: what each is, and the word that it holds; the first as the number of a variable.
