@@ -61,11 +61,10 @@ pub fn link_all(layout: Layout, table: &[i32], used: usize, links: &mut [usize])
     requires { Linked [] links.old × (width_of layout ≤ layout.stride) × (used * layout.stride ≤ length table.now) × (used < index_limit) }
     ensures { Linked (chains_of layout used table.now) links.new }
 {
-    let mut slot = layout.slot(SlotId(0));
-    while slot.id.is_below(used) {
+    for id in 0..used {
+        let slot = layout.slot(SlotId(id));
         let row = state::row_of(layout, table, slot);
         add(links, slot.id, state::location_of(row));
-        slot = layout.after(slot);
     }
 }
 
