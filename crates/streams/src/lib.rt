@@ -1,153 +1,121 @@
 // Standard input and output, whole: a call that moves few bytes is no end, one that a signal interrupts is made again.
 #![tactic(auto)]
 
-ghost use Rattle.std.specs.Prelude.{◌≡◌, ◌&&◌, true, ◌<◌, ◌≤◌, length, pos, negsuc, OnOk, OnErr, IfOk};
-ghost use Rattle.std.specs.Int.Signed.{lt_z};
-ghost use Rattle.semantics.specs.Chart.{eq_z};
-ghost use Rattle.streams.specs.StreamEnd.{Moved, Stopped};
+ghost use Rattle.std.specs.Prelude.{◌≡◌, ℕ, ◌-◌, ◌≤◌, length, IfOk, MatchResult, IsTrue, ◌↔◌};
+ghost use Rattle.std.specs.IoError.{error_kind};
+ghost use Rattle.streams.specs.StreamEnd.{Stopped};
 
 use std::io;
-use std::io::{Read, Write};
+use std::io::{ErrorKind, Read, Write};
 
 // A loop must be proved to end: a call that a signal interrupts so often in a row, and once more, counts as failed.
 const MOST_INTERRUPTIONS: u32 = 1_000_000;
 
-// Linux's number of an interruption.
-const EINTR: i32 = 4;
-
-// How many bytes were moved, and what the last call answered: how many it moved, 0 at the end of the input, or -1; and
-// why that call failed.
+// How many bytes were moved, and what the last call answered: how many it moved, 0 at the end of the input, or why it
+// failed.
 #[derive(Clone, Copy)]
 pub struct StreamEnd {
     pub count: usize,
-    pub last: isize,
-    pub failure: Option<io::Error>,
+    pub last: io::Result<usize>,
 }
 
-// What a call answered, and why it failed.
-#[derive(Clone, Copy)]
-struct Call {
-    answer: isize,
-    failure: Option<io::Error>,
+// Bytes that calls move one part after the other: into a buffer from a reader, or from one to a writer.
+trait Stream {
+    ghost size: { Self → ℕ };
+
+    fn size(&self) -> usize
+        ensures { result ≡ size self.now };
+
+    // One call, for the bytes from this place on.
+    fn call(&mut self, at: usize) -> io::Result<usize>
+        requires { at ≤ size self.old }
+        ensures moved { IfOk result (λ n. n ≤ size self.old - at) }
+        ensures kept { size self.new ≡ size self.old };
 }
 
-fn call_of(moved: io::Result<usize>, buf: &[u8]) -> Call
-    requires { IfOk moved (λ n. n ≤ length buf.now) }
-    ensures { Moved (length buf.now) result.answer }
-{
-    match moved {
-        Ok(n) => Call {
-            answer: n as isize,
-            failure: None,
-        },
-        Err(error) => Call {
-            answer: -1,
-            failure: Some(error),
-        },
+#[derive(Drop)]
+struct Reading<'a, R> {
+    reader: &'a mut R,
+    buf: &'a mut [u8],
+}
+
+impl<R: Read> Stream for Reading<'_, R> {
+    ghost size = { λ s. length s.buf.now };
+
+    fn size(&self) -> usize {
+        self.buf.len()
+    }
+
+    fn call(&mut self, at: usize) -> io::Result<usize> {
+        self.reader.read(&mut self.buf[at..])
     }
 }
 
-fn errno_of(call: &Call) -> i32 {
-    match call.failure {
-        Some(error) => error.raw_os_error().unwrap_or(0),
-        None => 0,
+#[derive(Drop)]
+struct Writing<'a, W> {
+    writer: &'a mut W,
+    buf: &'a [u8],
+}
+
+impl<W: Write> Stream for Writing<'_, W> {
+    ghost size = { λ s. length s.buf.now };
+
+    fn size(&self) -> usize {
+        self.buf.len()
+    }
+
+    fn call(&mut self, at: usize) -> io::Result<usize> {
+        self.writer.write(&self.buf[at..])
     }
 }
 
-fn is_interrupted(answer: isize, errno: i32) -> bool
-    ensures { result ≡ (lt_z answer (pos 0) && eq_z errno (pos 4)) }
+fn is_interrupted(moved: &io::Result<usize>) -> bool
+    ensures { IsTrue result ↔ MatchResult moved.now (λ _. ⊥) (λ e. error_kind e ≡ ErrorKind.Interrupted) }
 {
-    (answer < 0) & (errno == EINTR)
+    matches!(moved, Err(error) if error.kind() == ErrorKind::Interrupted)
 }
 
-// Whether the call that gave this answer is to be made again: it failed. No contract can say what errno is, so that
-// it is asked of this call, and only EINTR has it made again, is these two functions, read.
-fn is_to_repeat(call: &Call, left: u32) -> bool
-    ensures { result ≡ true → (0 < left) × (lt_z call.now.answer (pos 0) ≡ true) }
+// A call that is made again as long as it is interrupted.
+fn move_some<S: Stream>(stream: &mut S, at: usize) -> io::Result<usize>
+    requires { at ≤ S.size stream.old }
+    ensures moved { IfOk result (λ n. n ≤ S.size stream.old - at) }
+    ensures kept { S.size stream.new ≡ S.size stream.old }
 {
-    left > 0 && is_interrupted(call.answer, errno_of(call))
-}
-
-fn read_once<R: Read>(reader: &mut R, buf: &mut [u8]) -> Call
-    ensures { Moved (length buf.old) result.answer }
-{
-    let moved = reader.read(buf);
-    call_of(moved, buf)
-}
-
-fn read_some<R: Read>(reader: &mut R, buf: &mut [u8]) -> Call
-    ensures { Moved (length buf.old) result.answer }
-{
-    let mut call = read_once(reader, buf);
-    let mut left = MOST_INTERRUPTIONS;
-    while is_to_repeat(&call, left) {
-        call = read_once(reader, buf);
-        left -= 1;
+    for _ in 0..MOST_INTERRUPTIONS {
+        let moved = stream.call(at);
+        if !is_interrupted(&moved) {
+            return moved;
+        }
     }
-    call
+    stream.call(at)
+}
+
+// Until all is moved, or a call moves nothing or fails.
+fn move_all<S: Stream>(stream: &mut S) -> StreamEnd
+    ensures { Stopped (S.size stream.old) result }
+{
+    let mut count = 0;
+    let mut last = Ok(0);
+    while count < stream.size() {
+        last = move_some(stream, count);
+        match last {
+            Ok(0) | Err(_) => break, // the end, or a failure
+            Ok(n) => count += n,
+        }
+    }
+    StreamEnd { count, last }
 }
 
 // Reads until the buffer is full, or a read answers 0 or fails.
 pub fn read_all<R: Read>(reader: &mut R, buf: &mut [u8]) -> StreamEnd
     ensures { Stopped (length buf.old) result }
 {
-    let mut count = 0;
-    let mut last = 0;
-    let mut failure = None;
-    while count < buf.len() {
-        let call = read_some(reader, &mut buf[count..]);
-        last = call.answer;
-        failure = call.failure;
-        if last <= 0 { // the end, or a failure
-            break;
-        }
-        count += last as usize;
-    }
-    StreamEnd {
-        count,
-        last,
-        failure,
-    }
-}
-
-fn write_once<W: Write>(writer: &mut W, buf: &[u8]) -> Call
-    ensures { Moved (length buf.now) result.answer }
-{
-    let moved = writer.write(buf);
-    call_of(moved, buf)
-}
-
-fn write_some<W: Write>(writer: &mut W, buf: &[u8]) -> Call
-    ensures { Moved (length buf.now) result.answer }
-{
-    let mut call = write_once(writer, buf);
-    let mut left = MOST_INTERRUPTIONS;
-    while is_to_repeat(&call, left) {
-        call = write_once(writer, buf);
-        left -= 1;
-    }
-    call
+    move_all(&mut Reading { reader, buf })
 }
 
 // Writes until all is written, or a write takes nothing or fails.
 pub fn write_all<W: Write>(writer: &mut W, buf: &[u8]) -> StreamEnd
     ensures { Stopped (length buf.now) result }
 {
-    let mut count = 0;
-    let mut last = 0;
-    let mut failure = None;
-    while count < buf.len() {
-        let call = write_some(writer, &buf[count..]);
-        last = call.answer;
-        failure = call.failure;
-        if last <= 0 { // nothing taken, or a failure
-            break;
-        }
-        count += last as usize;
-    }
-    StreamEnd {
-        count,
-        last,
-        failure,
-    }
+    move_all(&mut Writing { writer, buf })
 }

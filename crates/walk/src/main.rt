@@ -9,7 +9,6 @@ use semantics::{Command, View};
 use std::env::{Env, FillError};
 use std::io;
 use std::io::{IsTerminal, Read, Stderr, Stdin, Stdout, Write};
-use streams::StreamEnd;
 
 // Linux hands over no longer argument: MAX_ARG_STRLEN, which counts the 0 at its end.
 const LONGEST_ARGUMENT: usize = 131072;
@@ -34,51 +33,36 @@ fn say(errors: &mut Stderr, bytes: &[u8]) {
 fn text_length(text: &[u8]) -> usize
     ensures { result ≤ length text.now }
 {
-    for (i, b) in text.iter().enumerate() {
-        if *b == 0 {
-            return i;
-        }
-    }
-    text.len()
+    text.iter().position(|b| *b == 0).unwrap_or(text.len())
 }
 
 // The system's text of a failure, before the number that std puts behind it in brackets.
 fn reason_length(text: &[u8]) -> usize
     ensures { result ≤ length text.now }
 {
-    let mut end = text.len();
-    while end > 0 {
-        end -= 1;
-        if text[end] == b'(' {
-            return if end > 0 { end - 1 } else { 0 };
-        }
+    match text.iter().rposition(|b| *b == b'(') {
+        Some(bracket) => bracket.saturating_sub(1),
+        None => text_length(text),
     }
-    text_length(text)
 }
 
 // Says what failed, and why.
-fn fail(errors: &mut Stderr, what: &[u8], failure: Option<io::Error>) {
+fn fail(errors: &mut Stderr, what: &[u8], error: io::Error) {
     say(errors, what);
-    if let Some(error) = failure {
-        let mut text = [0u8; REASON];
-        let mut rest: &mut [u8] = &mut text;
-        let _ = write!(rest, "{error}");
-        let end = reason_length(&text);
-        say(errors, b": ");
-        say(errors, &text[..end]);
-    }
+    let mut text = [0u8; REASON];
+    let mut rest: &mut [u8] = &mut text;
+    let _ = write!(rest, "{error}");
+    let end = reason_length(&text);
+    say(errors, b": ");
+    say(errors, &text[..end]);
     say(errors, b"\n");
 }
 
 // Writes it to standard output, or says why not. A program has no exit status to say so.
 fn print(streams: &mut Streams, bytes: &[u8]) {
     let written = streams::write_all(&mut streams.output, bytes);
-    if written.last < 0 {
-        fail(
-            &mut streams.errors,
-            b"walk: standard output",
-            written.failure,
-        );
+    if let Err(error) = written.last {
+        fail(&mut streams.errors, b"walk: standard output", error);
     } else if written.count < bytes.len() {
         say(
             &mut streams.errors,
@@ -87,12 +71,13 @@ fn print(streams: &mut Streams, bytes: &[u8]) {
     }
 }
 
-// On a terminal it first says what it waits for. A failed read is no end of the input: there is then no answer.
+// How many bytes were read. On a terminal it first says what it waits for. A failed read is no end of the input: there is
+// then no answer.
 fn read_input(
     streams: &mut Streams,
     awaited: &[u8],
     input: &mut [u8; program::INPUT],
-) -> StreamEnd {
+) -> Option<usize> {
     if streams.input.is_terminal() {
         say(&mut streams.errors, b"walk: type ");
         say(&mut streams.errors, awaited);
@@ -102,56 +87,58 @@ fn read_input(
         );
     }
     let read = streams::read_all(&mut streams.input, input);
-    if read.last < 0 {
-        fail(&mut streams.errors, b"walk: standard input", read.failure);
+    if let Err(error) = read.last {
+        fail(&mut streams.errors, b"walk: standard input", error);
+        return None;
     }
-    read
+    Some(read.count)
+}
+
+// Reads the input and prints what is answered to it: the bytes at the front of those lent, and how many they are.
+fn answer<F>(streams: &mut Streams, awaited: &[u8], respond: F)
+where
+    F: FnOnce(&[u8; program::INPUT], usize, &mut [u8; semantics::LISTING_BYTES]) -> usize,
+    requires callable { F.IsAlwaysCallable respond }
+    requires fits { (input : _) (count : _) (out : _) (n : _) (after : _) → F.post respond input count out n after → n ≤ length after.now }
+{
+    let mut input = [0u8; program::INPUT];
+    let Some(count) = read_input(streams, awaited, &mut input) else {
+        return;
+    };
+    let mut out = [0u8; semantics::LISTING_BYTES];
+    let length = respond(&input, count, &mut out);
+    print(streams, &out[..length]);
 }
 
 fn show(streams: &mut Streams, view: View) {
-    let mut input = [0u8; program::INPUT];
-    let read = read_input(streams, b"a go line and a chart", &mut input);
-    if read.last < 0 {
-        return;
-    }
-    let mut out = [0u8; semantics::LISTING_BYTES];
-    let length = program::respond_to(view, &input, read.count, &mut out);
-    print(streams, &out[..length]);
+    answer(streams, b"a go line and a chart", |input, count, out| {
+        program::respond_to(view, input, count, out)
+    });
 }
 
 // The second argument is the count of moves, which is judged before the chart, but after both were read.
 fn search(rt: &HostRuntime, streams: &mut Streams) {
     let mut argument = [0u8; LONGEST_ARGUMENT];
     let end = argument_in(rt, 2, &mut argument);
-    let mut input = [0u8; program::INPUT];
-    let read = read_input(streams, b"a chart without a go line", &mut input);
-    if read.last < 0 {
-        return;
-    }
-    let mut out = [0u8; semantics::LISTING_BYTES];
-    let length = program::respond_search_to(&argument[..end], &input, read.count, &mut out);
-    print(streams, &out[..length]);
+    let k = &argument[..end];
+    answer(streams, b"a chart without a go line", |input, count, out| {
+        program::respond_search_to(k, input, count, out)
+    });
 }
 
 // The argument's bytes at the start of the buffer, and how many there are: 0 where it is missing or does not fit.
 fn argument_in(rt: &HostRuntime, i: usize, buf: &mut [u8]) -> usize
     ensures { result ≤ length buf.old }
 {
-    match rt.arg(i, buf) {
-        Ok(length) => length,
-        Err(_) => 0,
-    }
+    rt.arg(i, buf).unwrap_or(0)
 }
 
 // How many arguments follow the program's name.
 fn arguments_given(rt: &HostRuntime) -> usize {
     let mut first = [0u8; 1];
-    for i in 1..usize::MAX {
-        if let Err(FillError::NotPresent) = rt.arg(i, &mut first) {
-            return i - 1;
-        }
-    }
-    usize::MAX - 1
+    (1..usize::MAX)
+        .position(|i| matches!(rt.arg(i, &mut first), Err(FillError::NotPresent)))
+        .unwrap_or(usize::MAX - 1)
 }
 
 // Its example is tried by tests/program/tests/arguments.rs.

@@ -1,2 +1,0 @@
--- What the answers of read and write say to a loop.
-pub mod Answers
