@@ -1,6 +1,8 @@
 -- Writing goes on where it stopped; what fits is written whole. Assumes nothing.
 use Rattle.semantics.proofs.Prelude.{◌≡◌, refl, sym, ap, subst, ◌∙◌, List, [], ◌∷◌, ◌++◌, ℕ, zero, suc, ◌+◌, ◌≤◌, ◌<◌, zero-add, suc-add, arith, length, take, drop, set, length-append, drop-drop, dec_lt}
 use Rattle.writer.specs.Writing.{overwritten, written, limit, Put}
+use Rattle.writer.specs.declared.Writer.{Writer}
+use Rattle.writer.specs.Writers.{Writes}
 
 pub written_none : (at : ℕ) (out : List ℕ) → written at [] out ≡ out
 unfolding written overwritten
@@ -90,18 +92,28 @@ put_then {at} {r} {r'} {bs} {cs} {out} {out'} {out''} p q =
 pub put_same : {at r : ℕ} {bs cs out out' : List ℕ} → bs ≡ cs → Put at bs out out' r → Put at cs out out' r
 put_same {at} {r} {out = out} {out' = out'} e p = subst (λ (l : List ℕ). Put at l out out' r) e p
 
--- what a loop has put so far: with the rest put after it, the whole is put
-abbrev pub Completes : ℕ → List ℕ → List ℕ → ℕ → List ℕ → List ℕ → Type 0
-Completes at whole out place rest out' = (out'' : List ℕ) (r : ℕ) → Put place rest out' out'' r → Put at whole out out'' r
-
-pub one_more : {at place place' : ℕ} {whole rest piece rest' out out' out'' : List ℕ} → Completes at whole out place rest out' → rest ≡ piece ++ rest' → Put place piece out' out'' place'
-    → Completes at whole out place' rest' out''
-one_more f e p o r q = f o r (put_same (sym e) (put_then p q))
-
-pub all_put : {at place : ℕ} {whole rest out out' : List ℕ} → Completes at whole out place rest out' → rest ≡ [] → length out' < limit → Put at whole out out' place
-all_put {place = place} {out' = out'} f e s = f out' place (put_same (sym e) (put_none place out' s))
-
 -- where it fits: the bytes before, what was put, the bytes after
 pub put_fits : {at r : ℕ} {bs out out' : List ℕ} → Put at bs out out' r → at + length bs ≤ length out
     → (out' ≡ take at out ++ (bs ++ drop (at + length bs) out)) × (r ≡ at + length bs)
 put_fits {at} {r} {bs} {out} p h = (p.bytes ∙ written_fits at bs out h, omega (arith, p.place, p.small))
+
+-- ---- `Writes`, piece by piece
+
+pub writes_then : {bs cs : List ℕ} {a b d : Writer} → Writes bs a b → Writes cs b d → Writes (bs ++ cs) a d
+writes_then p q = record { same = q.same ∙ p.same; put = put_then p.put q.put }
+
+pub writes_none : (a : Writer) → Writes [] a a
+writes_none a = record { same = refl; put = put_none a.at a.space.now a.short }
+
+pub writes_same : {bs cs : List ℕ} {a b : Writer} → bs ≡ cs → Writes bs a b → Writes cs a b
+writes_same {a = a} {b = b} e p = subst (λ (l : List ℕ). Writes l a b) e p
+
+-- what a loop has written so far: with the rest written after it, the whole is written
+abbrev pub Completes : List ℕ → Writer → List ℕ → Writer → Type 0
+Completes whole a rest b = (d : Writer) → Writes rest b d → Writes whole a d
+
+pub one_more : {whole rest piece rest' : List ℕ} {a b d : Writer} → Completes whole a rest b → rest ≡ piece ++ rest' → Writes piece b d → Completes whole a rest' d
+one_more f e p w q = f w (writes_same (sym e) (writes_then p q))
+
+pub all_put : {whole rest : List ℕ} {a b : Writer} → Completes whole a rest b → rest ≡ [] → Writes whole a b
+all_put {b = b} f e = f b (writes_same (sym e) (writes_none b))

@@ -1,2 +1,3 @@
--- Bytes written over others.
+-- Bytes written over others; a writer's bytes.
 pub mod Writing
+pub mod Writers

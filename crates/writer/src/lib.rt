@@ -1,81 +1,10 @@
-// Writing bytes and numbers into lent bytes. A function answers the place after what it wrote. What lies past the end
-// of the bytes lent is counted and not written, so that one function tells how long a text is and writes it, and none
-// asks that it fits.
+// Writing bytes and numbers into lent bytes. What lies past the end of the bytes lent is counted and not written, so
+// that one function tells how long a text is and writes it, and none asks that it fits.
 #![tactic(auto)]
 
 ghost use Rattle.std.specs.Prelude.{◌≡◌, [], ◌∷◌, ◌+◌, ◌-◌, ◌/◌, ◌%◌, ◌<◌, min, length};
 ghost use Rattle.semantics.specs.Text.{decimal, decimal_z};
 ghost use Rattle.writer.specs.Writing.{Put, limit};
-
-// No slice is this long: counting stops here, so that no place wraps.
-const LIMIT: usize = 9_223_372_036_854_775_808;
-
-// The place after it; from the limit on, the same.
-fn next(at: usize) -> usize
-    ensures { min result limit ≡ min (at + 1) limit }
-{
-    if at < LIMIT {
-        return at + 1;
-    }
-    at
-}
-
-pub fn put_byte(out: &mut [u8], at: usize, b: u8) -> usize
-    ensures { Put at (b ∷ []) out.old out.new result }
-{
-    if at < out.len() {
-        out[at] = b;
-        return at + 1;
-    }
-    next(at)
-}
-
-// The lengths are the same.
-fn copy_bytes(dst: &mut [u8], src: &[u8])
-    requires { length dst.old ≡ length src.now }
-    ensures { dst.new ≡ src.now }
-{
-    let mut i = 0;
-    while i < src.len() {
-        dst[i] = src[i];
-        i += 1;
-    }
-}
-
-// Bytes that may lie past the end, each tested.
-fn put_each(out: &mut [u8], at: usize, s: &[u8]) -> usize
-    ensures { Put at s.now out.old out.new result }
-{
-    let mut place = at;
-    let mut i = 0;
-    while i < s.len() {
-        place = put_byte(out, place, s[i]);
-        i += 1;
-    }
-    place
-}
-
-// How many bytes are left from a place on.
-fn room(len: usize, at: usize) -> usize
-    ensures { result ≡ len - at }
-{
-    if at < len {
-        return len - at;
-    }
-    0
-}
-
-// Bytes that stop short of the end are copied without a test for each.
-pub fn put_bytes(out: &mut [u8], at: usize, s: &[u8]) -> usize
-    ensures { Put at s.now out.old out.new result }
-{
-    if room(out.len(), at) <= s.len() {
-        return put_each(out, at, s);
-    }
-    let end = at + s.len();
-    copy_bytes(&mut out[at..end], s);
-    end
-}
 
 // The byte of the last digit. 48 is '0'.
 fn last_digit(n: usize) -> u8
@@ -84,70 +13,93 @@ fn last_digit(n: usize) -> u8
     (48 + n % 10) as u8
 }
 
-// The last digit but one, and the last.
-fn put_two(out: &mut [u8], at: usize, n: usize) -> usize
-    ensures { Put at ((48 + n / 10 % 10) ∷ (48 + n % 10) ∷ []) out.old out.new result }
-{
-    let place = put_byte(out, at, last_digit(n / 10));
-    put_byte(out, place, last_digit(n))
+// The bytes lent, and the place that comes next.
+#[derive(Drop)]
+pub struct Writer<'a> {
+    space: &'a mut [u8],
+    at: usize,
+    ghost short: { length space.now < limit },
 }
 
-fn put_below_hundred(out: &mut [u8], at: usize, n: usize) -> usize
-    requires { n < 100 }
-    ensures { Put at (decimal n) out.old out.new result }
-{
-    if n < 10 {
-        return put_byte(out, at, last_digit(n));
-    }
-    put_two(out, at, n)
-}
+impl<'a> Writer<'a> {
+    ghost use Rattle.writer.specs.Writers.{Writes};
 
-// The digits of the largest usize.
-const MOST_DIGITS: usize = 20;
+    pub fn new(space: &'a mut [u8]) -> Writer<'a>
+        ensures same { result.space.ghost_name ≡ space.entry.ghost_name }
+        ensures bytes { result.space.now ≡ space.old }
+        ensures at { result.at ≡ 0 }
+    {
+        Writer { space, at: 0 }
+    }
 
-// A number of any size: the last digit first, in a row that is filled from its end.
-fn put_large(out: &mut [u8], at: usize, n: usize) -> usize
-    ensures { Put at (decimal n) out.old out.new result }
-{
-    let mut digits = [0u8; MOST_DIGITS];
-    let mut from = MOST_DIGITS;
-    let mut left = n;
-    while 10 <= left {
-        from -= 1;
-        digits[from] = last_digit(left);
-        left = left / 10;
+    // The place that comes next.
+    pub fn at(&self) -> usize
+        ensures { result ≡ self.now.at }
+    {
+        self.at
     }
-    from -= 1;
-    digits[from] = last_digit(left);
-    put_bytes(out, at, &digits[from..])
-}
 
-// Two digits at a time where they are few, as they nearly always are.
-pub fn put_decimal(out: &mut [u8], at: usize, n: usize) -> usize
-    ensures { Put at (decimal n) out.old out.new result }
-{
-    if n < 100 {
-        return put_below_hundred(out, at, n);
+    pub fn byte(&mut self, b: u8)
+        ensures { Writes (b ∷ []) self.old self.new }
+    {
+        let at = self.at;
+        self.at = at.saturating_add(1);
+        if at < self.space.len() {
+            self.space[at] = b;
+        }
     }
-    if n < 10_000 {
-        let place = put_below_hundred(out, at, n / 100);
-        return put_two(out, place, n);
-    }
-    if n < 1_000_000 {
-        let first = put_below_hundred(out, at, n / 10_000);
-        let second = put_two(out, first, n / 100);
-        return put_two(out, second, n);
-    }
-    put_large(out, at, n)
-}
 
-// A number with its sign: `-`, or none.
-pub fn put_signed(out: &mut [u8], at: usize, z: i32) -> usize
-    ensures { Put at (decimal_z z) out.old out.new result }
-{
-    if z < 0 {
-        let place = put_byte(out, at, b'-');
-        return put_decimal(out, place, words::magnitude(z));
+    // Bytes that may lie past the end, each tested.
+    fn each(&mut self, s: &[u8])
+        ensures { Writes s.now self.old self.new }
+    {
+        for b in s {
+            self.byte(*b);
+        }
     }
-    put_decimal(out, at, words::magnitude(z))
+
+    // Bytes that stop short of the end are copied without a test for each.
+    pub fn bytes(&mut self, s: &[u8])
+        ensures { Writes s.now self.old self.new }
+    {
+        let end = self.at.saturating_add(s.len());
+        if self.space.len() < end {
+            return self.each(s);
+        }
+        self.space[self.at..end].copy_from_slice(s);
+        self.at = end;
+    }
+
+    // The last digit but one, and the last.
+    fn two(&mut self, n: usize)
+        ensures { Writes ((48 + n / 10 % 10) ∷ (48 + n % 10) ∷ []) self.old self.new }
+    {
+        self.byte(last_digit(n / 10));
+        self.byte(last_digit(n));
+    }
+
+    // Two digits at a time, by the hundreds.
+    #[cycle(decimal)]
+    pub fn decimal(&mut self, n: usize)
+        ensures { Writes (decimal n) self.old self.new }
+    {
+        if n < 10 {
+            return self.byte(last_digit(n));
+        }
+        if n < 100 {
+            return self.two(n);
+        }
+        self.decimal(n / 100);
+        self.two(n);
+    }
+
+    // A number with its sign: `-`, or none.
+    pub fn signed(&mut self, z: i32)
+        ensures { Writes (decimal_z z) self.old self.new }
+    {
+        if z < 0 {
+            self.byte(b'-');
+        }
+        self.decimal(words::magnitude(z));
+    }
 }
