@@ -1,3 +1,3 @@
 -- Laws of the waitlist's words: as they stand, then as they move.
 pub mod WaitWords
-pub mod ShiftedWords
+pub mod MovedWords

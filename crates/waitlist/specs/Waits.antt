@@ -1,12 +1,11 @@
 -- The waitlist as lent words: the slot numbers, longest waiting first, then zeros. Assumes nothing.
-use Rattle.std.specs.Prelude.{◌≡◌, Bool, List, [], ◌∷◌, ◌++◌, map, ℕ, ◌+◌, ◌-◌, ◌≤◌, ◌<◌, ℤ, pos, nat_abs, length, take, get_or, set, replicate}
+use Rattle.std.specs.Prelude.{◌≡◌, List, ◌++◌, map, ℕ, ◌+◌, ◌-◌, ◌≤◌, ◌<◌, ℤ, pos, nat_abs, length, take, drop, replicate}
 use Rattle.std.proofs.Math.Option.{some}
-use Rattle.semantics.specs.Chart.{eq_z}
 use Rattle.semantics.specs.declared.Order.{Order}
+use Rattle.semantics.specs.declared.Order.TheVariants.{Old, New}
 use Rattle.semantics.specs.Layout.{index_limit}
 use Rattle.semantics.specs.Tidy.{Queue}
 use Rattle.semantics.specs.Algorithm.{take_by}
-use Rattle.semantics.specs.Lists.{pick}
 
 -- the slots that the first n words say
 abbrev pub waits : ℕ → List ℤ → List ℕ
@@ -25,28 +24,14 @@ pub record Admits (l : List ℤ) (n k : ℕ) : Type 0 where
   pub small : length l < index_limit
   pub queue : Queue (length l) (waits n l)
 
--- x is put before the words, and the last word falls out
-abbrev pub pushed : ℤ → List ℤ → List ℤ
-pushed x [] = []
-pushed x (y ∷ l) = x ∷ pushed y l
+-- where the slot stands that is next by the order, where n wait
+abbrev pub next_place : Order → ℕ → ℕ
+next_place Old n = 0
+next_place New n = n - 1
 
--- the first word falls out, and a zero comes after the others
-abbrev pub shifted : List ℤ → List ℤ
-shifted [] = []
-shifted (x ∷ l) = get_or l 0 (pos 0) ∷ shifted l
-
--- the words other than k
-abbrev pub others : ℤ → List ℤ → List ℤ
-others k [] = []
-others k (x ∷ l) = pick (eq_z x k) (others k l) (x ∷ (others k l))
-
--- where the next word is kept: at j too if the Bool says that the word for j is dropped
-abbrev pub next_place : Bool → ℕ → ℕ
-next_place b j = pick b j (j + 1)
-
--- x kept at place j, unless the Bool says that it is dropped
-abbrev pub kept_at : Bool → List ℤ → ℕ → ℤ → List ℤ
-kept_at b l j x = pick b l (set l j x)
+-- the slots but for the one at place i
+abbrev pub others : ℕ → List ℕ → List ℕ
+others i wa = take i wa ++ drop (i + 1) wa
 
 -- the slot k is next by the order o among the slots wa
 pub record NextBy (o : Order) (wa : List ℕ) (k : ℕ) : Type 0 where

@@ -6,11 +6,10 @@
 
 ghost use Rattle.std.specs.Prelude.{◌≡◌, ◌∷◌, [], ◌++◌, map, ◌+◌, ◌-◌, ◌<◌, ◌≤◌, eqb, pos, nat_abs, length, take, drop, replicate};
 ghost use Rattle.semantics.specs.Layout.{index_limit};
-ghost use Rattle.semantics.specs.Chart.{eq_z};
 ghost use Rattle.semantics.specs.Lists.{pick, some_of};
-ghost use Rattle.semantics.specs.declared.Order.TheVariants.{Old, New};
+ghost use Rattle.semantics.specs.Tidy.{Distinct};
 ghost use Rattle.semantics.specs.Algorithm.{without, put_back, wait};
-ghost use Rattle.waitlist.specs.Waits.{waits, Stored, Admits, pushed, shifted, others, next_place, kept_at, TakenFrom, NextBy};
+ghost use Rattle.waitlist.specs.Waits.{waits, Stored, Admits, next_place, others, TakenFrom, NextBy};
 
 use semantics::{Order, SlotId};
 
@@ -19,8 +18,7 @@ fn slot_word(slot: SlotId) -> i32
     requires { slot.0 + 1 < index_limit }
     ensures { result ≡ pos slot.0 }
 {
-    let n = slot.0;
-    n as i32
+    slot.0 as i32
 }
 
 // Whether the slot is waiting.
@@ -28,8 +26,7 @@ fn contains(list: &[i32], count: usize, slot: SlotId) -> bool
     requires { Stored list.now count (waits count list.now) × (slot.0 + 1 < index_limit) }
     ensures { result ≡ some_of (eqb slot.0) (waits count list.now) }
 {
-    let k = slot_word(slot);
-    words::contains(&list[..count], k)
+    words::contains(&list[..count], slot_word(slot))
 }
 
 // The slot joins the waitlist at its end.
@@ -63,65 +60,24 @@ pub fn wait_unless(same: bool, list: &mut [i32], count: usize, slot: SlotId) -> 
     wait(list, count, slot)
 }
 
-// Each word goes down by one place; the last becomes 0.
-fn shift_down(s: &mut [i32])
-    requires { 0 < length s.old }
-    ensures { s.new ≡ shifted s.old }
+// The place in the list, which so many slots wait on, of the slot that is next by the order.
+fn next_place(order: Order, count: usize) -> usize
+    requires { 0 < count }
+    ensures { result ≡ next_place order count }
 {
-    let last = s.len() - 1;
-    let mut i = 0;
-    while i < last {
-        let next = i + 1;
-        let x = s[next];
-        s[i] = x;
-        i = next;
-    }
-    s[last] = 0;
-}
-
-// Each word goes up by one place, and x comes first; the last falls out.
-fn push_front(s: &mut [i32], x: i32)
-    ensures { s.new ≡ pushed x s.old }
-{
-    let mut carry = x;
-    let mut i = 0;
-    while i < s.len() {
-        let y = s[i];
-        s[i] = carry;
-        carry = y;
-        i += 1;
+    match order {
+        Order::Old => 0,
+        Order::New => count - 1,
     }
 }
 
-// Writes x to place j unless it is k; the next place to write.
-fn keep_word(list: &mut [i32], j: usize, x: i32, k: i32) -> usize
-    requires { j < length list.old }
-    ensures place { result ≡ next_place (eq_z x k) j }
-    ensures list { list.new ≡ kept_at (eq_z x k) list.old j x }
+// Takes the slot at a place off the list. Only the words in use move.
+fn take_out(list: &mut [i32], count: usize, at: usize)
+    requires { Stored list.old count (waits count list.old) × (at < count) }
+    ensures { Stored list.new (count - 1) (others at (waits count list.old)) }
 {
-    if x == k {
-        return j;
-    }
-    list[j] = x;
-    j + 1
-}
-
-// Takes every word k out of the first `count` words; zeros follow those kept. How many are left.
-fn remove_word(list: &mut [i32], count: usize, k: i32) -> usize
-    requires { count ≤ length list.old }
-    ensures few { result ≤ count }
-    ensures kept { take result list.new ≡ others k (take count list.old) }
-    ensures rest { drop result list.new ≡ replicate (count - result) (pos 0) ++ drop count list.old }
-{
-    let mut j = 0;
-    let mut i = 0;
-    while i < count {
-        let x = list[i];
-        list[i] = 0;
-        j = keep_word(list, j, x, k);
-        i += 1;
-    }
-    j
+    list.copy_within(at + 1..count, at);
+    list[count - 1] = 0;
 }
 
 // The slot that is next by the order; the words that wait are lent alone.
@@ -129,31 +85,7 @@ pub fn next_slot(order: Order, list: &[i32]) -> SlotId
     requires { 0 < length list.now }
     ensures { NextBy order (map nat_abs list.now) result.0 }
 {
-    match order {
-        Order::Old => SlotId(words::number_at(list, 0)),
-        Order::New => SlotId(words::number_at(list, list.len() - 1)),
-    }
-}
-
-// Takes the slot that joined first. Only the words in use move.
-fn take_old(list: &mut [i32], count: usize) -> SlotId
-    requires { Stored list.old count (waits count list.old) × (0 < count) }
-    ensures { TakenFrom Old (waits count list.old) result.0 list.new (count - 1) }
-{
-    let k = words::number_at(list, 0);
-    shift_down(&mut list[..count]);
-    SlotId(k)
-}
-
-// Takes the slot that joined last.
-fn take_new(list: &mut [i32], count: usize) -> SlotId
-    requires { Stored list.old count (waits count list.old) × (0 < count) }
-    ensures { TakenFrom New (waits count list.old) result.0 list.new (count - 1) }
-{
-    let at = count - 1;
-    let k = words::number_at(list, at);
-    list[at] = 0;
-    SlotId(k)
+    SlotId(words::number_at(list, next_place(order, list.len())))
 }
 
 // Takes the slot that is next by the order.
@@ -161,18 +93,25 @@ pub fn take_slot(order: Order, list: &mut [i32], count: usize) -> SlotId
     requires { Stored list.old count (waits count list.old) × (0 < count) }
     ensures { TakenFrom order (waits count list.old) result.0 list.new (count - 1) }
 {
-    match order {
-        Order::Old => take_old(list, count),
-        Order::New => take_new(list, count),
-    }
+    let at = next_place(order, count);
+    let slot = SlotId(words::number_at(list, at));
+    take_out(list, count, at);
+    slot
 }
 
 // Takes the slot out of the waitlist, if it is on it.
 fn remove(list: &mut [i32], count: usize, slot: SlotId) -> usize
-    requires { Stored list.old count (waits count list.old) × (slot.0 + 1 < index_limit) }
+    requires { Stored list.old count (waits count list.old) × Distinct (waits count list.old) × (slot.0 + 1 < index_limit) }
     ensures { Stored list.new result (without slot.0 (waits count list.old)) }
 {
-    remove_word(list, count, slot_word(slot))
+    let word = slot_word(slot);
+    match list[..count].iter().position(|x| *x == word) {
+        Some(at) => {
+            take_out(list, count, at);
+            count - 1
+        }
+        None => count,
+    }
 }
 
 // The slot joins the waitlist at its front.
@@ -180,7 +119,8 @@ fn prepend(list: &mut [i32], count: usize, slot: SlotId) -> usize
     requires { Stored list.old count (waits count list.old) × (count < length list.old) × (slot.0 + 1 < index_limit) }
     ensures { Stored list.new result (slot.0 ∷ waits count list.old) }
 {
-    push_front(list, slot_word(slot));
+    list.copy_within(..count, 1);
+    list[0] = slot_word(slot);
     count + 1
 }
 

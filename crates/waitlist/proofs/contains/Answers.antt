@@ -9,8 +9,6 @@ use Rattle.waitlist.proofs.contains.Goals as goal
 
 pub returns : goal.returns
 returns c =
-    let w = c.slot_word-k in
-    let s = c in
-    let a = s.args in
-    c.contains.ensures
-    ∙ rw (told (sfits_of {z = w.result} w.type_inv) w.ensures) (ap (some_of (eq_z (pos a.slot.0))) (front s.requires.0) ∙ any_some a.slot.0 (waits a.count a.list.now))
+    let w = c.slot_word in
+    let a = c.args in
+    c.contains.ensures ∙ rw (told (sfits_of {z = w.result} w.type_inv) w.ensures) (ap (some_of (eq_z (pos a.slot.0))) (front c.requires.0) ∙ any_some a.slot.0 (waits a.count a.list.now))
