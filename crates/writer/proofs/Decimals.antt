@@ -3,6 +3,9 @@ use Rattle.semantics.proofs.Prelude.{◌≡◌, refl, sym, ap, subst, ◌∙◌,
 use Rattle.semantics.specs.Lists.{pick}
 use Rattle.semantics.specs.Text.{digits_of, decimal, decimal_z}
 use Rattle.semantics.proofs.Numbers.{last, digits_enough}
+use Rattle.writer.specs.declared.Writer.{Writer}
+use Rattle.writer.specs.Writers.{Writes}
+use Rattle.writer.proofs.Written.{writes_then, writes_same}
 
 -- what stands behind stays behind
 digits_front : (f n : ℕ) (bs : List ℕ) → digits_of f n bs ≡ digits_of f n [] ++ bs
@@ -31,10 +34,13 @@ decimal_more (suc n) h =
 pub decimal_two : (n : ℕ) → 10 ≤ n → n < 100 → decimal n ≡ last (n / 10) ∷ last n ∷ []
 decimal_two n h l = decimal_more n h ∙ rw (decimal_one (n / 10) (omega arith))
 
-pub decimal_pair : (n : ℕ) → 100 ≤ n → decimal n ≡ decimal (n / 100) ++ (last (n / 10) ∷ last n ∷ [])
+decimal_pair : (n : ℕ) → 100 ≤ n → decimal n ≡ decimal (n / 100) ++ (last (n / 10) ∷ last n ∷ [])
 decimal_pair n h =
     let e : n / 10 / 10 ≡ n / 100 = omega arith in
     decimal_more n (omega arith) ∙ rw (decimal_more (n / 10) (omega arith), e) (append_assoc (decimal (n / 100)) (last (n / 10) ∷ []) (last n ∷ []))
+
+pub writes_pair : {a b d : Writer} (n m : ℕ) → 100 ≤ n → m ≡ n / 100 → Writes (decimal m) a b → Writes (last (n / 10) ∷ last n ∷ []) b d → Writes (decimal n) a d
+writes_pair n m h e p q = writes_same (sym (decimal_pair n h)) (writes_then (writes_same (ap decimal e) p) q)
 
 -- ---- a number with its sign
 pub decimal_z_below : (z : ℤ) → lt_z z (pos 0) ≡ true → decimal_z z ≡ 45 ∷ decimal (nat_abs z)

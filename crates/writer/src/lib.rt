@@ -42,10 +42,11 @@ impl<'a> Writer<'a> {
     pub fn byte(&mut self, b: u8)
         ensures { Writes (b ∷ []) self.old self.new }
     {
-        let at = self.at;
-        self.at = at.saturating_add(1);
-        if at < self.space.len() {
-            self.space[at] = b;
+        if self.at < self.space.len() {
+            self.space[self.at] = b;
+            self.at += 1;
+        } else {
+            self.at = self.at.saturating_add(1);
         }
     }
 
@@ -78,19 +79,45 @@ impl<'a> Writer<'a> {
         self.byte(last_digit(n));
     }
 
-    // Two digits at a time, by the hundreds.
-    #[cycle(decimal)]
-    pub fn decimal(&mut self, n: usize)
+    fn below_hundred(&mut self, n: usize)
+        requires { n < 100 }
         ensures { Writes (decimal n) self.old self.new }
     {
         if n < 10 {
             return self.byte(last_digit(n));
         }
+        self.two(n);
+    }
+
+    // A number of any size, two digits at a time.
+    #[cycle(large)]
+    fn large(&mut self, n: usize)
+        ensures { Writes (decimal n) self.old self.new }
+    {
         if n < 100 {
+            return self.below_hundred(n);
+        }
+        self.large(n / 100);
+        self.two(n);
+    }
+
+    // The same without a call for each two digits where they are few, as they nearly always are.
+    pub fn decimal(&mut self, n: usize)
+        ensures { Writes (decimal n) self.old self.new }
+    {
+        if n < 100 {
+            return self.below_hundred(n);
+        }
+        if n < 10_000 {
+            self.below_hundred(n / 100);
             return self.two(n);
         }
-        self.decimal(n / 100);
-        self.two(n);
+        if n < 1_000_000 {
+            self.below_hundred(n / 10_000);
+            self.two(n / 100);
+            return self.two(n);
+        }
+        self.large(n);
     }
 
     // A number with its sign: `-`, or none.
