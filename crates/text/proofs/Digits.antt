@@ -1,17 +1,17 @@
 -- Numbers, digit by digit, and what stays the same where a number is cut. Assumes nothing.
-use Rattle.semantics.proofs.Prelude.{◌≡◌, refl, sym, ap, ◌∙◌, Bool, true, false, ◌&&◌, ◌⊎◌, inl, inr, ⊎_elim, List, [], ◌∷◌, Option, some, none, ℕ, zero, suc, ◌+◌, ◌-◌, ◌*◌, ◌≤◌, ◌<◌, min, add-one, arith, length, get_or, take, drop, drop_of_length-le, drop-cons, ℤ, pos, negsuc, nat_abs, neg_ℤ, ◌-ℤ◌, +ℤ_idl, w32, SFits, to_z, of_z, to_z-of_z, eq-eqb, ne_eqb, le-leb, lt-leb, le-ltb, ltb, to_z_pos, and-false, dec_lt, ◌^◌, leb, leb-true}
+use Rattle.semantics.proofs.Prelude.{◌≡◌, refl, sym, ap, ◌∙◌, Bool, true, false, ◌&&◌, ◌⊎◌, inl, inr, ⊎_elim, List, [], ◌∷◌, Option, some, none, ℕ, zero, suc, ◌+◌, ◌-◌, ◌*◌, ◌≤◌, ◌<◌, min, add-one, arith, length, get_or, take, drop, drop_of_length-le, drop-cons, ℤ, pos, negsuc, nat_abs, neg_ℤ, ◌-ℤ◌, +ℤ_idl, w32, SFits, to_z, of_z, to_z-of_z, eqb, and-true, eq-eqb, ne_eqb, lt-leb, le-ltb, ltb, dec_lt, ◌^◌, leb, leb-true}
 use Rattle.semantics.specs.Layout.{least_number, most_number, byte_limit}
 use Rattle.semantics.specs.Lists.{pick, all}
 use Rattle.semantics.specs.Text.{between, digits, natural_of, nonnegative, negative, number_of}
 use Rattle.semantics.specs.Chart.{small}
 use Rattle.semantics.specs.Reading.{fail, ok, check, small_or, below_or}
 use Rattle.semantics.proofs.Bools.{from_false, left_true, right_true}
-use Rattle.words.proofs.Rows.{tail}
-use Rattle.text.specs.Fields.{number_cut, clamp, natural_read, IsCut, number_read, natural_said, number_said}
-use Rattle.text.specs.declared.Natural.TheVariants as natural
-use Rattle.text.specs.declared.NumberRead.TheVariants as number
+use Rattle.std.specs.Prelude.{Some}
+use Rattle.std.specs.Bool.{then_some}
+use Rattle.std.specs.Str.{bytes_eq}
+use Rattle.text.specs.Fields.{number_cut, clamp, natural_read, number_read, number_said}
 
-lt_or_ge : (a b : ℕ) → (a < b) ⊎ (b ≤ a)
+pub lt_or_ge : (a b : ℕ) → (a < b) ⊎ (b ≤ a)
 lt_or_ge a b = go (dec_lt a b)
   where
     go : Dec (a < b) → (a < b) ⊎ (b ≤ a)
@@ -24,22 +24,18 @@ module _ (l : List ℕ) (n i : ℕ) where
   unfolding digits
   digits_end h = rw (drop_of_length-le l h)
 
-  pub digits_step : i < length l → 48 ≤ get_or l i 0 → get_or l i 0 ≤ 57 → digits n (drop i l) ≡ digits (n * 10 + (get_or l i 0 - 48)) (drop (i + 1) l)
+  pub digits_step : i < length l → between 48 57 (get_or l i 0) ≡ true → digits n (drop i l) ≡ digits (n * 10 + (get_or l i 0 - 48)) (drop (i + 1) l)
   unfolding digits
-  digits_step h lo hi = rw (add-one, drop-cons l i 0) (simp (le-leb _ _ lo, le-leb _ _ hi))
+  digits_step h t = rw (add-one, drop-cons l i 0) (simp t)
 
-  pub digits_low : i < length l → get_or l i 0 < 48 → digits n (drop i l) ≡ none
+  pub digits_other : i < length l → between 48 57 (get_or l i 0) ≡ false → digits n (drop i l) ≡ none
   unfolding digits
-  digits_low h lo = rw (drop-cons l i 0) (simp (lt-leb _ _ lo))
-
-  pub digits_high : i < length l → 57 < get_or l i 0 → digits n (drop i l) ≡ none
-  unfolding digits
-  digits_high h hi = rw (drop-cons l i 0) (simp (lt-leb _ _ hi, and-false))
+  digits_other h t = rw (drop-cons l i 0) (simp t)
 
 -- numbers that are the same once cut lead to the same answer
 pub capped_same : (l : List ℕ) (n m : ℕ) → min n number_cut ≡ min m number_cut → natural_read (digits n l) ≡ natural_read (digits m l)
 unfolding digits natural_read
-capped_same [] n m h = ap natural.Is h
+capped_same [] n m h = ap Some h
 capped_same (b ∷ bs) n m h = go (between 48 57 b) (capped_same bs (n * 10 + (b - 48)) (m * 10 + (b - 48)) (omega arith))
   where
     go : (t : Bool) → natural_read (digits (n * 10 + (b - 48)) bs) ≡ natural_read (digits (m * 10 + (b - 48)) bs)
@@ -59,12 +55,12 @@ digits_none n (b ∷ bs) e = go (between 48 57 b) e (digits_none (n * 10 + (b - 
     go false e ih = refl
 
 -- k digits more reach the cut
-reach : (k i n : ℕ) (l : List ℕ) → k + i ≡ 5 → k ≤ length l → 10 ^ i ≤ n → all (between 48 57) l ≡ true → natural_read (digits n l) ≡ natural.Is number_cut
+reach : (k i n : ℕ) (l : List ℕ) → k + i ≡ 5 → k ≤ length l → 10 ^ i ≤ n → all (between 48 57) l ≡ true → natural_read (digits n l) ≡ Some number_cut
 unfolding digits natural_read
 reach zero i n [] s f h e =
     let z : i ≡ 5 = omega arith in
     let c : number_cut ≤ n = rw z at h in
-    ap natural.Is (omega arith)
+    ap Some (omega arith)
 reach (suc k) i n [] s f h e = absurd (omega arith)
 reach zero i n (b ∷ bs) s f h e =
     rw (left_true (between 48 57 b) (all (between 48 57) bs) e)
@@ -73,7 +69,7 @@ reach (suc k) i n (b ∷ bs) s f h e =
     rw (left_true (between 48 57 b) (all (between 48 57) bs) e)
     (reach k (suc i) (n * 10 + (b - 48)) bs (omega arith) (omega arith) (omega arith) (right_true (between 48 57 b) (all (between 48 57) bs) e))
 
-pub digits_reach : (l : List ℕ) → (get_or l 0 0 ≡ 48 → ⊥) → 6 ≤ length l → all (between 48 57) l ≡ true → natural_read (digits 0 l) ≡ natural.Is number_cut
+pub digits_reach : (l : List ℕ) → (get_or l 0 0 ≡ 48 → ⊥) → 6 ≤ length l → all (between 48 57) l ≡ true → natural_read (digits 0 l) ≡ Some number_cut
 unfolding digits
 digits_reach [] w h e = absurd (omega arith)
 digits_reach (b ∷ bs) w h e =
@@ -81,86 +77,19 @@ digits_reach (b ∷ bs) w h e =
     let low : 48 ≤ b = leb-true 48 b (left_true (leb 48 b) (leb b 57) t) in
     rw t (reach 5 0 (0 * 10 + (b - 48)) bs refl (omega arith) (omega (arith, low, w)) (right_true (between 48 57 b) (all (between 48 57) bs) e))
 
--- ---- a natural number, by its first byte
-
-pub natural_empty : (l : List ℕ) → length l ≡ 0 → natural_of l ≡ none
-unfolding natural_of
-natural_empty [] h = refl
-natural_empty (b ∷ bs) h = absurd (omega arith)
-
-pub natural_zero : (l : List ℕ) → length l ≡ 1 → get_or l 0 0 ≡ 48 → natural_of l ≡ some 0
-unfolding natural_of
-natural_zero [] h e = absurd (omega arith)
-natural_zero (b ∷ []) h e = simp (eq-eqb _ _ e)
-natural_zero (b ∷ x ∷ xs) h e = absurd (omega arith)
-
-pub natural_lead : (l : List ℕ) → (length l ≡ 0 → ⊥) → (length l ≡ 1 → ⊥) → get_or l 0 0 ≡ 48 → natural_of l ≡ none
-unfolding natural_of
-natural_lead [] n h e = refl
-natural_lead (b ∷ []) n h e = absurd (h refl)
-natural_lead (b ∷ x ∷ xs) n h e = simp (eq-eqb _ _ e)
-
-pub natural_digits : (l : List ℕ) → (length l ≡ 0 → ⊥) → (get_or l 0 0 ≡ 48 → ⊥) → natural_of l ≡ digits 0 l
-unfolding natural_of
-natural_digits [] n e = absurd (n refl)
-natural_digits (b ∷ bs) n e = simp (ne_eqb _ _ e)
+-- digits that do not begin with 0, by their test where there are many
+pub digits_many : (l : List ℕ) → (get_or l 0 0 ≡ 48 → ⊥) → 6 ≤ length l → (t : Bool) → t ≡ all (between 48 57) l → then_some t number_cut ≡ natural_read (digits 0 l)
+unfolding natural_read
+digits_many l w h true e = sym (digits_reach l w h (sym e))
+digits_many l w h false e = sym (ap natural_read (digits_none 0 l (sym e)))
 
 -- ---- a number, by its first byte
 
-pub number_empty : (l : List ℕ) → length l ≡ 0 → number_of l ≡ none
-unfolding number_of
-number_empty [] h = refl
-number_empty (b ∷ bs) h = absurd (omega arith)
-
-pub number_minus : (l : List ℕ) → (length l ≡ 0 → ⊥) → get_or l 0 0 ≡ 45 → number_of l ≡ negative (natural_of (take (length l - 1) (drop 1 l)))
-unfolding number_of
-number_minus [] n e = absurd (n refl)
-number_minus (b ∷ bs) n e = rw (tail (b ∷ bs) 1) (simp (eq-eqb _ _ e))
-
-pub number_plus : (l : List ℕ) → (length l ≡ 0 → ⊥) → (get_or l 0 0 ≡ 45 → ⊥) → number_of l ≡ nonnegative (natural_of l)
-unfolding number_of
-number_plus [] n e = absurd (n refl)
-number_plus (b ∷ bs) n e = simp (ne_eqb _ _ e)
-
--- ---- a cut natural number says all that a cut number asks
-
-pub read_cut : (o : Option ℕ) → IsCut (natural_read o)
-unfolding natural_read
-read_cut none = tt
-read_cut (some n) = omega arith
-
-pub plus_cut : (o : Option ℕ) → number_read (nonnegative (natural_said (natural_read o))) ≡ number_read (nonnegative o)
-unfolding number_read natural_said natural_read
-plus_cut none = refl
-plus_cut (some n) = ap (λ (k : ℕ). number.Is (pos k)) (omega arith)
-
-min_suc : (n : ℕ) → min (suc n) number_cut ≡ suc (min n (number_cut - 1))
-min_suc n = omega arith
-
-pub minus_cut : (o : Option ℕ) → number_read (negative (natural_said (natural_read o))) ≡ number_read (negative o)
-unfolding number_read natural_said natural_read
-minus_cut none = refl
-minus_cut (some zero) = refl
-minus_cut (some (suc n)) = rw (min_suc n) (ap (λ (k : ℕ). number.Is (negsuc k)) (omega arith))
-
--- the machine's 0 - v for a cut v, and what it reads back
-neg_fits : (v : ℕ) → v ≤ number_cut → SFits w32 (neg_ℤ (pos v))
-neg_fits zero h = record { sfits = omega arith }
-neg_fits (suc k) h = record { sfits = omega arith }
-
-sub_neg : (v : ℕ) → v ≤ number_cut → pos 0 -ℤ to_z w32 v ≡ neg_ℤ (pos v)
-sub_neg v h = rw (to_z_pos w32 {n = v} (omega arith)) (+ℤ_idl _)
-
-pub sub_fits : (v : ℕ) → v ≤ number_cut → SFits w32 (pos 0 -ℤ to_z w32 v)
-sub_fits v h = rw (sub_neg v h) (neg_fits v h)
-
-pub sub_back : (v : ℕ) → v ≤ number_cut → to_z w32 (of_z w32 (pos 0 -ℤ to_z w32 v)) ≡ neg_ℤ (pos v)
-sub_back v h = to_z-of_z w32 _ (sub_fits v h) ∙ sub_neg v h
-
-pub minus_is : (v : ℕ) → v ≤ number_cut → (v ≡ 0 → ⊥) → number.Is (neg_ℤ (pos v)) ≡ number_read (negative (some v))
-unfolding number_read
-minus_is zero f h = absurd (h refl)
-minus_is (suc n) f h = ap (λ (k : ℕ). number.Is (negsuc k)) (omega arith)
+-- as the library looks for the `-`
+pub number_plain : (l : List ℕ) → bytes_eq (take 1 l) (45 ∷ []) ≡ false → number_of l ≡ nonnegative (natural_of l)
+unfolding number_of natural_of
+number_plain [] e = refl
+number_plain (b ∷ bs) e = let t : eqb b 45 ≡ false = sym (and-true (eqb b 45)) ∙ e in rw t
 
 -- ---- the tests of a field cannot tell a cut number from the number
 

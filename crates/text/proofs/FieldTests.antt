@@ -1,17 +1,17 @@
 -- One field by its tests: a number below a count, `$k`, an operand, an initial value, a word. Assumes nothing.
-use Rattle.semantics.proofs.Prelude.{◌≡◌, refl, sym, ap, subst, ◌∙◌, Bool, true, false, List, [], ◌∷◌, some, ℕ, ◌-◌, ◌≤◌, ◌<◌, arith, T, length, get_or, take, drop, ℤ, pos, negsuc, nat_abs, lt_z, eq-eqb, ne_eqb, lt-ltb, le-ltb, ltb-true}
+use Rattle.semantics.proofs.Prelude.{◌≡◌, refl, sym, ap, subst, ◌∙◌, Bool, true, false, List, [], ◌∷◌, some, ℕ, ◌+◌, ◌-◌, ◌≤◌, ◌<◌, add-one, arith, T, length, get_or, take, drop, drop-cons, drop_of_length-le, ℤ, pos, negsuc, nat_abs, lt_z, eq-eqb, ne_eqb, lt-ltb, le-ltb, ltb-true}
 use Rattle.semantics.specs.Lists.{pick}
 use Rattle.semantics.specs.Text.{bytes, same_bytes, natural_of, nonnegative}
 use Rattle.semantics.specs.Chart.{known, top, num, var, within}
 use Rattle.semantics.specs.Encoding.{val}
+use denote.Ref.{Bor}
+use Rattle.std.specs.Prelude.{Ok, Err}
+use Rattle.semantics.specs.declared.Refusal.TheVariants.{Malformed}
+use Rattle.text.specs.Fields.{word_of}
 use Rattle.semantics.specs.Reading.{Res, fail, ok, check, if_ok, below_or, number_field, target_field, operand_field, init_field}
 use Rattle.semantics.proofs.MemoryOf.{small_not_top}
 use Rattle.semantics.proofs.ReadInBounds.{number_small}
 use Rattle.words.proofs.Rows.{tail}
-
--- the field f is g, the answer r says what reading f says, and r is x
-pub field_said : {A R : Type 0} (read : List ℕ → A) (res : R → A) {f g : List ℕ} {r x : R} → f ≡ g → res r ≡ read f → r ≡ x → read g ≡ res x
-field_said read res same answer is = ap read (sym same) ∙ sym answer ∙ ap res is
 
 module _ (n : ℕ) where
   pub below_neg : (z : ℤ) → lt_z z (pos 0) ≡ true → below_or n (some z) ≡ fail 10
@@ -89,6 +89,16 @@ module _ (lo hi : ℤ) (l : List ℕ) where
     init_out h = rw is (rw h)
 
 -- ---- one of some words
+
+module _ {A : Type 0} (words : List (Bor (List ℕ) × A)) (f : List ℕ) (i : ℕ) where
+  pub word_here : {w : Bor (List ℕ) × A} → i < length words → w ≡ get_or words i w → same_bytes f w.0.now ≡ true → word_of (drop i words) f ≡ Ok w.1
+  word_here {w} h is e = rw (drop-cons words i w h, sym is) (rw e)
+
+  pub word_past : {w : Bor (List ℕ) × A} → i < length words → w ≡ get_or words i w → same_bytes f w.0.now ≡ false → word_of (drop i words) f ≡ word_of (drop (i + 1) words) f
+  word_past {w} h is e = rw (add-one, drop-cons words i w h, sym is) (rw e)
+
+  pub word_none : length words ≤ i → word_of (drop i words) f ≡ Err Malformed
+  word_none h = rw (drop_of_length-le words h)
 
 -- the field is compared with one word after the other, and b is what a comparison answered
 module _ {A : Type 0} {b t : Bool} (answer : b ≡ t) (a r : A) where

@@ -1,5 +1,9 @@
 -- The first of some byte in a text, and the lines of a text one at a time. Assumes nothing.
-use Rattle.semantics.proofs.Prelude.{◌≡◌, refl, ap, Bool, true, false, List, [], ◌∷◌, ℕ, suc, ◌+◌, ◌-◌, ◌≤◌, ◌<◌, zero-le, add-one, arith, eqb, length, get_or, take, drop, drop_of_length-le, length-drop, drop-cons, drop-drop, eq-eqb, ne_eqb}
+use Rattle.semantics.proofs.Prelude.{◌≡◌, refl, sym, ap, ◌∙◌, not, ltb-false, Bool, true, false, List, [], ◌∷◌, ℕ, suc, ◌+◌, ◌-◌, ◌≤◌, ◌<◌, zero-le, add-one, arith, eqb, length, get_or, take, drop, drop_of_length-le, length-drop, drop-cons, drop-drop, eq-eqb, ne_eqb}
+use Rattle.std.specs.Prelude.{Option as Answer, Some, None, unwrap_or, cond, nat_lt}
+use Rattle.std.specs.List.{position, position_or_len}
+use Rattle.std.proofs.lemmas.List.Sums.{prefix_len-le-length}
+use Rattle.std.proofs.lemmas.List.Recursion.{is_position_or_len}
 use Rattle.semantics.specs.Lists.{pick}
 use Rattle.semantics.specs.Text.{onto, lines}
 use Rattle.text.specs.Fields.{up_to}
@@ -17,6 +21,27 @@ module _ (s : ℕ) (l : List ℕ) (i : ℕ) where
   pub up_to_end : length l ≤ i → up_to s (drop i l) ≡ 0
   unfolding up_to
   up_to_end h = rw (drop_of_length-le l h)
+
+-- ---- as the library finds it
+
+up_to_step : (t : Bool) (n : ℕ) → pick t 0 (suc n) ≡ cond t 0 (1 + n)
+up_to_step true n = refl
+up_to_step false n = omega arith
+
+up_to_is : (s : ℕ) (l : List ℕ) → up_to s l ≡ position_or_len (λ b. eqb b s) l
+unfolding up_to
+up_to_is s l = is_position_or_len (up_to s) (λ b. eqb b s) refl (λ b bs. up_to_step (eqb b s) (up_to s bs)) l
+
+within_or_all : (n m : ℕ) (t : Bool) → nat_lt n m ≡ t → n ≤ m → unwrap_or (cond t (Some n) None) m ≡ n
+within_or_all n m true q h = refl
+within_or_all n m false q h = omega (arith, ltb-false n m q)
+
+-- its place, or the length
+pub up_to_found : (s : ℕ) (l : List ℕ) (r : Answer ℕ) → r ≡ position (λ b. eqb b s) l → unwrap_or r (length l) ≡ up_to s l
+up_to_found s l r e =
+    ap (λ (r : Answer ℕ). unwrap_or r (length l)) e
+    ∙ within_or_all (position_or_len (λ b. eqb b s) l) (length l) _ refl (prefix_len-le-length (λ b. not (eqb b s)) l)
+    ∙ sym (up_to_is s l)
 
 -- ---- the line from a place on
 

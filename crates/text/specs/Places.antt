@@ -1,14 +1,11 @@
 -- Where the lines of a text lie: "The reader goes down the chart file line by line, with its place in the lent text"
 -- (document 01, The chart file). Assumes nothing.
-use Rattle.std.specs.Prelude.{Bool, ◌&&◌, not, List, ℕ, ◌+◌, eqb, leb, length, take, drop}
-use Rattle.semantics.specs.Lists.{pick}
+use Rattle.std.specs.Prelude.{Bool, ◌&&◌, not, List, ℕ, ◌+◌, eqb, length, take, drop}
 use Rattle.semantics.specs.Text.{fields}
 use Rattle.semantics.specs.Reading.{none_empty}
 use Rattle.text.specs.Fields.{up_to}
 use Rattle.text.specs.declared.lines.Form.{Form}
 use Rattle.text.specs.declared.lines.Shape.{Shape}
-use Rattle.text.specs.declared.lines.Line.{Line}
-use Rattle.text.specs.declared.lines.Line.TheVariants.{Text, End}
 
 -- the place of the LF that ends the line that begins at `at`, or the length
 abbrev pub end_of : List ℕ → ℕ → ℕ
@@ -29,12 +26,3 @@ shape_of text at = record { end = end_of text at; form = form_of (line_from text
 -- the shape of a line whose last byte is b, and whose fields were filled before that
 abbrev pub ended_after : ℕ → ℕ → Bool → ℕ → Shape
 ended_after end n filled b = record { end = end; form = record { fields = n; filled = filled && not (eqb b 9) } }
-
--- the line that begins at `at`
-unfoldable pub line_at : List ℕ → ℕ → Line
-line_at text at = pick (leb (length text) at) End (Text at (end_of text at) (end_of text at + 1) (form_of (line_from text at)))
-
--- the place after a line, from the place `at`
-abbrev pub place_after : Line → ℕ → ℕ
-place_after (Text start end next form) at = next
-place_after End at = at

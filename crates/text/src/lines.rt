@@ -1,8 +1,9 @@
-// A reader that goes down a text line by line. The work is on the slice and a place; the functions over a `Reader`
-// are thin.
+// A reader that goes down a text line by line.
 ghost use Rattle.std.specs.Prelude.{◌≡◌, ◌&&◌, eqb, leb};
-ghost use Rattle.semantics.specs.Lists.{pick};
-ghost use Rattle.text.specs.Places.{shape_of, ended_after, line_at, place_after};
+ghost use Rattle.text.specs.Places.{shape_of, ended_after};
+ghost use Rattle.text.specs.Lines.{LineRead};
+
+use super::line::Line;
 
 // The lent text, and the reader's place in it: where the next line begins.
 #[derive(Clone, Copy)]
@@ -41,35 +42,6 @@ pub struct Shape {
     pub form: Form,
 }
 
-// A line is text[start..end], and the next one begins at `next`; or the text is at its end.
-#[derive(Clone, Copy)]
-pub enum Line {
-    Text {
-        start: usize,
-        end: usize,
-        next: usize,
-        form: Form,
-    },
-    End,
-}
-
-// One more field where the byte is a tab.
-fn parted(b: u8) -> usize
-    ensures { result ≡ pick (eqb b 9) 1 0 }
-{
-    if b == semantics::TAB {
-        return 1;
-    }
-    0
-}
-
-// Whether an empty field lies between two bytes.
-fn empty_between(a: u8, b: u8) -> bool
-    ensures { result ≡ (eqb a 9 && eqb b 9) }
-{
-    (a == semantics::TAB) & (b == semantics::TAB)
-}
-
 // A line that ends after the byte `last`: one more empty field where that is a tab.
 fn ended(end: usize, fields: usize, filled: bool, last: u8) -> Shape
     ensures { result ≡ ended_after end fields filled last }
@@ -90,45 +62,16 @@ pub fn measure(text: &[u8], at: usize) -> Shape
     let mut fields = 1;
     let mut filled = true;
     let mut last = semantics::TAB;
-    let mut i = at;
-    while i < text.len() {
-        let b = text[i];
-        if b == semantics::LF {
-            return ended(i, fields, filled, last);
+    let rest = &text[at.min(text.len())..];
+    for (n, b) in rest.iter().enumerate() {
+        if *b == semantics::LF {
+            return ended(at + n, fields, filled, last);
         }
-        fields += parted(b);
-        filled = filled & !empty_between(last, b);
-        last = b;
-        i += 1;
+        fields += usize::from(*b == semantics::TAB);
+        filled &= !((last == semantics::TAB) & (*b == semantics::TAB));
+        last = *b;
     }
-    ended(i, fields, filled, last)
-}
-
-// The line that begins at a place of a text.
-fn line_at(text: &[u8], at: usize) -> Line
-    ensures { result ≡ line_at text.now at }
-{
-    if text.len() <= at {
-        return Line::End;
-    }
-    let shape = measure(text, at);
-    let form = shape.form;
-    Line::Text {
-        start: at,
-        end: shape.end,
-        next: shape.end + 1,
-        form,
-    }
-}
-
-// The place after a line; at the end of the text the reader stays.
-pub fn place_after(l: Line, at: usize) -> usize
-    ensures { result ≡ place_after l at }
-{
-    match l {
-        Line::Text { next, .. } => next,
-        Line::End => at,
-    }
+    ended(at + rest.len(), fields, filled, last)
 }
 
 // A reader at the start of a text.
@@ -139,10 +82,20 @@ pub fn open<'a>(text: &'a [u8]) -> Reader<'a>
 }
 
 impl<'a> Reader<'a> {
-    // The line at the reader's place.
-    pub fn current(self) -> Line
-        ensures { result ≡ line_at self.entry.text.now self.entry.at }
+    // The line at the reader's place, past which it goes; none at the end of the text.
+    pub fn next(&mut self) -> Option<Line<'a>>
+        ensures line { LineRead self.old.text.now self.old.at result self.new.at }
+        ensures text { self.new.text ≡ self.old.text }
     {
-        line_at(self.text, self.at)
+        if self.text.len() <= self.at {
+            return None;
+        }
+        let shape = measure(self.text, self.at);
+        let bytes = &self.text[self.at..shape.end];
+        self.at = shape.end + 1;
+        Some(Line {
+            bytes,
+            form: shape.form,
+        })
     }
 }
