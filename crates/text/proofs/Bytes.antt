@@ -1,5 +1,5 @@
 -- The bytes of a name, one byte at a time. Assumes nothing.
-use Rattle.semantics.proofs.Prelude.{◌≡◌, refl, Bool, true, false, ◌&&◌, ◌||◌, List, ℕ, eqb, length}
+use Rattle.semantics.proofs.Prelude.{◌≡◌, refl, Bool, true, false, ◌||◌, List, ℕ, eqb, length}
 use Rattle.std.specs.Char.{is_ascii_alphanumeric}
 use Rattle.semantics.specs.Layout.{name_size}
 use Rattle.semantics.specs.Lists.{all}

@@ -1,8 +1,8 @@
 -- Numbers, digit by digit, and what stays the same where a number is cut. Assumes nothing.
-use Rattle.semantics.proofs.Prelude.{◌≡◌, refl, sym, ap, ◌∙◌, Bool, true, false, ◌&&◌, ◌⊎◌, inl, inr, ⊎_elim, List, [], ◌∷◌, Option, some, none, ℕ, zero, suc, ◌+◌, ◌-◌, ◌*◌, ◌≤◌, ◌<◌, min, add-one, arith, length, get_or, take, drop, drop_of_length-le, drop-cons, ℤ, pos, negsuc, nat_abs, neg_ℤ, ◌-ℤ◌, +ℤ_idl, w32, SFits, to_z, of_z, to_z-of_z, eqb, and-true, eq-eqb, ne_eqb, lt-leb, le-ltb, ltb, dec_lt, ◌^◌, leb, leb-true}
+use Rattle.semantics.proofs.Prelude.{◌≡◌, refl, sym, ap, ◌∙◌, Bool, true, false, ◌&&◌, ◌⊎◌, inl, inr, ⊎_elim, List, [], ◌∷◌, Option, some, none, ℕ, zero, suc, ◌+◌, ◌-◌, ◌*◌, ◌≤◌, ◌<◌, min, add-one, arith, length, get_or, take, drop, drop_of_length-le, drop-cons, ℤ, pos, negsuc, nat_abs, eqb, and-true, lt-leb, le-ltb, ltb, dec_lt, ◌^◌, leb, leb-true}
 use Rattle.semantics.specs.Layout.{least_number, most_number, byte_limit}
 use Rattle.semantics.specs.Lists.{pick, all}
-use Rattle.semantics.specs.Text.{between, digits, natural_of, nonnegative, negative, number_of}
+use Rattle.semantics.specs.Text.{between, digits, natural_of, nonnegative, number_of}
 use Rattle.semantics.specs.Chart.{small}
 use Rattle.semantics.specs.Reading.{fail, ok, check, small_or, below_or}
 use Rattle.semantics.proofs.Bools.{from_false, left_true, right_true}
@@ -116,3 +116,6 @@ unfolding number_said number_read check
 below_or_cut count none h = refl
 below_or_cut count (some (negsuc n)) h = refl
 below_or_cut count (some (pos n)) h = by_size number_cut byte_limit (omega arith) (λ k. check (ltb k count) 10 (ok k)) (fail 10) (λ m k. simp (le-ltb m count (omega arith))) n
+
+-- for `grind`: what is read of a number that was cut
+pub ruleset cut_numbers = (small_or_cut, below_or_cut)

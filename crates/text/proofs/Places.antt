@@ -1,5 +1,5 @@
 -- Where a line ends. Assumes nothing.
-use Rattle.semantics.proofs.Prelude.{◌≡◌, ap, ◌∙◌, ◌⊎◌, ⊎_elim, List, ℕ, ◌-◌, ◌≤◌, ◌<◌, min, arith, length, take, drop, length-drop, drop_of_length-le}
+use Rattle.semantics.proofs.Prelude.{◌≡◌, ap, ◌∙◌, ⊎_elim, List, ℕ, ◌-◌, ◌≤◌, ◌<◌, min, arith, length, take, drop, length-drop, drop_of_length-le}
 use Rattle.words.proofs.Rows.{tail}
 use Rattle.text.proofs.LineEnds.{up_to_le}
 use Rattle.text.proofs.Digits.{lt_or_ge}

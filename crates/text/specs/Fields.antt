@@ -1,6 +1,6 @@
 -- What the functions over a field answer: a refusal as document 01's number, and a number cut where no test can tell any
 -- more how large it is. Assumes nothing.
-use Rattle.std.specs.Prelude.{Bool, List, [], ◌∷◌, ℕ, zero, suc, ◌+◌, ◌-◌, min, eqb, length, drop, ℤ, pos, negsuc, Some, None, Result, Ok, Err}
+use Rattle.std.specs.Prelude.{List, [], ◌∷◌, ℕ, zero, suc, ◌+◌, ◌-◌, min, eqb, length, drop, ℤ, pos, negsuc, Some, None, Result, Ok, Err}
 use Rattle.std.specs.Prelude.{Option as Answer}
 use Rattle.std.proofs.Math.Option.{Option, none, some}
 use denote.Ref.{Bor}

@@ -1,5 +1,5 @@
 // Reading pieces of a text: its lines, the fields of a line, and what one field says or by which number it is refused.
-#![tactic(auto)]
+#![tactic(auto, using(crate::proofs::Digits::cut_numbers, crate::proofs::FieldTests::number_known), unfolding(crate::specs::Fields::field_at, crate::specs::Fields::natural_read, crate::specs::Fields::number_read, crate::specs::Fields::number_said, crate::specs::Fields::res_by, semantics::specs::Text::digits, semantics::specs::Text::natural_of, semantics::specs::Text::number_of, semantics::specs::Reading::check, semantics::specs::Reading::if_ok, semantics::specs::Reading::number_field, semantics::specs::Reading::location_field, semantics::specs::Reading::target_field, semantics::specs::Reading::operand_field, semantics::specs::Reading::init_field, semantics::specs::Reading::kind_field, semantics::specs::Reading::rel_field, semantics::specs::Reading::op_word_field))]
 
 ghost use Rattle.std.specs.Prelude.{◌≡◌, ℕ, suc, ◌≤◌, length, get_or};
 ghost use Rattle.semantics.specs.Layout.{byte_limit};
@@ -109,7 +109,6 @@ fn all_digits(f: &[u8]) -> bool
 const CUT_DIGITS: usize = 6;
 
 // Digits that do not begin with 0. How large they are is worked out only of those below the cut.
-#[tactic(auto, unfolding(crate::specs::Fields::natural_read, semantics::specs::Text::digits))]
 fn positive_in(f: &[u8]) -> Option<u32>
     requires { get_or f.now 0 0 ≡ 48 → ⊥ }
     ensures { result ≡ natural_read (digits 0 f.now) }
@@ -121,7 +120,6 @@ fn positive_in(f: &[u8]) -> Option<u32>
 }
 
 // 0, or digits that do not begin with 0.
-#[tactic(auto, unfolding(crate::specs::Fields::natural_read, semantics::specs::Text::natural_of))]
 fn natural_in(f: &[u8]) -> Option<u32>
     ensures { result ≡ natural_read (natural_of f.now) }
 {
@@ -132,7 +130,6 @@ fn natural_in(f: &[u8]) -> Option<u32>
 }
 
 // A number, where no `-` may stand.
-#[tactic(auto, unfolding(crate::specs::Fields::natural_read, crate::specs::Fields::number_read))]
 fn unsigned(f: &[u8]) -> Option<i32>
     ensures { result ≡ number_read (nonnegative (natural_of f.now)) }
 {
@@ -141,7 +138,6 @@ fn unsigned(f: &[u8]) -> Option<i32>
 }
 
 // A number of any length, with or without `-`, its magnitude cut. There is no `-0`.
-#[tactic(auto, unfolding(crate::specs::Fields::number_read, semantics::specs::Text::number_of))]
 pub fn number(f: &[u8]) -> Option<i32>
     ensures { result ≡ number_read (number_of f.now) }
 {
@@ -164,7 +160,6 @@ pub enum Action {
 }
 
 // Malformed, or outside of -32,768..32,767.
-#[tactic(auto, using(crate::proofs::Digits::small_or_cut), unfolding(crate::specs::Fields::res_by, crate::specs::Fields::number_said, crate::specs::Fields::number_read, semantics::specs::Reading::number_field, semantics::specs::Reading::check))]
 pub fn number_field(f: &[u8]) -> Result<i32, Refusal>
     ensures { res result ≡ number_field f.now }
 {
@@ -177,7 +172,6 @@ pub fn number_field(f: &[u8]) -> Result<i32, Refusal>
 
 // A number from 0 up to, not including, `count`: malformed, or another number. Here and below, the bound of `count` keeps
 // what is read to a byte, and under the cut: a number that was cut is refused as the number itself is.
-#[tactic(auto, unfolding(crate::specs::Fields::res_by, crate::specs::Fields::number_said, semantics::specs::Reading::check))]
 fn below(count: usize, n: Option<i32>) -> Result<u8, Refusal>
     requires { count ≤ byte_limit }
     ensures { res result ≡ below_or count (number_said n) }
@@ -189,7 +183,6 @@ fn below(count: usize, n: Option<i32>) -> Result<u8, Refusal>
 }
 
 // One of `count` locations.
-#[tactic(auto, using(crate::proofs::Digits::below_or_cut), unfolding(crate::specs::Fields::res_by, semantics::specs::Reading::location_field))]
 pub fn location_field(count: usize, f: &[u8]) -> Result<LocationId, Refusal>
     requires { count ≤ byte_limit }
     ensures { res_by (λ (l : LocationId). l.0) result ≡ location_field count f.now }
@@ -199,7 +192,6 @@ pub fn location_field(count: usize, f: &[u8]) -> Result<LocationId, Refusal>
 }
 
 // One of `count` variables, as `$k`.
-#[tactic(auto, using(crate::proofs::Digits::below_or_cut), unfolding(crate::specs::Fields::res_by, semantics::specs::Reading::target_field, semantics::specs::Reading::check))]
 pub fn target_field(count: usize, f: &[u8]) -> Result<u8, Refusal>
     requires { count ≤ byte_limit }
     ensures { res result ≡ target_field count f.now }
@@ -209,7 +201,6 @@ pub fn target_field(count: usize, f: &[u8]) -> Result<u8, Refusal>
 }
 
 // A number or `$k`.
-#[tactic(auto, unfolding(crate::specs::Fields::res_by, semantics::specs::Reading::operand_field, semantics::specs::Reading::if_ok))]
 pub fn operand_field(count: usize, f: &[u8]) -> Result<Operand, Refusal>
     requires { count ≤ byte_limit }
     ensures { res_by the_operand result ≡ operand_field count f.now }
@@ -221,7 +212,6 @@ pub fn operand_field(count: usize, f: &[u8]) -> Result<Operand, Refusal>
 }
 
 // The word of an initial value: for `*`, the word of top.
-#[tactic(auto, using(crate::proofs::FieldTests::number_known), unfolding(crate::specs::Fields::res_by, semantics::specs::Reading::init_field, semantics::specs::Reading::if_ok, semantics::specs::Reading::check))]
 pub fn init_field(lo: i32, hi: i32, f: &[u8]) -> Result<i32, Refusal>
     ensures { res_by val result ≡ init_field lo hi f.now }
 {
@@ -248,7 +238,6 @@ fn word<T: Copy>(words: &[(&[u8], T)], f: &[u8]) -> Result<T, Refusal>
 }
 
 // Whether the location is an error location.
-#[tactic(auto, unfolding(crate::specs::Fields::res_by, semantics::specs::Reading::kind_field))]
 pub fn kind_field(f: &[u8]) -> Result<bool, Refusal>
     ensures { res result ≡ kind_field f.now }
 {
@@ -256,7 +245,6 @@ pub fn kind_field(f: &[u8]) -> Result<bool, Refusal>
 }
 
 // One of the six relation words.
-#[tactic(auto, unfolding(crate::specs::Fields::res_by, semantics::specs::Reading::rel_field))]
 pub fn rel_field(f: &[u8]) -> Result<Relation, Refusal>
     ensures { res_by the_relation result ≡ rel_field f.now }
 {
@@ -272,7 +260,6 @@ pub fn rel_field(f: &[u8]) -> Result<Relation, Refusal>
 }
 
 // One of the six operation words; `skip` has no target, and so no action.
-#[tactic(auto, unfolding(crate::specs::Fields::res_by, semantics::specs::Reading::op_word_field))]
 pub fn op_word_field(f: &[u8]) -> Result<Option<Action>, Refusal>
     ensures { res_by the_word result ≡ op_word_field f.now }
 {

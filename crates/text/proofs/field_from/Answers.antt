@@ -6,7 +6,6 @@ use Rattle.std.specs.List.{position}
 use Rattle.std.proofs.lemmas.Iterator.{YieldsList-from_slice}
 use Rattle.std.proofs.lemmas.Iterator.Search.{position_from_yields_List}
 use Rattle.text.specs.Fields.{up_to}
-use Rattle.text.specs.declared.Field.{Field}
 use Rattle.words.proofs.Rows.{tail}
 use Rattle.text.proofs.LineEnds.{up_to_found}
 use Rattle.text.proofs.field_from.Goals as goal

@@ -1,6 +1,5 @@
 -- `text::is_name_byte` meets its contract.
 use Rattle.semantics.proofs.Prelude.{◌||◌, ap, ◌∙◌, eqb, Bool}
-use Rattle.semantics.specs.Text.{name_byte}
 use Rattle.text.proofs.Bytes.{name_ranges}
 use Rattle.text.proofs.is_name_byte.Goals as goal
 

@@ -1,5 +1,5 @@
 -- `text::word` meets its contract: the words that are left say what the field is.
-use Rattle.semantics.proofs.Prelude.{◌≡◌, sym, ap, ◌∙◌}
+use Rattle.semantics.proofs.Prelude.{sym, ◌∙◌}
 use Rattle.text.proofs.FieldTests.{word_here, word_past, word_none}
 use Rattle.text.proofs.word.Goals as goal
 
