@@ -34,15 +34,10 @@ fn values_ok(chart: &[i32], values: &[i32]) -> bool
     requires { length values.now ≤ index_limit }
     ensures { result ≡ all_pairs value_ok (several var_in variable_size (length values.now) (drop counts_size chart.now)) values.now }
 {
-    let mut i = 0;
-    while i < values.len() {
-        let lo = chart::variable_low(chart, i);
-        let hi = chart::variable_high(chart, i);
-        let x = values[i];
-        if !value_ok(lo, hi, x) {
+    for (i, x) in values.iter().enumerate() {
+        if !value_ok(chart::variable_low(chart, i), chart::variable_high(chart, i), *x) {
             return false;
         }
-        i += 1;
     }
     true
 }
@@ -129,19 +124,15 @@ fn waits_ok(list: &[i32], used: usize) -> bool
     ensures { result ≡ (all (below used) list.now && each_once list.now) }
 {
     let mut marks = [false; semantics::MOST_SLOTS];
-    let mut i = 0;
-    while i < list.len() {
-        let x = list[i];
-        if !words::is_below(used, x) {
+    for x in list {
+        if !words::is_below(used, *x) {
             return false;
         }
-        let slot = words::magnitude(x);
-        let named = marks[slot];
-        if named {
+        let slot = words::magnitude(*x);
+        if marks[slot] {
             return false;
         }
         marks[slot] = true;
-        i += 1;
     }
     true
 }

@@ -21,29 +21,19 @@ turn chart values i h whole b r e said inv =
     ∙ values_ok_turn values i h b chart (variable_at i) (length values - (i + 1)) (sym said ∙ e)
     ∙ ap (λ (n : ℕ). b && all_pairs value_ok (several var_in variable_size (length values - (i + 1)) (drop n chart)) (drop (i + 1) values)) next
 
+-- what the test at i said, of the words at their places
+said : {r : Bool} {x y lo lo' hi hi' : ℤ} → r ≡ (eq_z y top_word || within lo' hi' y) → y ≡ x → lo' ≡ lo → hi' ≡ hi → r ≡ (eq_z x top_word || within lo hi x)
+said e y lo hi = e ∙ (λ j. eq_z (y j) top_word || within (lo j) (hi j) (y j))
+
 pub returns-then-not-value_ok : goal.returns-then-not-value_ok
 returns-then-not-value_ok c =
-    let chart = c.args.chart.now in
-    let at = variable_at c.loop-i.i in
-    let x = word_at c.args.values.now c.loop-i.i in
-    let lo : to_z w32 (of_z w32 c.variable_low-lo.result) ≡ word_at chart at = to_z-of_z w32 _ (search rules) ∙ c.variable_low-lo.ensures in
-    let hi : to_z w32 (of_z w32 c.variable_high-hi.result) ≡ word_at chart (at + high_place) = to_z-of_z w32 _ (search rules) ∙ c.variable_high-hi.ensures in
-    let y : to_z w32 (of_z w32 x) ≡ x = to_z-of_z w32 x (search rules) in
-    let said = c.value_ok.ensures ∙ (λ j. eq_z (y j) top_word || within (lo j) (hi j) (y j)) in
-    sym (turn c.args.chart.now c.args.values.now c.loop-i.i c.loop-i-test.true _ false _ c.if-not-value_ok.true said c.loop-i.invariant.1)
+    sym (turn c.args.chart.now c.args.values.now c.loop-i.i c.loop-i-test.true _ false _ c.if-not-value_ok.true (said c.value_ok.ensures (to_z-of_z w32 (word_at c.args.values.now c.loop-i.i) (search rules)) (to_z-of_z w32 c.variable_low.result (search rules) ∙ c.variable_low.ensures) (to_z-of_z w32 c.variable_high.result (search rules) ∙ c.variable_high.ensures)) c.loop-i.invariant)
 
 pub loop-i-preserved : goal.loop-i-preserved
 loop-i-preserved c =
-    let chart = c.args.chart.now in
-    let at = variable_at c.loop-i.i in
-    let x = word_at c.args.values.now c.loop-i.i in
-    let lo : to_z w32 (of_z w32 c.variable_low-lo.result) ≡ word_at chart at = to_z-of_z w32 _ (search rules) ∙ c.variable_low-lo.ensures in
-    let hi : to_z w32 (of_z w32 c.variable_high-hi.result) ≡ word_at chart (at + high_place) = to_z-of_z w32 _ (search rules) ∙ c.variable_high-hi.ensures in
-    let y : to_z w32 (of_z w32 x) ≡ x = to_z-of_z w32 x (search rules) in
-    let said = c.value_ok.ensures ∙ (λ j. eq_z (y j) top_word || within (lo j) (hi j) (y j)) in
-    (omega arith, turn c.args.chart.now c.args.values.now c.loop-i.i c.loop-i-test.true _ true _ c.if-not-value_ok.false said c.loop-i.invariant.1)
+    turn c.args.chart.now c.args.values.now c.loop-i.i c.loop-i-test.true _ true _ c.if-not-value_ok.false (said c.value_ok.ensures (to_z-of_z w32 (word_at c.args.values.now c.loop-i.i) (search rules)) (to_z-of_z w32 c.variable_low.result (search rules) ∙ c.variable_low.ensures) (to_z-of_z w32 c.variable_high.result (search rules) ∙ c.variable_high.ensures)) c.loop-i.invariant
 
 pub returns : goal.returns
 returns c =
     let z : length c.args.values.now - c.loop-i.i ≡ 0 = omega arith in
-    sym (c.loop-i.invariant.1 ∙ rw (z, drop_of_length-le c.args.values.now c.loop-i-test.false))
+    sym (c.loop-i.invariant ∙ rw (z, drop_of_length-le c.args.values.now c.loop-i-test.false))
