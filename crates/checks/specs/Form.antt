@@ -16,10 +16,8 @@ abbrev pub ChartLayout : List ℤ → Layout → Type 0
 ChartLayout ws y = (y ≡ layout_of ws) × (width_of y ≤ index_limit)
 
 -- the words lent are enough for r slots (14)
-pub record Enough (ws : List ℤ) (y : Layout) (r : ℕ) (t l : List ℤ) : Type 0 where
-  pub layout : ChartLayout ws y
-  pub table : r * y.stride ≤ length t
-  pub list : r ≤ length l
+abbrev pub Enough : List ℤ → ℕ → List ℤ → List ℤ → Type 0
+Enough ws r t l = (r * stride (decode ws) ≤ length t) × (r ≤ length l)
 
 -- none of 20, 14 and 21 holds
 pub record InForm (words : List ℤ) (m : Memory) : Type 0 where

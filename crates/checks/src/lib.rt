@@ -11,7 +11,7 @@ ghost use Rattle.semantics.specs.Layout.{top_word, counts_size, variable_size, i
 ghost use Rattle.semantics.specs.Algorithm.{allowed};
 ghost use Rattle.semantics.specs.Encoding.{several, var_in, decode};
 ghost use Rattle.semantics.specs.Memory.{width, capacity_ok, value_ok, below, row_ok, slots_ok, joins, locations, origin_ok, origins_ok, origin_in, origins_in, states_in, each_once, is_alarm, empty_if_safe, lent_tests, record_tests, analysis_ok};
-ghost use Rattle.semantics.specs.Outcomes.{refusal, budget_ok, asked_cases, size_of, form_of};
+ghost use Rattle.semantics.specs.Outcomes.{refusal, budget_ok, too_few, asked_cases, size_of, form_of};
 ghost use Rattle.semantics.specs.Refusals.{refusal_of};
 ghost use Rattle.state.specs.Rows.{Placed, tail_of};
 ghost use Rattle.checks.specs.Form.{lent, ChartLayout, Enough};
@@ -35,7 +35,11 @@ fn values_ok(chart: &[i32], values: &[i32]) -> bool
     ensures { result ≡ all_pairs value_ok (several var_in variable_size (length values.now) (drop counts_size chart.now)) values.now }
 {
     for (i, x) in values.iter().enumerate() {
-        if !value_ok(chart::variable_low(chart, i), chart::variable_high(chart, i), *x) {
+        if !value_ok(
+            chart::variable_low(chart, i),
+            chart::variable_high(chart, i),
+            *x,
+        ) {
             return false;
         }
     }
@@ -51,25 +55,6 @@ fn row_ok(chart: &[i32], row: &[i32]) -> bool
     words::is_below(chart::location_count(chart), location) & values_ok(chart, state::values(row))
 }
 
-// The slots in use: the words of their states and origins, each by itself.
-fn slots_ok(chart: &[i32], layout: Layout, table: &[i32], used: usize) -> bool
-    requires { ChartLayout chart.now layout × (used * layout.stride ≤ length table.now) }
-    ensures { result ≡ slots_ok (decode chart.now) used table.now }
-{
-    let mut slot = layout.slot(SlotId(0));
-    while slot.id.is_below(used) {
-        let row = row_ok(chart, state::row_of(layout, table, slot));
-        let tail = state::tail_ok(state::tail_of(layout, table, slot));
-        if !(row & tail) {
-            return false;
-        }
-        slot = layout.after(slot);
-    }
-    true
-}
-
-// ---- the origins
-
 // Whether the edge is one of the chart, and leads from one location to the other.
 fn edge_joins(chart: &Chart, edge: EdgeId, from: LocationId, to: LocationId) -> bool
     ensures { result ≡ joins (decode chart.now) edge.0 from.0 to.0 }
@@ -82,38 +67,68 @@ fn edge_joins(chart: &Chart, edge: EdgeId, from: LocationId, to: LocationId) -> 
     (chart::edge_from(words, row) == from) & (chart::edge_to(words, row) == to)
 }
 
-// The origin of a slot in use: slot 0 has 65,535 and 0, any other a parent below it and an edge that joins their locations.
-fn origin_ok(chart: &Chart, layout: Layout, table: &[i32], slot: SlotRow, used: usize) -> bool
-    requires { ChartLayout chart.now layout × Placed layout slot × (slot.id.0 < «used») × («used» * layout.stride ≤ length table.now) }
-    ensures { result ≡ origin_ok (decode chart.now) (locations (states_in (decode chart.now) «used» table.now)) slot.id.0 (origin_in (tail_of layout slot.id.0 table.now)) }
-{
-    let tail = state::tail_of(layout, table, slot);
-    let parent = state::origin_parent(tail);
-    let edge = state::origin_edge(tail);
-    if slot.id.0 == 0 {
-        return (parent.0 == semantics::NO_SLOT) & edge.is_none();
-    }
-    if !parent.is_below(slot.id.0) {
-        return false;
-    }
-    let from = state::location_of(state::row_of(layout, table, layout.slot(parent)));
-    let to = state::location_of(state::row_of(layout, table, slot));
-    edge_joins(chart, edge, from, to)
+// The slots in use of a table, which has the layout that the chart gives it.
+#[derive(Clone, Copy)]
+struct InUse<'a> {
+    chart: &'a Chart<'a>,
+    layout: Layout,
+    table: &'a [i32],
+    used: usize,
+    ghost laid: { ChartLayout chart.now layout },
+    ghost fits: { used * layout.stride ≤ length table.now },
 }
 
-// The origins of the slots in use.
-fn origins_ok(chart: &Chart, layout: Layout, table: &[i32], used: usize) -> bool
-    requires { ChartLayout chart.now layout × (used * layout.stride ≤ length table.now) }
-    ensures { result ≡ origins_ok (decode chart.now) (locations (states_in (decode chart.now) used table.now)) 0 (origins_in (decode chart.now) used table.now) }
-{
-    let mut slot = layout.slot(SlotId(0));
-    while slot.id.is_below(used) {
-        if !origin_ok(chart, layout, table, slot, used) {
+impl<'a> InUse<'a> {
+    // The words of their states and origins, each by itself.
+    fn slots_ok(&self) -> bool
+        ensures { result ≡ slots_ok (decode self.now.chart.now) self.now.used self.now.table.now }
+    {
+        let words = self.chart.words();
+        for id in 0..self.used {
+            let slot = self.layout.slot(SlotId(id));
+            let row = row_ok(words, state::row_of(self.layout, self.table, slot));
+            let tail = state::tail_ok(state::tail_of(self.layout, self.table, slot));
+            if !(row & tail) {
+                return false;
+            }
+        }
+        true
+    }
+
+    // The origin of one: slot 0 has 65,535 and 0, any other a parent below it and an edge that joins their locations.
+    fn origin_ok(&self, slot: SlotRow) -> bool
+        requires { Placed self.now.layout slot × (slot.id.0 < self.now.used) }
+        ensures { result ≡ origin_ok (decode self.now.chart.now) (locations (states_in (decode self.now.chart.now) self.now.used self.now.table.now)) slot.id.0 (origin_in (tail_of self.now.layout slot.id.0 self.now.table.now)) }
+    {
+        let tail = state::tail_of(self.layout, self.table, slot);
+        let parent = state::origin_parent(tail);
+        let edge = state::origin_edge(tail);
+        if slot.id.0 == 0 {
+            return (parent.0 == semantics::NO_SLOT) & edge.is_none();
+        }
+        if !parent.is_below(slot.id.0) {
             return false;
         }
-        slot = layout.after(slot);
+        let from = state::location_of(state::row_of(
+            self.layout,
+            self.table,
+            self.layout.slot(parent),
+        ));
+        let to = state::location_of(state::row_of(self.layout, self.table, slot));
+        edge_joins(self.chart, edge, from, to)
     }
-    true
+
+    // The origin of each.
+    fn origins_ok(&self) -> bool
+        ensures { result ≡ origins_ok (decode self.now.chart.now) (locations (states_in (decode self.now.chart.now) self.now.used self.now.table.now)) 0 (origins_in (decode self.now.chart.now) self.now.used self.now.table.now) }
+    {
+        for id in 0..self.used {
+            if !self.origin_ok(self.layout.slot(SlotId(id))) {
+                return false;
+            }
+        }
+        true
+    }
 }
 
 // ---- the waitlist
@@ -140,18 +155,25 @@ fn waits_ok(list: &[i32], used: usize) -> bool
 // ---- the words lent
 
 // The tests of a table and a waitlist, by the record's three counts.
-fn lent_ok(chart: &Chart, layout: Layout, table: &[i32], list: &[i32], a: Analysis) -> bool
-    requires { Enough chart.now layout a.capacity table.now list.now × (a.capacity ≤ most_slots) }
+fn lent_ok(chart: &Chart, table: &[i32], list: &[i32], a: Analysis) -> bool
+    requires { Enough chart.now a.capacity table.now list.now × (a.capacity ≤ most_slots) }
     ensures { result ≡ all_of (lent_tests (decode chart.now) a.capacity a.used a.waiting table.now list.now) }
 {
     let capacity = a.capacity as usize;
     if a.used > capacity || a.waiting > a.used {
         return false;
     }
+    let layout = state::layout_of(chart.words());
+    let slots = InUse {
+        chart,
+        layout,
+        table,
+        used: a.used,
+    };
     let from = layout.slot(SlotId(a.used)).at;
     let to = capacity * layout.stride;
-    slots_ok(chart.words(), layout, table, a.used)
-        & origins_ok(chart, layout, table, a.used)
+    slots.slots_ok()
+        & slots.origins_ok()
         & waits_ok(&list[..a.waiting], a.used)
         & words::all_zero(&table[from..to])
         & words::all_zero(&list[a.waiting..capacity])
@@ -216,20 +238,20 @@ pub fn budget_ok(budget: i32) -> bool
 }
 
 // Fewer words are lent than the capacity takes (14).
-fn too_few(layout: Layout, capacity: u32, table_length: usize, list_length: usize) -> bool
-    requires { layout.stride ≤ index_limit }
-    ensures { result ≡ (ltb table_length (capacity * layout.stride) || ltb list_length capacity) }
+fn too_few(chart: &Chart, capacity: u32, table_length: usize, list_length: usize) -> bool
+    ensures { result ≡ too_few (decode chart.now) capacity table_length list_length }
 {
     let slots = capacity as usize;
-    (table_length < slots * layout.stride) | (list_length < slots)
+    let stride = state::layout_of(chart.words()).stride;
+    (table_length < slots * stride) | (list_length < slots)
 }
 
 // Form rule 21: the record first, since its capacity bounds the slots. That the words lent are enough (14) is judged before.
-fn analysis_ok(chart: &Chart, layout: Layout, table: &[i32], list: &[i32], a: Analysis) -> bool
-    requires { Enough chart.now layout a.capacity table.now list.now }
+fn analysis_ok(chart: &Chart, table: &[i32], list: &[i32], a: Analysis) -> bool
+    requires { Enough chart.now a.capacity table.now list.now }
     ensures { result ≡ analysis_ok (decode chart.now) (lent table.now list.now a) }
 {
-    record_ok(a, chart::edge_count(chart.words())) && lent_ok(chart, layout, table, list, a)
+    record_ok(a, chart::edge_count(chart.words())) && lent_ok(chart, table, list, a)
 }
 
 // ---- the refusals that calls share
@@ -261,7 +283,7 @@ pub fn size_refusal(
     ensures chart { IfOk result (λ chart. chart ≡ words.now) }
 {
     let chart = Chart::new(words)?;
-    if too_few(state::layout_of(words), capacity, table_length, list_length) {
+    if too_few(&chart, capacity, table_length, list_length) {
         return Err(Refusal::FewWords);
     }
     Ok(chart)
@@ -278,7 +300,7 @@ pub fn form_refusal<'a>(
     ensures chart { IfOk result (λ chart. chart ≡ words.now) }
 {
     let chart = size_refusal(words, a.capacity, table.len(), list.len())?;
-    if !analysis_ok(&chart, state::layout_of(words), table, list, a) {
+    if !analysis_ok(&chart, table, list, a) {
         return Err(Refusal::BadAnalysis);
     }
     Ok(chart)

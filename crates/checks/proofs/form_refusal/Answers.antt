@@ -3,12 +3,10 @@ use Rattle.semantics.proofs.Prelude.{sym, length}
 use Rattle.semantics.specs.Encoding.{decode}
 use Rattle.semantics.specs.Outcomes.{size_of}
 use Rattle.semantics.proofs.FirstCase.{none_met, enough}
-use Rattle.state.proofs.Layouts.{is_layout, slots_in}
 use Rattle.checks.proofs.form_refusal.Goals as goal
 
 pub analysis_ok-requires : goal.analysis_ok-requires
 analysis_ok-requires c =
     let s = c.args in
     let none = none_met (size_of s.words.now s.a.capacity (length s.table.now) (length s.list.now)) tt (sym c.in_ok-chart.ensures.refused) in
-    let h = enough (decode s.words.now) s.a.capacity (length s.table.now) (length s.list.now) none.1.0 in
-    rw c.in_ok-chart.ensures.chart (record { layout = (c.layout_of.ensures.layout, c.layout_of.ensures.small); table = slots_in (is_layout s.words.now _ c.layout_of.ensures.layout) s.a.capacity (length s.table.now) h.0; list = h.1 })
+    rw c.in_ok-chart.ensures.chart (enough (decode s.words.now) s.a.capacity (length s.table.now) (length s.list.now) none.1.0)

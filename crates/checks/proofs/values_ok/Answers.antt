@@ -1,5 +1,5 @@
 -- `checks::values_ok` meets its contract.
-use Rattle.semantics.proofs.Prelude.{◌≡◌, sym, ap, ◌∙◌, Bool, true, false, ◌&&◌, ◌||◌, List, ℕ, suc, ◌+◌, ◌-◌, ◌<◌, arith, ℤ, length, drop, drop_of_length-le, rules, w32, of_z, to_z, to_z-of_z}
+use Rattle.semantics.proofs.Prelude.{◌≡◌, sym, ap, ◌∙◌, Bool, true, false, ◌&&◌, ◌||◌, List, ℕ, suc, ◌+◌, ◌-◌, ◌<◌, arith, ℤ, length, drop, drop_of_length-le, rules, w32, to_z-of_z}
 use Rattle.semantics.specs.Lists.{all_pairs}
 use Rattle.semantics.specs.Chart.{eq_z, within}
 use Rattle.semantics.specs.Layout.{top_word, variable_size, variable_at, high_place}

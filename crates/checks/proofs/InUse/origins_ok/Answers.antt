@@ -1,12 +1,12 @@
--- `checks::origins_ok` meets its contract.
-use Rattle.semantics.proofs.Prelude.{◌≡◌, sym, ap, ◌∙◌, Bool, true, false, ◌&&◌, List, ℕ, suc, ◌+◌, ◌-◌, ◌*◌, ◌<◌, arith, ℤ, drop, ltb-true}
+-- `checks::InUse::origins_ok` meets its contract.
+use Rattle.semantics.proofs.Prelude.{◌≡◌, sym, ap, ◌∙◌, Bool, true, false, ◌&&◌, List, ℕ, suc, ◌+◌, ◌-◌, ◌*◌, ◌<◌, arith, ℤ, drop}
 use Rattle.semantics.specs.Encoding.{decode}
 use Rattle.semantics.specs.Memory.{origin_in, origins_in, origin_ok, origins_ok}
 use Rattle.state.specs.declared.Layout.{Layout}
 use Rattle.state.specs.Rows.{tail_of}
 use Rattle.state.proofs.Layouts.{LayoutOf, is_layout}
 use Rattle.checks.proofs.Origins.{origins_ok_turn}
-use Rattle.checks.proofs.origins_ok.Goals as goal
+use Rattle.checks.proofs.InUse.origins_ok.Goals as goal
 
 -- the origin of a slot in use is tested, which says b, and those after it are left
 turn : (chart table : List ℤ) (y : Layout) → LayoutOf (decode chart) y → (ls : List ℕ) (used s : ℕ) → s < used → (whole b r : Bool) → r ≡ b
@@ -20,11 +20,12 @@ turn chart table y o ls used s h whole b r e said inv =
 
 pub returns-then-not-origin_ok : goal.returns-then-not-origin_ok
 returns-then-not-origin_ok c =
-    let o = is_layout c.args.chart.now c.args.layout c.requires.0.0 in
-    sym (turn c.args.chart.now c.args.table.now c.args.layout o _ c.args.used c.loop-layout.slot.id.0 (ltb-true _ _ (sym c.is_below.ensures ∙ c.loop-layout-test.true)) _ false _ c.if-not-origin_ok.true c.origin_ok.ensures c.loop-layout.invariant.1)
+    let s = c.args.self.now in
+    let said = rw c.slot.ensures.id at c.origin_ok.ensures in
+    sym (turn s.chart.now s.table.now s.layout (is_layout s.chart.now s.layout s.laid.0) _ s.used c.loop-id.id c.loop-id-test.true _ false _ c.if-not-origin_ok.true said c.loop-id.invariant)
 
-pub loop-layout-preserved : goal.loop-layout-preserved
-loop-layout-preserved c =
-    let o = is_layout c.args.chart.now c.args.layout c.requires.0.0 in
-    let e = c.after-slot.ensures in
-    (e.placed, rw e.id (turn c.args.chart.now c.args.table.now c.args.layout o _ c.args.used c.loop-layout.slot.id.0 (ltb-true _ _ (sym c.is_below.ensures ∙ c.loop-layout-test.true)) _ true _ c.if-not-origin_ok.false c.origin_ok.ensures c.loop-layout.invariant.1))
+pub loop-id-preserved : goal.loop-id-preserved
+loop-id-preserved c =
+    let s = c.args.self.now in
+    let said = rw c.slot.ensures.id at c.origin_ok.ensures in
+    turn s.chart.now s.table.now s.layout (is_layout s.chart.now s.layout s.laid.0) _ s.used c.loop-id.id c.loop-id-test.true _ true _ c.if-not-origin_ok.false said c.loop-id.invariant
