@@ -16,8 +16,11 @@ use Rattle.state.proofs.Layouts.{LayoutOf, origins_say}
 use Rattle.state.proofs.Slots.{drop_slot}
 use Rattle.waitlist.specs.Waits.{NextBy}
 use Rattle.checks.specs.Form.{lent, InForm}
+use Rattle.writer.specs.declared.Writer.{Writer}
+use Rattle.writer.specs.Writers.{Writes}
+use Rattle.writer.proofs.Written.{writes_same}
 use Rattle.listing.proofs.Ways.{edge_get, state_get}
-use Rattle.listing.specs.Pieces.{tabbed, values_text, words_text, numbers_text, marked}
+use Rattle.listing.specs.Pieces.{tabbed, values_text, marked}
 
 -- ---- lines
 
@@ -27,17 +30,9 @@ unfolding line_of
 line_end f [] g = refl
 line_end f (x ∷ gs) g = ap (λ (l : List ℕ). f ++ (9 ∷ l)) (line_end x gs g ∙ sym (append_assoc x (each tabbed gs) (tabbed g ++ (10 ∷ []))))
 
-flat : (f m s o v i u e x : List ℕ) → f ++ ((m ++ (s ++ (o ++ v))) ++ ((i ++ (u ++ e)) ++ x)) ≡ f ++ (m ++ (s ++ (o ++ (v ++ (i ++ (u ++ (e ++ x)))))))
-flat f m s o v i u e x = simp append_assoc
-
-seven : (f m s o v i u e : List ℕ)
-    → f ++ ((tabbed m ++ (tabbed s ++ (tabbed o ++ tabbed v))) ++ ((tabbed i ++ (tabbed u ++ tabbed e)) ++ (10 ∷ []))) ≡ line_of f (m ∷ s ∷ o ∷ v ∷ i ∷ u ∷ e ∷ [])
-unfolding line_of
-seven f m s o v i u e = flat f (tabbed m) (tabbed s) (tabbed o) (tabbed v) (tabbed i) (tabbed u) (tabbed e) (10 ∷ [])
-
-pub header_is : (a : Analysis) → bytes "walk" ++ (words_text a ++ (numbers_text a ++ (10 ∷ []))) ≡ header_text a
-unfolding words_text numbers_text
-header_is a = seven _ _ _ _ _ _ _ _
+-- a field by another name
+pub field : {f g : List ℕ} {a b : Writer} → f ≡ g → Writes (tabbed f) a b → Writes (tabbed g) a b
+field e = writes_same (ap tabbed e)
 
 -- ---- the turns of the loops
 

@@ -1,6 +1,6 @@
 -- `listing::put_number` meets its contract.
-use Rattle.writer.proofs.Written.{put_then}
+use Rattle.writer.proofs.Written.{writes_then}
 use Rattle.listing.proofs.put_number.Goals as goal
 
 pub returns : goal.returns
-returns c = put_then c.put_byte-place.ensures c.put_decimal.ensures
+returns c = writes_then c.byte.ensures c.decimal.ensures

@@ -1,18 +1,18 @@
--- `listing::put_values` meets its contract. The invariant: with the values left, all are written.
-use Rattle.semantics.proofs.Prelude.{◌∙◌, arith, sfits_of, drop_of_length-le, w32, to_z-of_z}
+-- `listing::put_values` meets its contract: with the values left, all are written.
+use Rattle.semantics.proofs.Prelude.{pos, rules, get_or, drop_of_length-le}
+use Rattle.semantics.specs.Encoding.{val}
+use Rattle.semantics.specs.Listing.{val_text}
+use Rattle.writer.specs.Writers.{Writes}
 use Rattle.writer.proofs.Written.{one_more, all_put}
-use Rattle.listing.specs.Pieces.{values_text}
+use Rattle.listing.specs.Pieces.{tabbed, values_text}
 use Rattle.listing.proofs.TextPieces.{values_turn}
 use Rattle.listing.proofs.put_values.Goals as goal
 
-pub loop-i-preserved : goal.loop-i-preserved
-loop-i-preserved c =
-    let p = c in
-    let w = p in
-    let l = w in
-    let put = rw (to_z-of_z w32 _ (sfits_of w.w-1.given)) at p.put_value-place.ensures in
-    (omega arith, p.put_value-place.auto.out ∙ l.loop-i.invariant.1, one_more l.loop-i.invariant.2 (values_turn _ l.loop-i.i w.loop-i-test.true) put)
+pub loop-w-preserved : goal.loop-w-preserved
+loop-w-preserved c =
+    let put : Writes (tabbed (val_text (val (get_or c.args.values.now c.loop-w.w-index (pos 0))))) c.loop-w.out c.put_value.new.out = search rules in
+    one_more c.loop-w.invariant (values_turn _ c.loop-w.w-index c.loop-w-test.true) put
 
 pub returns : goal.returns
 unfolding values_text
-returns c = all_put c.loop-i.invariant.2 (rw (drop_of_length-le _ c.loop-i-test.false)) (omega arith)
+returns c = all_put c.loop-w.invariant (rw (drop_of_length-le _ c.loop-w-test.false))
