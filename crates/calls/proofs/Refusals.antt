@@ -1,16 +1,19 @@
 -- What a call that nothing refuses may rely on, and what a refused call leaves. Assumes nothing.
-use Rattle.semantics.proofs.Prelude.{◌≡◌, refl, sym, ap, ◌∙◌, List, ℕ, ◌*◌, ◌≤◌, T, ℤ, nat_abs}
+use Rattle.semantics.proofs.Prelude.{◌≡◌, refl, sym, ap, List, ℕ, ◌*◌, ◌≤◌, T, ℤ, nat_abs}
+use Rattle.std.specs.Prelude.{Ok, Err}
 use Rattle.semantics.proofs.Bools.{passed}
 use Rattle.semantics.specs.declared.Settings.{Settings}
 use Rattle.semantics.specs.Algorithm.{allowed}
 use Rattle.semantics.specs.Encoding.{decode, well_formed}
 use Rattle.semantics.specs.Memory.{Memory, stride, capacity_ok}
-use Rattle.semantics.specs.Outcomes.{Outcome, refusal, refused_by, settled, budget_ok, size_of, form_of, begin_cases, run_cases}
+use Rattle.semantics.specs.Outcomes.{Outcome, refusal, fine, settled, budget_ok, size_of, form_of, begin_cases, run_cases}
 use Rattle.semantics.proofs.FirstCase.{none_met, enough, refused_stays, goes}
 use Rattle.checks.specs.Form.{InForm}
 use Rattle.checks.proofs.FormTests.{in_form}
-use Rattle.calls.specs.declared.Called.{Called}
-use Rattle.calls.specs.Calls.{Answers, EndsCalled}
+use Rattle.checks.proofs.Numbered.{numbered}
+use Rattle.semantics.specs.declared.Refusal.{Refusal}
+use Rattle.semantics.specs.Refusals.{number_of}
+use Rattle.calls.specs.Calls.{EndsCalled}
 
 pub record BeginPasses (ws : List ℤ) (z : Settings) (r a : ℤ) (t l : ℕ) : Type 0 where
   pub capacity : T (capacity_ok r)
@@ -36,11 +39,11 @@ run_passes ws b m e =
     (passed (budget_ok b) p.0, in_form ws m p.1.0 p.1.1.0 p.1.1.1.0)
 
 -- a refused call changes nothing
-pub ends_refused : (k n : ℕ) (m : Memory) (sp : List ℕ) (o : Outcome) (r : Called) → k ≡ n → (k ≡ 0 → ⊥) → Answers (refused_by k 0) m.analysis r → EndsCalled (settled n m sp o) r m.table m.waitlist
-ends_refused k n m sp o r e h g = rw (refused_stays m sp o {n = n} k e h) (record { answer = g.0; analysis = g.1; table = refl; waitlist = refl })
+pub ends_refused : (r : Refusal) (n : ℕ) (m : Memory) (sp : List ℕ) (o : Outcome) → number_of r ≡ n → EndsCalled (settled n m sp o) m.analysis (Err r) m.table m.waitlist
+ends_refused r n m sp o e = rw (refused_stays m sp o {n = n} (number_of r) e (numbered r)) (record { answer = refl; analysis = refl; table = refl; waitlist = refl })
 
 -- a call that nothing refuses has the outcome
-pub ends_through : (n : ℕ) (m m' : Memory) (sp : List ℕ) (o : Outcome) (r : Called) → n ≡ 0 → o.memory ≡ m' → Answers o.answer m'.analysis r → EndsCalled (settled n m sp o) r m'.table m'.waitlist
-ends_through n m m' sp o r e p g =
-    rw (goes m sp o {n = n} e)
-    (record { answer = g.0; analysis = g.1 ∙ sym (ap (λ (x : Memory). x.analysis) p); table = sym (ap (λ (x : Memory). x.table) p); waitlist = sym (ap (λ (x : Memory). x.waitlist) p) })
+pub ends_through : (n : ℕ) (m m' : Memory) (sp : List ℕ) (o : Outcome) → 0 ≡ n → o.answer ≡ fine 0 → o.memory ≡ m' → EndsCalled (settled n m sp o) m.analysis (Ok m'.analysis) m'.table m'.waitlist
+ends_through n m m' sp o e f p =
+    rw (goes m sp o {n = n} (sym e))
+    (record { answer = sym f; analysis = sym (ap (λ (x : Memory). x.analysis) p); table = sym (ap (λ (x : Memory). x.table) p); waitlist = sym (ap (λ (x : Memory). x.waitlist) p) })

@@ -1,19 +1,15 @@
 -- What a public call owes: its answer, the record and every lent word at exit are those of the outcome. Assumes
 -- nothing.
-use Rattle.std.specs.Prelude.{◌≡◌, List, ℕ, ◌*◌, ◌≤◌, ℤ, length}
+use Rattle.std.specs.Prelude.{◌≡◌, Result, Ok, Err, List, ℕ, ◌*◌, ◌≤◌, ℤ, length}
 use Rattle.semantics.specs.Layout.{most_slots}
 use Rattle.semantics.specs.declared.Analysis.{Analysis}
-use Rattle.semantics.specs.declared.Answer.{Answer}
+use Rattle.semantics.specs.declared.Refusal.{Refusal}
 use Rattle.semantics.specs.declared.Settings.{Settings}
 use Rattle.semantics.specs.Tidy.{Allowed}
-use Rattle.semantics.specs.Outcomes.{Outcome}
+use Rattle.semantics.specs.Outcomes.{Answer, Outcome}
+use Rattle.semantics.specs.Refusals.{answer_of}
 use Rattle.state.specs.declared.Layout.{Layout}
 use Rattle.state.specs.Rows.{layout_of}
-use Rattle.calls.specs.declared.Called.{Called}
-
--- the answer, and the record as a call leaves it
-abbrev pub Answers : Answer → Analysis → Called → Type 0
-Answers x a r = (r.answer ≡ x) × (r.analysis ≡ a)
 
 -- "determines, from the values at entry alone, the answer and every lent word at exit": these are the outcome's
 -- answer, record, table and waitlist
@@ -23,9 +19,14 @@ pub record Ends (o : Outcome) (r : Answer) (a : Analysis) (t l : List ℤ) : Typ
   pub table : t ≡ o.memory.table
   pub waitlist : l ≡ o.memory.waitlist
 
--- the same of a call that answers the record
-abbrev pub EndsCalled : Outcome → Called → List ℤ → List ℤ → Type 0
-EndsCalled o r t l = Ends o r.answer r.analysis t l
+-- the record that a call leaves which answers one, or refuses: the one answered, or the one from before
+abbrev pub record_left : Analysis → Result Analysis Refusal → Analysis
+record_left before (Ok a) = a
+record_left before (Err r) = before
+
+-- the same of such a call, where `before` is the record from before
+abbrev pub EndsCalled : Outcome → Analysis → Result Analysis Refusal → List ℤ → List ℤ → Type 0
+EndsCalled o before r t l = Ends o (answer_of r) (record_left before r) t l
 
 -- ---- what the parts of a beginning ask
 

@@ -1,22 +1,24 @@
 -- `calls::run_by_value` meets its contract: refused, nothing has changed; else the run is put into the words lent.
-use Rattle.semantics.proofs.Prelude.{sym, ◌∙◌, [], w32, to_z-of_z}
+use Rattle.semantics.proofs.Prelude.{refl, [], w32, to_z-of_z}
+use Rattle.std.proofs.lemmas.Result.{err_from_is_err_and}
 use Rattle.semantics.specs.Outcomes.{run_outcome}
 use Rattle.checks.specs.Form.{lent}
 use Rattle.calls.proofs.Refusals.{ends_refused, ends_through}
 use Rattle.calls.proofs.run_by_value.Goals as goal
 
-pub returns-then-number-ne0 : goal.returns-then-number-ne0
+pub returns-in_err-chart : goal.returns-in_err-chart
 unfolding run_outcome
-returns-then-number-ne0 c =
+returns-in_err-chart c =
     let s = c.args in
-    let said = rw (to_z-of_z w32 s.budget c.ranges.budget) at c.run_refusal-number.ensures in
-    ends_refused c.run_refusal-number.result _ (lent s.table.now s.list.now s.a) [] _ _ said c.if-number-ne0.true c.refuse.ensures
+    let said = rw (to_z-of_z w32 s.budget c.ranges.budget) at c.in_err-chart.ensures.refused in
+    let p = err_from_is_err_and c.from_residual.result c.from_residual.ensures.1 in
+    rw (p.1, p.2) (ends_refused c.in_err-chart.field-0.0 _ (lent s.table.now s.list.now s.a) [] _ said)
 
 pub returns : goal.returns
 unfolding run_outcome
 returns c =
     let s = c.args in
-    let said = rw (to_z-of_z w32 s.budget c.ranges.budget) at c.run_refusal-number.ensures in
-    let k = c.run_through-played in
-    ends_through _ (lent s.table.now s.list.now s.a) (lent k.new.table k.new.list k.result) [] _ _ (sym said ∙ c.if-number-ne0.false)
-    (rw (to_z-of_z w32 s.budget c.ranges.budget) at k.ensures) c.go_through.ensures
+    let k = c.run_through in
+    let said = rw (to_z-of_z w32 s.budget c.ranges.budget) at c.in_ok-chart.ensures.refused in
+    ends_through _ (lent s.table.now s.list.now s.a) (lent k.new.table k.new.list k.result) [] _ said refl
+    (rw (c.in_ok-chart.ensures.chart, to_z-of_z w32 s.budget c.ranges.budget) at k.ensures)

@@ -1,6 +1,7 @@
 -- `calls::run_through` meets its contract: the capacity's words, in form, are lent, and the run is put into them.
-use Rattle.semantics.proofs.Prelude.{sym, length-take-le}
-use Rattle.semantics.specs.Encoding.{decode}
+use Rattle.semantics.proofs.Prelude.{sym, ap, ◌∙◌, length-take-le}
+use Rattle.semantics.specs.Encoding.{edge_count, decode}
+use Rattle.state.specs.Rows.{layout_of}
 use Rattle.checks.specs.Form.{lent}
 use Rattle.analysis.proofs.ChartSizes.{edges_near}
 use Rattle.analysis.proofs.RunEntry.{entered, iterations_few}
@@ -11,12 +12,12 @@ use Rattle.calls.proofs.run_through.Goals as goal
 pub slice_bounds-run_core-end : goal.slice_bounds-run_core-end
 slice_bounds-run_core-end c =
     let s = c.args in
-    (sizes s.chart.now c.requires.chart _ c.layout_of-layout.ensures.layout _ c.edge_count-edges.ensures.count s.a.capacity s.table.now c.requires.table).fits
+    (sizes s.chart.now c.requires.chart _ (c.layout_of-layout.ensures.layout ∙ ap layout_of c.words-words.ensures.words) _ (c.edge_count-edges.ensures.count ∙ ap edge_count c.words-words.ensures.words) s.a.capacity s.table.now c.requires.table).fits
 
 pub slice_bounds-run_core-end-2 : goal.slice_bounds-run_core-end-2
 slice_bounds-run_core-end-2 c =
     let s = c.args in
-    let known = sizes s.chart.now c.requires.chart _ c.layout_of-layout.ensures.layout _ c.edge_count-edges.ensures.count s.a.capacity s.table.now c.requires.table in
+    let known = sizes s.chart.now c.requires.chart _ (c.layout_of-layout.ensures.layout ∙ ap layout_of c.words-words.ensures.words) _ (c.edge_count-edges.ensures.count ∙ ap edge_count c.words-words.ensures.words) s.a.capacity s.table.now c.requires.table in
     sym (length-take-le _ s.table.now known.fits)
 
 pub run_core-requires : goal.run_core-requires
@@ -26,8 +27,8 @@ run_core-requires c =
     let ws = s.chart.now in
     let y = c.layout_of-layout in
     let memory = lent s.table.now s.list.now s.a in
-    let known = sizes ws p.chart _ y.ensures.layout _ c.edge_count-edges.ensures.count s.a.capacity s.table.now p.table in
-    rw known.many (entered (decode ws) y.result known.laid memory p.table p.list p.analysis, iterations_few (decode ws) memory p.analysis, known.thin, edges_near ws p.chart)
+    let known = sizes ws p.chart _ (y.ensures.layout ∙ ap layout_of c.words-words.ensures.words) _ (c.edge_count-edges.ensures.count ∙ ap edge_count c.words-words.ensures.words) s.a.capacity s.table.now p.table in
+    rw (c.words-words.ensures.words, known.many) (entered (decode ws) y.result known.laid memory p.table p.list p.analysis, iterations_few (decode ws) memory p.analysis, known.thin, edges_near ws p.chart)
 
 pub returns : goal.returns
 returns c =
@@ -35,5 +36,5 @@ returns c =
     let p = c.requires in
     let y = c.layout_of-layout in
     let k = c.run_core in
-    let known = sizes s.chart.now p.chart _ y.ensures.layout _ c.edge_count-edges.ensures.count s.a.capacity s.table.now p.table in
-    run_at_exit s.chart.now p.chart y.result known.laid (lent s.table.now s.list.now s.a) k.result _ _ p.table p.list p.analysis s.budget (rw known.many at k.ensures)
+    let known = sizes s.chart.now p.chart _ (y.ensures.layout ∙ ap layout_of c.words-words.ensures.words) _ (c.edge_count-edges.ensures.count ∙ ap edge_count c.words-words.ensures.words) s.a.capacity s.table.now p.table in
+    run_at_exit s.chart.now p.chart y.result known.laid (lent s.table.now s.list.now s.a) k.result _ _ p.table p.list p.analysis s.budget (rw (c.words-words.ensures.words, known.many) at k.ensures)
