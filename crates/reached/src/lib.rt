@@ -49,43 +49,52 @@ pub fn merge_slots(
     count
 }
 
-// The last of the slots from this one on that the word at place i tells e apart from: e lies under none of those after it up
-// to there. Slots of one location that follow each other mostly differ in one word, which is then looked at first.
-fn pass(layout: Layout, table: &[i32], used: usize, e: &[i32], i: usize, slot: SlotRow) -> SlotRow
-    requires { Laid layout used e.now table.now × (used < index_limit) × (i < length e.now) × Placed layout slot × (slot.id.0 < used) }
-    ensures slot { Placed layout result × (slot.id.0 ≤ result.id.0) × (result.id.0 < used) }
-    ensures apart { lies_from layout used e.now table.now (slot.id.0 + 1) ≡ lies_from layout used e.now table.now (result.id.0 + 1) }
-{
-    let mut last = slot;
-    let mut next = layout.after(slot);
-    while next.id.is_below(used) {
-        if !state::told_apart(e, state::row_of(layout, table, next), i) {
-            return last;
-        }
-        last = next;
-        next = layout.after(next);
-    }
-    last
+// What is looked through for a slot that a row lies under: the slots in use of a table, and the links between them.
+#[derive(Clone, Copy)]
+struct Scan<'a> {
+    layout: Layout,
+    table: &'a [i32],
+    used: usize,
+    e: &'a [i32],
+    links: &'a [usize],
+    ghost laid: { Laid layout used e.now table.now },
+    ghost few: { used < index_limit },
+    ghost linked: { Linked (chains_of layout used table.now) links.now },
 }
 
-// The slot to look at after this one, which the word at place i tells e apart from: past those after it that this word tells
-// apart too, along the links.
-fn on_from(
-    layout: Layout,
-    table: &[i32],
-    used: usize,
-    e: &[i32],
-    links: &[usize],
-    i: usize,
-    slot: SlotRow,
-) -> SlotId
-    requires { Laid layout used e.now table.now × (used < index_limit) × (i < length e.now) × Placed layout slot × (slot.id.0 < used) × Linked (chains_of layout used table.now) links.now }
-    ensures later { slot.id.0 < result.0 }
-    ensures apart { lies_from layout used e.now table.now (slot.id.0 + 1) ≡ lies_from layout used e.now table.now result.0 }
-{
-    let last = pass(layout, table, used, e, i, slot);
-    let at = state::location_of(state::row_of(layout, table, last));
-    links::next(links, last.id, at, state::location_of(e))
+impl Scan<'_> {
+    ghost use Rattle.reached.specs.Scanned.{lies_after};
+
+    // The last of the slots from this one on that the word at place i tells the row apart from: it lies under none of those
+    // after it up to there. Slots of one location that follow each other mostly differ in one word, which is then looked at
+    // first.
+    fn pass(&self, i: usize, slot: SlotRow) -> SlotRow
+        requires { (i < length self.now.e.now) × Placed self.now.layout slot × (slot.id.0 < self.now.used) }
+        ensures slot { Placed self.now.layout result × (slot.id.0 ≤ result.id.0) × (result.id.0 < self.now.used) }
+        ensures apart { lies_after self.now slot.id.0 ≡ lies_after self.now result.id.0 }
+    {
+        let mut last = slot;
+        for id in slot.id.0 + 1..self.used {
+            let next = self.layout.slot(SlotId(id));
+            if !state::told_apart(self.e, state::row_of(self.layout, self.table, next), i) {
+                return last;
+            }
+            last = next;
+        }
+        last
+    }
+
+    // The slot to look at after this one, which the word at place i tells the row apart from: past those after it that this
+    // word tells apart too, along the links.
+    fn on_from(&self, i: usize, slot: SlotRow) -> SlotId
+        requires { (i < length self.now.e.now) × Placed self.now.layout slot × (slot.id.0 < self.now.used) }
+        ensures later { slot.id.0 < result.0 }
+        ensures apart { lies_after self.now slot.id.0 ≡ lies_from self.now.layout self.now.used self.now.e.now self.now.table.now result.0 }
+    {
+        let last = self.pass(i, slot);
+        let at = state::location_of(state::row_of(self.layout, self.table, last));
+        links::next(self.links, last.id, at, state::location_of(self.e))
+    }
 }
 
 // Whether the row e lies under a slot in use; it lies under none of another location.
@@ -94,14 +103,21 @@ pub fn covered(layout: Layout, table: &[i32], used: usize, e: &[i32], links: &[u
     requires linked { Linked (chains_of layout used table.now) links.now }
     ensures { result ≡ some_of (row_leq e.now) (rows_of layout used table.now) }
 {
+    let scan = Scan {
+        layout,
+        table,
+        used,
+        e,
+        links,
+    };
     let mut id = links::first(links, state::location_of(e));
+    // No index counted: the ids go along the links.
     while id.is_below(used) {
         let slot = layout.slot(id);
-        let i = state::first_over(e, state::row_of(layout, table, slot));
-        if i == e.len() {
-            return true;
+        match state::first_over(e, state::row_of(layout, table, slot)) {
+            None => return true,
+            Some(i) => id = scan.on_from(i, slot),
         }
-        id = on_from(layout, table, used, e, links, i, slot);
     }
     false
 }

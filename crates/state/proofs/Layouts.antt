@@ -1,5 +1,7 @@
 -- The layout of a chart's tables, and the words of a row by place. Assumes nothing.
-use Rattle.semantics.proofs.Prelude.{◌≡◌, refl, sym, ap, subst, ◌∙◌, List, ◌∷◌, take, drop, zero, suc, ◌+◌, ℕ, ◌*◌, ◌≤◌, ◌<◌, arith, lt-ltb, ℤ, pos}
+use Rattle.semantics.proofs.Prelude.{◌≡◌, refl, sym, ap, subst, ◌∙◌, List, ◌∷◌, take, drop, zero, suc, ◌+◌, ℕ, ◌*◌, ◌≤◌, ◌<◌, arith, lt-ltb, ℤ, pos, SFits, w32, le-ltb}
+use Rattle.std.proofs.Common.{Result, Ok, Err}
+use Rattle.std.specs.Result.{OkIff, result_unwrap_or}
 use Rattle.semantics.specs.Chart.{Chart}
 use Rattle.semantics.specs.Layout.{origin_size}
 use Rattle.semantics.specs.Encoding.{decode}
@@ -34,3 +36,12 @@ origins_say {c = c} {y = y} o (suc n) t =
 pub id_fits : (n : ℕ) → n < word_limit → id_word n ≡ pos n
 unfolding id_word
 id_fits n h = rw (lt-ltb n word_limit h)
+
+le_of_not_lt : (n m : ℕ) → (n < m → ⊥) → m ≤ n
+le_of_not_lt n m h = omega arith
+
+-- and as `try_from` and `unwrap_or` have it
+pub from_try : {E : Type 0} (r : Result ℤ E) (n : ℕ) → OkIff r (SFits w32 (pos n)) (pos n) → result_unwrap_or r (pos 0) ≡ id_word n
+unfolding id_word
+from_try (Ok x) n h = h.1 ∙ sym (id_fits n h.0.sfits)
+from_try (Err e) n h = rw (le-ltb n word_limit (le_of_not_lt n word_limit (λ l. h (record { sfits = l }))))

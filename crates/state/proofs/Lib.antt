@@ -2,3 +2,4 @@
 pub mod Layouts
 pub mod RowLoops
 pub mod Slots
+pub mod FirstOver

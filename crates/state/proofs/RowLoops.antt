@@ -1,5 +1,5 @@
 -- The turns of the loops over the words of a row. Assumes nothing.
-use Rattle.semantics.proofs.Prelude.{◌≡◌, refl, sym, ap, subst, Bool, true, false, ◌&&◌, ◌||◌, not, not-true, and_assoc, and-false, and-true, T, List, [], ◌∷◌, ◌++◌, append-nil, ℕ, zero, suc, ◌+◌, ◌≤◌, ◌<◌, add-one, arith, ℤ, pos, length, take, drop, set, drop_of_length-le, drop-cons, take_all, take-suc-set, drop-set-lt, append_snoc}
+use Rattle.semantics.proofs.Prelude.{◌≡◌, refl, sym, ap, subst, Bool, true, false, ◌&&◌, ◌||◌, not, not-true, and_assoc, and-false, T, List, [], ◌∷◌, ◌++◌, ℕ, zero, suc, ◌+◌, ◌<◌, add-one, arith, ℤ, pos, length, take, drop, set, drop-cons, take-suc-set, drop-set-lt, append_snoc}
 use Rattle.semantics.specs.Lists.{pick}
 use Rattle.semantics.specs.Layout.{top_word}
 use Rattle.semantics.proofs.Bools.{right_true}
@@ -34,35 +34,16 @@ apart_over (x ∷ e) (y ∷ s) (suc i) l h t =
     rw (pair_over e s i (omega arith) (omega arith) o) (and-false (eq_z x y))
 
 -- what is left from place i on; s may be changed at i meanwhile
-module _ (e s : List ℤ) (i : ℕ) (he : i < length e) (hs : i < length s) where
-  pub leq_turn : words_leq (drop i e) (drop i s) ≡ word_leq (word_at e i) (word_at s i) && words_leq (drop (i + 1) e) (drop (i + 1) s)
-  leq_turn = rw (add-one, drop-cons e i (pos 0), drop-cons s i (pos 0))
+module _ (e s : List ℤ) (i : ℕ) (he : i < length e) (hs : i < length s) (v : ℤ) (q : v ≡ word_join (word_at e i) (word_at s i)) where
+  kept : drop (suc i) (set s i v) ≡ drop (suc i) s
+  kept = drop-set-lt (suc i) s i v (omega arith)
 
-  module _ (v : ℤ) (q : v ≡ word_join (word_at e i) (word_at s i)) where
-    kept : drop (suc i) (set s i v) ≡ drop (suc i) s
-    kept = drop-set-lt (suc i) s i v (omega arith)
+  pub join_turn : take i s ++ words_join (drop i e) (drop i s) ≡ take (i + 1) (set s i v) ++ words_join (drop (i + 1) e) (drop (i + 1) (set s i v))
+  join_turn = rw (add-one, kept, take-suc-set s i v, append_snoc, drop-cons e i (pos 0), drop-cons s i (pos 0), q)
 
-    pub join_turn : take i s ++ words_join (drop i e) (drop i s) ≡ take (i + 1) (set s i v) ++ words_join (drop (i + 1) e) (drop (i + 1) (set s i v))
-    join_turn = rw (add-one, kept, take-suc-set s i v, append_snoc, drop-cons e i (pos 0), drop-cons s i (pos 0), q)
-
-    pub same_turn : (t : Bool) → t && same_words (words_join (drop i e) (drop i s)) (drop i s)
-        ≡ (t && eq_z v (word_at s i)) && same_words (words_join (drop (i + 1) e) (drop (i + 1) (set s i v))) (drop (i + 1) (set s i v))
-    same_turn t = rw (add-one, kept, drop-cons e i (pos 0), drop-cons s i (pos 0), q) (sym (and_assoc t _ _))
-
-module _ (e s : List ℤ) (i : ℕ) (he : length e ≤ i) (hs : length s ≤ i) where
-  pub leq_end : words_leq (drop i e) (drop i s) ≡ true
-  leq_end = rw (drop_of_length-le e he, drop_of_length-le s hs)
-
-  pub joined_end : (t : Bool) → t && same_words (words_join (drop i e) (drop i s)) (drop i s) ≡ t
-  joined_end t = rw (drop_of_length-le e he, drop_of_length-le s hs) (and-true t)
-
-  pub join_end : take i s ++ words_join (drop i e) (drop i s) ≡ s
-  join_end = rw (drop_of_length-le s hs, drop_of_length-le e he, take_all i s hs) (append-nil s)
-
--- nothing done yet
-pub same_start : (e s : List ℤ) → 0 < length s → same_words (row_join e s) s ≡ same_words (words_join (values_of e) (values_of s)) (values_of s)
-same_start e [] n = absurd (omega arith)
-same_start e (y ∷ s) n = rw (eq_z_self y)
+  pub same_turn : (t : Bool) → t && same_words (words_join (drop i e) (drop i s)) (drop i s)
+      ≡ (t && eq_z v (word_at s i)) && same_words (words_join (drop (i + 1) e) (drop (i + 1) (set s i v))) (drop (i + 1) (set s i v))
+  same_turn t = rw (add-one, kept, drop-cons e i (pos 0), drop-cons s i (pos 0), q) (sym (and_assoc t _ _))
 
 -- ---- lengths
 

@@ -4,7 +4,7 @@
 // negation say the same id.
 #![tactic(auto)]
 
-ghost use Rattle.std.specs.Prelude.{◌≡◌, ◌&&◌, not, ◌+◌, ◌-◌, ◌*◌, ◌<◌, ◌≤◌, eqb, length};
+ghost use Rattle.std.specs.Prelude.{◌≡◌, MatchOption, true, false, ◌&&◌, not, ◌+◌, ◌-◌, ◌*◌, ◌<◌, ◌≤◌, eqb, length};
 ghost use Rattle.std.specs.Int.Signed.{non_neg};
 ghost use Rattle.semantics.specs.Lists.{all};
 ghost use Rattle.semantics.specs.Layout.{index_limit, place_limit, origin_size};
@@ -90,9 +90,7 @@ pub fn row_of(layout: Layout, table: &[i32], slot: SlotRow) -> &[i32]
     ensures row { result.now ≡ row_of layout slot.id.0 table.now }
     ensures long { length result.now ≡ width_of layout }
 {
-    let from = slot.at;
-    let to = from + layout.width();
-    &table[from..to]
+    &table[slot.at..slot.at + layout.width()]
 }
 
 // What a slot holds past its state: the words of its origin.
@@ -101,9 +99,7 @@ pub fn tail_of(layout: Layout, table: &[i32], slot: SlotRow) -> &[i32]
     ensures tail { result.now ≡ tail_of layout slot.id.0 table.now }
     ensures long { length result.now ≡ layout.stride - width_of layout }
 {
-    let from = slot.at + layout.width();
-    let to = slot.at + layout.stride;
-    &table[from..to]
+    &table[slot.at + layout.width()..slot.at + layout.stride]
 }
 
 // The layout of a chart's tables: slot follows slot.
@@ -154,17 +150,11 @@ pub fn value_at(row: &[i32], k: usize) -> i32
     words::word_at(row, k + HEAD)
 }
 
-// The least number that no word holds.
-const WORD_LIMIT: usize = 2147483648;
-
 // The word that a slot holds for an id; 0 for one that no word can hold.
 fn id_word(n: usize) -> i32
     ensures { result ≡ id_word n }
 {
-    if n < WORD_LIMIT {
-        return n as i32;
-    }
-    0
+    i32::try_from(n).unwrap_or(0)
 }
 
 // The row stands at the location then.
@@ -180,6 +170,7 @@ pub fn set_value(row: &mut [i32], k: usize, x: i32)
     requires { k < index_limit }
     ensures { row.new ≡ with_value row.old k x }
 {
+    // `get_mut` was tried: of a slice it promises no word afterwards, so the proof did not close.
     let i = k + HEAD;
     if i < row.len() {
         row[i] = x;
@@ -208,19 +199,12 @@ pub fn origin_edge(tail: &[i32]) -> EdgeId
     EdgeId(words::number_at(tail, EDGE_PLACE))
 }
 
-fn not_negative(w: i32) -> bool
-    ensures { result ≡ non_neg w }
-{
-    0 <= w
-}
-
 // Whether neither word is negative.
 pub fn tail_ok(tail: &[i32]) -> bool
     requires { length tail.now ≡ origin_size }
     ensures { result ≡ all non_neg tail.now }
 {
-    not_negative(words::word_at(tail, PARENT_PLACE))
-        & not_negative(words::word_at(tail, EDGE_PLACE))
+    tail.iter().all(|word| 0 <= *word)
 }
 
 // The slot was first brought by these.
@@ -228,8 +212,7 @@ pub fn set_origin(tail: &mut [i32], parent: SlotId, edge: EdgeId)
     requires { length tail.old ≡ origin_size }
     ensures { tail.new ≡ tail_words parent.0 edge.0 }
 {
-    tail[PARENT_PLACE] = id_word(parent.0);
-    tail[EDGE_PLACE] = id_word(edge.0);
+    tail.copy_from_slice(&[id_word(parent.0), id_word(edge.0)]);
 }
 
 // ---- order, join and merge
@@ -251,37 +234,20 @@ pub fn join_word(x: i32, y: i32) -> i32
     words::TOP
 }
 
-// The place of the first value of e that does not lie under that of s; or the length.
-fn first_value_over(e: &[i32], s: &[i32]) -> usize
-    requires { (length s.now ≡ length e.now) × (0 < length e.now) }
-    ensures within { result ≤ length e.now }
-    ensures under { eqb result (length e.now) ≡ words_leq (values_of e.now) (values_of s.now) }
-{
-    let mut i = HEAD;
-    while i < s.len() {
-        let x = e[i];
-        let y = s[i];
-        if !leq_word(x, y) {
-            return i;
-        }
-        i += 1;
-    }
-    i
-}
-
 // The place of the first word that tells the row e apart from s, the location or a value that does not lie under that of
-// s; or the length, where e lies under s.
-pub fn first_over(e: &[i32], s: &[i32]) -> usize
+// s; none where e lies under s.
+pub fn first_over(e: &[i32], s: &[i32]) -> Option<usize>
     requires { (length s.now ≡ length e.now) × (0 < length e.now) }
-    ensures within { result ≤ length e.now }
-    ensures under { eqb result (length e.now) ≡ row_leq e.now s.now }
+    ensures { MatchOption result (row_leq e.now s.now ≡ true) (λ i. (i < length e.now) × (row_leq e.now s.now ≡ false)) }
 {
-    let l = e[LOCATION_PLACE];
-    let m = s[LOCATION_PLACE];
-    if l == m {
-        return first_value_over(e, s);
+    if e[LOCATION_PLACE] != s[LOCATION_PLACE] {
+        return Some(LOCATION_PLACE);
     }
-    LOCATION_PLACE
+    let over = values(e)
+        .iter()
+        .zip(values(s))
+        .position(|(x, y)| !leq_word(*x, *y))?;
+    Some(over + HEAD)
 }
 
 // Whether the word at a place tells the row e apart from s, a row of the same location.
@@ -289,11 +255,7 @@ pub fn told_apart(e: &[i32], s: &[i32], i: usize) -> bool
     requires { (length s.now ≡ length e.now) × (i < length e.now) }
     ensures { result ≡ (same_place e.now s.now && not (word_leq (word_at e.now i) (word_at s.now i))) }
 {
-    let l = e[LOCATION_PLACE];
-    let m = s[LOCATION_PLACE];
-    let x = e[i];
-    let y = s[i];
-    (l == m) & !leq_word(x, y)
+    (e[LOCATION_PLACE] == s[LOCATION_PLACE]) & !leq_word(e[i], s[i])
 }
 
 // Joins e into s, a row of the same location. Whether s is the same as before.
@@ -303,14 +265,10 @@ fn join_row(s: &mut [i32], e: &[i32]) -> bool
     ensures row { s.new ≡ row_join e.now s.old }
 {
     let mut same = true;
-    let mut i = HEAD;
-    while i < s.len() {
-        let x = e[i];
-        let y = s[i];
-        let z = join_word(x, y);
-        s[i] = z;
-        same = same & (z == y);
-        i += 1;
+    for i in HEAD..s.len() {
+        let joined = join_word(e[i], s[i]);
+        same &= joined == s[i];
+        s[i] = joined;
     }
     same
 }
@@ -321,10 +279,8 @@ pub fn merge_row(s: &mut [i32], e: &[i32]) -> bool
     ensures same { result ≡ same_words (row_merge e.now s.old) s.old }
     ensures row { s.new ≡ row_merge e.now s.old }
 {
-    let l = e[0];
-    let m = s[0];
-    if l == m {
-        return join_row(s, e);
+    if e[LOCATION_PLACE] != s[LOCATION_PLACE] {
+        return true;
     }
-    true
+    join_row(s, e)
 }

@@ -1,12 +1,10 @@
+-- `state::merge_row` meets its contract.
 use Rattle.semantics.proofs.Prelude.{◌≡◌, sym, false, rules}
-use Rattle.semantics.specs.Chart.{eq_z}
-use Rattle.semantics.specs.Encoding.{word_at}
+use Rattle.state.specs.Rows.{same_place}
 use Rattle.state.proofs.RowLoops.{same_refl}
 use Rattle.state.proofs.merge_row.Goals as goal
 
-pub returns : goal.returns
-returns c =
-    let e = c.args.e.now in
-    let s = c.args.s.now in
-    let ne : eq_z (word_at e 0) (word_at s 0) ≡ false = search rules in
-    record { same = rw ne (sym (same_refl s)); row = rw ne }
+pub returns-then-e-s-clause-same : goal.returns-then-e-s-clause-same
+returns-then-e-s-clause-same c =
+    let ne : same_place c.args.e.now c.args.s.now ≡ false = search rules in
+    rw ne (sym (same_refl c.args.s.now))
