@@ -34,15 +34,14 @@ pub fn merge_slots(
     ensures table { table.new ≡ rows_merge e.now layout used table.old }
     ensures waits { Stored list.new result (rewaits e.now 0 (rows_of layout used table.old) (waits waiting list.old)) }
 {
-    let width = e.len();
     let l = state::location_of(e);
     let mut count = waiting;
     let mut id = links::first(links, l);
+    // No index is counted: the ids go along the links.
     while id.is_below(used) {
         let slot = layout.slot(id);
         let at = state::location_of(state::row_of(layout, table, slot));
-        let from = slot.at;
-        let same = state::merge_row(&mut table[from..from + width], e);
+        let same = state::merge_row(&mut table[slot.at..slot.at + e.len()], e);
         count = waitlist::wait_unless(same, list, count, id);
         id = links::next(links, id, at, l);
     }
@@ -111,7 +110,7 @@ pub fn covered(layout: Layout, table: &[i32], used: usize, e: &[i32], links: &[u
         links,
     };
     let mut id = links::first(links, state::location_of(e));
-    // No index counted: the ids go along the links.
+    // No index is counted: the ids go along the links.
     while id.is_below(used) {
         let slot = layout.slot(id);
         match state::first_over(e, state::row_of(layout, table, slot)) {
@@ -136,7 +135,7 @@ pub fn store_slot(
 {
     let from = layout.slot(slot).at;
     let tail = from + e.len();
-    words::copy_words(&mut table[from..tail], e);
+    table[from..tail].copy_from_slice(e);
     state::set_origin(&mut table[tail..from + layout.stride], parent, edge);
 }
 
@@ -145,7 +144,6 @@ pub fn get_row(layout: Layout, table: &[i32], slot: SlotId, out: &mut [i32])
     requires { slot.0 * layout.stride + length out.old ≤ length table.now }
     ensures { out.new ≡ take (length out.old) (drop (slot.0 * layout.stride) table.now) }
 {
-    let width = out.len();
     let from = layout.slot(slot).at;
-    words::copy_words(out, &table[from..from + width]);
+    out.copy_from_slice(&table[from..from + out.len()]);
 }

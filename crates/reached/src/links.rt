@@ -38,7 +38,7 @@ fn place_for(slot: SlotId, last: SlotId, chain: usize) -> usize
     requires { slot.0 < index_limit }
     ensures { result ≡ pick (ltb last.0 slot.0) (next_place last.0) chain }
 {
-    if last.is_below(slot.0) {
+    if last < slot {
         return NEXTS + last.0;
     }
     chain

@@ -31,5 +31,5 @@ returns c =
     let o = c.set_origin in
     let at = c.slot-from.result.at in
     let place : at ≡ a.slot.0 * a.layout.stride = place_of a.layout c.slot-from.result c.slot-from.ensures.placed a.slot.0 c.slot-from.ensures.id in
-    twice_is a.table.now c.copy_words.new.dst at (length a.e.now) a.layout.stride (ap length c.copy_words.ensures) (omega (arith, place, c.requires.0)) c.requires.1 o.new.tail
-    ∙ (λ i. take (place i) a.table.now ++ ((c.copy_words.ensures i ++ o.ensures i) ++ drop a.layout.stride (drop (place i) a.table.now)))
+    twice_is a.table.now c.copy_from_slice.new.self at (length a.e.now) a.layout.stride (ap length c.copy_from_slice.ensures.after) (omega (arith, place, c.requires.0)) c.requires.1 o.new.tail
+    ∙ (λ i. take (place i) a.table.now ++ ((c.copy_from_slice.ensures.after i ++ o.ensures i) ++ drop a.layout.stride (drop (place i) a.table.now)))

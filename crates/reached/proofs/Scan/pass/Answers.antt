@@ -2,7 +2,6 @@
 use Rattle.semantics.proofs.Prelude.{◌≡◌, sym, ap, ◌∙◌, false, arith}
 use Rattle.state.specs.Rows.{row_leq, row_of}
 use Rattle.state.proofs.RowLoops.{apart_over}
-use Rattle.reached.specs.Reached.{lies_from}
 use Rattle.reached.proofs.SlotLoops.{slot_tested}
 use Rattle.reached.proofs.Scan.pass.Goals as goal
 
