@@ -59,31 +59,31 @@ with_counts a used waiting = record {
 
 -- no edge has ended the iteration so far
 abbrev pub went_on : ℕ → ℕ → Progress
-went_on used waiting = record { exit = On; edge = record { 0 = 0 }; used = used; waiting = waiting }
+went_on used waiting = record { exit = On; used = used; waiting = waiting }
 
 -- the edge g raises the alarm
 abbrev pub alarm_by : EdgeId → ℕ → ℕ → Progress
-alarm_by g used waiting = record { exit = Alarm; edge = g; used = used; waiting = waiting }
+alarm_by g used waiting = record { exit = Alarm g; used = used; waiting = waiting }
 
 -- a successor finds no slot
 abbrev pub table_full : ℕ → ℕ → Progress
-table_full used waiting = record { exit = Full; edge = record { 0 = 0 }; used = used; waiting = waiting }
+table_full used waiting = record { exit = Full; used = used; waiting = waiting }
 
 -- no further edge is played: an alarm, or a full table
 abbrev pub has_ended : Exit → Bool
 has_ended On = false
-has_ended Alarm = true
+has_ended (Alarm g) = true
 has_ended Full = true
 
--- how the edges ended, with rows and slots; n is the edge of an alarm
-abbrev pub out_by : Exit → ℕ → List (List ℤ) → List ℕ → Out (List ℤ)
-out_by On n en wa = on en wa
-out_by Alarm n en wa = alarmed n en wa
-out_by Full n en wa = full en wa
+-- how the edges ended, with rows and slots
+abbrev pub out_by : Exit → List (List ℤ) → List ℕ → Out (List ℤ)
+out_by On en wa = on en wa
+out_by (Alarm g) en wa = alarmed g.0 en wa
+out_by Full en wa = full en wa
 
 -- what words and counts say of the edges played so far
 abbrev pub out_of : Layout → List ℤ → List ℤ → Progress → Out (List ℤ)
-out_of y t l p = out_by p.exit p.edge.0 (rows_of y p.used t) (waits p.waiting l)
+out_of y t l p = out_by p.exit (rows_of y p.used t) (waits p.waiting l)
 
 -- ---- the end of an iteration
 

@@ -11,10 +11,11 @@ ghost use Rattle.progress.specs.Progress.{first_record, with_counts, went_on, al
 use semantics::{Analysis, EdgeId, Settings, SlotId, Verdict};
 
 // How the edges of an iteration, or some of them, end.
-#[derive(Clone, Copy)]
+#[derive(Clone, Copy, PartialEq, Eq)]
 pub enum Exit {
     On,
-    Alarm,
+    // By this edge.
+    Alarm(EdgeId),
     Full,
 }
 
@@ -23,19 +24,14 @@ impl Exit {
     pub fn has_ended(self) -> bool
         ensures { result ≡ has_ended self }
     {
-        match self {
-            Exit::On => false,
-            Exit::Alarm => true,
-            Exit::Full => true,
-        }
+        !matches!(self, Exit::On)
     }
 }
 
-// The state between two edges: how the last ended, the alarm's edge or 0, and the counts of slots in use and waiting.
+// The state between two edges: how the last ended, and the counts of slots in use and waiting.
 #[derive(Clone, Copy)]
 pub struct Progress {
     pub exit: Exit,
-    pub edge: EdgeId,
     pub used: usize,
     pub waiting: usize,
 }
@@ -46,24 +42,20 @@ pub struct Progress {
 fn first_verdict(error: bool) -> Verdict
     ensures { result ≡ first_verdict error }
 {
-    if error {
-        return Verdict::Alarm;
-    }
-    Verdict::Open
+    if error { Verdict::Alarm } else { Verdict::Open }
 }
 
 // The record of an analysis that starts: slot 0 is in use, so many wait.
 pub fn first_record(settings: Settings, capacity: u32, waiting: usize, error: bool) -> Analysis
     ensures { result ≡ first_record settings capacity waiting error }
 {
-    let verdict = first_verdict(error);
     Analysis {
         settings,
         capacity,
         iterations: 0,
         used: 1,
         waiting,
-        verdict,
+        verdict: first_verdict(error),
         edge: EdgeId(0),
     }
 }
@@ -74,10 +66,7 @@ pub fn first_record(settings: Settings, capacity: u32, waiting: usize, error: bo
 pub fn with_counts(a: Analysis, used: usize, waiting: usize) -> Analysis
     ensures { result ≡ with_counts a used waiting }
 {
-    let mut r = a;
-    r.used = used;
-    r.waiting = waiting;
-    r
+    Analysis { used, waiting, ..a }
 }
 
 // No edge so far has met an error or a full table.
@@ -86,7 +75,6 @@ pub fn went_on(used: usize, waiting: usize) -> Progress
 {
     Progress {
         exit: Exit::On,
-        edge: EdgeId(0),
         used,
         waiting,
     }
@@ -97,8 +85,7 @@ pub fn alarm_by(edge: EdgeId, used: usize, waiting: usize) -> Progress
     ensures { result ≡ alarm_by edge used waiting }
 {
     Progress {
-        exit: Exit::Alarm,
-        edge,
+        exit: Exit::Alarm(edge),
         used,
         waiting,
     }
@@ -110,7 +97,6 @@ pub fn table_full(used: usize, waiting: usize) -> Progress
 {
     Progress {
         exit: Exit::Full,
-        edge: EdgeId(0),
         used,
         waiting,
     }
@@ -123,9 +109,10 @@ fn verdict_of(waiting: usize) -> Verdict
     ensures { VerdictBy waiting result }
 {
     if waiting == 0 {
-        return Verdict::Safe;
+        Verdict::Safe
+    } else {
+        Verdict::Open
     }
-    Verdict::Open
 }
 
 // The record after one iteration more.
@@ -133,15 +120,13 @@ fn advanced(a: Analysis, used: usize, waiting: usize, verdict: Verdict, edge: Ed
     requires { a.iterations < most_iterations }
     ensures { result ≡ advanced a used waiting verdict edge }
 {
-    let settings = a.settings;
     Analysis {
-        settings,
-        capacity: a.capacity,
         iterations: a.iterations + 1,
         used,
         waiting,
         verdict,
         edge,
+        ..a
     }
 }
 
@@ -150,19 +135,11 @@ pub fn finish(a: Analysis, slot: SlotId, p: Progress, list: &mut [i32]) -> Analy
     requires { Admits list.old p.waiting slot.0 × (a.iterations < most_iterations) }
     ensures { Finished a slot.0 p list.old result list.new }
 {
-    let settings = a.settings;
-    let order = settings.order;
-    let count = p.waiting;
-    let exit = p.exit;
-    match exit {
-        Exit::On => advanced(a, p.used, count, verdict_of(count), EdgeId(0)),
-        Exit::Alarm => {
-            let back = waitlist::put_back(order, list, count, slot);
-            advanced(a, p.used, back, Verdict::Alarm, p.edge)
-        }
-        Exit::Full => {
-            let back = waitlist::put_back(order, list, count, slot);
-            advanced(a, p.used, back, Verdict::Full, EdgeId(0))
-        }
-    }
+    let (verdict, edge) = match p.exit {
+        Exit::On => return advanced(a, p.used, p.waiting, verdict_of(p.waiting), EdgeId(0)),
+        Exit::Alarm(edge) => (Verdict::Alarm, edge),
+        Exit::Full => (Verdict::Full, EdgeId(0)),
+    };
+    let waiting = waitlist::put_back(a.settings.order, list, p.waiting, slot);
+    advanced(a, p.used, waiting, verdict, edge)
 }
