@@ -11,6 +11,10 @@ use Rattle.checks.specs.Form.{InForm}
 use Rattle.checks.proofs.FormTests.{in_form}
 use Rattle.listing.specs.Views.{has_text, view_text, view_cases, view_outcome}
 
+-- an analysis that 20, 14 and 21 let pass is in form
+pub unrefused : (words : List ℤ) (m : Memory) → 0 ≡ refusal (form_of words m) → InForm words m
+unrefused words m e = let p = none_met (form_of words m) tt (sym e) in in_form words m p.0 p.1.0 p.1.1.0
+
 module _ (view : View) (words : List ℤ) (m : Memory) (space : List ℕ) where
   abbrev pub text : List ℕ
   text = view_text view (decode words) m

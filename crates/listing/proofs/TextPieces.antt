@@ -65,13 +65,9 @@ pub steps_turn : (f : ℕ → List ℕ) (ks : List ℕ) (i : ℕ) → i < length
 steps_turn f ks i h = rw (add-one, drop-cons ks i 0 h)
 
 module _ (c : Chart) (y : Layout) (o : LayoutOf c y) (t l : List ℤ) (a : Analysis) where
-  step_is : (s : ℕ) → s < a.used → step_text c (map nat_abs (take a.waiting l)) y t s ≡ path_line c (load c (lent t l a)) s
+  pub step_is : (s : ℕ) → s < a.used → step_text c (map nat_abs (take a.waiting l)) y t s ≡ path_line c (load c (lent t l a)) s
   unfolding load
   step_is s h = rw (← origins_say o a.used t, edge_get y a.used s t h, state_get c y o a.used s t h)
-
-  pub steps_are : (ks : List ℕ) → Every (λ s. s < a.used) ks → each (step_text c (map nat_abs (take a.waiting l)) y t) ks ≡ each (path_line c (load c (lent t l a))) ks
-  steps_are [] h = refl
-  steps_are (k ∷ ks) h = λ i. step_is k h.0 i ++ steps_are ks h.1 i
 
 -- ---- the marks
 

@@ -19,7 +19,6 @@ use Rattle.state.specs.Rows.{row_of, tail_of, origins_of}
 use Rattle.state.proofs.Layouts.{LayoutOf, slots_in, origins_say}
 use Rattle.waitlist.specs.Waits.{NextBy}
 use Rattle.checks.specs.Form.{InForm}
-use Rattle.listing.specs.Views.{Traceable}
 
 -- ---- the slots of a table by their number
 
@@ -131,16 +130,10 @@ module _ (words : List ℤ) (m : Memory) (f : InForm words m) where
       let waited = rw next.taken at (taken_waited m.analysis.settings.order (map nat_abs waiting)) in
       below_in m.analysis.used waiting (form (decode words) m f.analysis).slots k waited
 
-  -- following parents stays in the table and ends
-  pub traceable : (y : Layout) → LayoutOf (decode words) y → Traceable y m.analysis.used m.table
-  traceable y o =
+  -- following parents ends
+  pub falls_in : (y : Layout) → LayoutOf (decode words) y → Falls (origins_of y m.analysis.used m.table) m.analysis.used
+  falls_in y o =
       let c = decode words in
       let n = m.analysis.used in
-      let r = form c m f.analysis in
-      let few = leb→le n m.analysis.capacity r.used in
-      let falls = parents_fall c (locations (states_in c n m.table)) (origins_in c n m.table) r.origins in
-      record {
-        apart = omega (arith, o.wide, o.stride);
-        table = slots_in o n (length m.table) (omega (arith, f.table, mul-le-mul_right (stride c) few));
-        falls = λ s p h. rw (origins_say o n m.table) (falls s p (omega (arith, h, origins_count c n m.table)));
-      }
+      let falls = parents_fall c (locations (states_in c n m.table)) (origins_in c n m.table) (form c m f.analysis).origins in
+      λ s p h. rw (origins_say o n m.table) (falls s p (omega (arith, h, origins_count c n m.table)))

@@ -1,14 +1,11 @@
--- Listing and path as two views of what a memory holds, and what the way back along parents asks of a table. Assumes nothing.
+-- Listing and path as two views of what a memory holds. Assumes nothing.
 use Rattle.std.specs.Prelude.{Bool, true, not, List, [], ◌∷◌, ◌++◌, ℕ, ◌*◌, ◌≤◌, ◌<◌, ℤ, length}
 use Rattle.semantics.specs.declared.View.{View}
 use Rattle.semantics.specs.declared.View.TheVariants.{Listing, Path}
 use Rattle.semantics.specs.declared.Verdict.{Verdict}
 use Rattle.semantics.specs.Chart.{Chart}
 use Rattle.semantics.specs.Memory.{Memory, is_alarm}
-use Rattle.semantics.specs.Path.{parent_of}
 use Rattle.semantics.specs.Outcomes.{Outcome, Case, case, listing_cases, listing_of, path_of, listing_outcome, path_outcome}
-use Rattle.state.specs.declared.Layout.{Layout}
-use Rattle.state.specs.Rows.{width_of, origins_of}
 
 -- there is such a text at this verdict
 abbrev pub has_text : View → Verdict → Bool
@@ -28,9 +25,3 @@ view_cases view form v space_lent text = listing_cases (form ++ (case 24 (not (h
 abbrev pub view_outcome : View → List ℤ → Memory → List ℕ → Outcome
 view_outcome Listing words m space = listing_outcome words m space
 view_outcome Path words m space = path_outcome words m space
-
--- n slots in a table, of which each but slot 0 has a parent below it
-pub record Traceable (y : Layout) (n : ℕ) (t : List ℤ) : Type 0 where
-  pub apart : width_of y ≤ y.stride
-  pub table : n * y.stride ≤ length t
-  pub falls : (s : ℕ) → 0 < s → s < n → parent_of (origins_of y n t) s < s

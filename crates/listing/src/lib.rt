@@ -2,23 +2,21 @@
 // written as far as it fits and counted whole, so that one function measures a text and writes it.
 #![tactic(auto)]
 
-ghost use Rattle.std.specs.Prelude.{◌≡◌, true, false, ◌++◌, List, map, ℕ, ◌+◌, ◌*◌, ◌≤◌, ◌<◌, min, T, nat_abs, length, take, drop, set, replicate};
+ghost use Rattle.std.specs.Prelude.{◌≡◌, true, false, List, map, ℕ, ◌≤◌, ◌<◌, IfOk, T, nat_abs, length, take, drop, set, replicate};
 ghost use Rattle.semantics.specs.Layout.{most_slots};
-ghost use Rattle.semantics.specs.Lists.{each};
-ghost use Rattle.semantics.specs.Tidy.{Every};
 ghost use Rattle.semantics.specs.Text.{decimal};
 ghost use Rattle.semantics.specs.Encoding.{val, decode};
-ghost use Rattle.semantics.specs.Memory.{stride, state_in, states_in, origin_in, load, is_alarm};
-ghost use Rattle.semantics.specs.Listing.{mode_text, order_text, verdict_text, loc_text, val_text, mark, slot_text, slots_text, header_text};
-ghost use Rattle.semantics.specs.Path.{way_to, path_header, path_line};
-ghost use Rattle.semantics.specs.Outcomes.{refusal, listing_of, path_of, listing_outcome, path_outcome};
-ghost use Rattle.semantics.specs.Refusals.{listed_of};
-ghost use Rattle.state.specs.Rows.{width_of, row_of, tail_of, origins_of};
+ghost use Rattle.semantics.specs.Memory.{load, is_alarm};
+ghost use Rattle.semantics.specs.Listing.{mode_text, order_text, verdict_text, loc_text, val_text, mark, header_text};
+ghost use Rattle.semantics.specs.Path.{parent_of, way_to, path_header, path_line};
+ghost use Rattle.semantics.specs.Outcomes.{refusal, form_of, listing_of, path_of, listing_outcome, path_outcome};
+ghost use Rattle.semantics.specs.Refusals.{refusal_of, listed_of};
+ghost use Rattle.state.specs.Rows.{layout_of};
 ghost use Rattle.checks.specs.Form.{lent, InForm};
-ghost use Rattle.writer.specs.Writing.{Put, limit};
+ghost use Rattle.writer.specs.Writing.{Put};
 ghost use Rattle.writer.specs.Writers.{Writes};
 ghost use Rattle.listing.specs.Pieces.{tabbed, values_text, marked};
-ghost use Rattle.listing.specs.Views.{Traceable, has_text, view_text, view_outcome};
+ghost use Rattle.listing.specs.Views.{has_text, view_text, view_outcome};
 
 use chart::Chart;
 use semantics::{Analysis, LocationId, Mode, Order, Refusal, SlotId, Verdict, View};
@@ -40,7 +38,7 @@ pub fn put_number(out: &mut Writer, n: usize)
     out.decimal(n);
 }
 
-// ---- the first line of a listing
+// ---- the first lines
 
 // What a line says by a word.
 trait Word {
@@ -99,7 +97,17 @@ fn put_header(out: &mut Writer, a: Analysis)
     out.byte(semantics::LF);
 }
 
-// ---- a slot's line
+// The first line of a path.
+fn put_path_header(out: &mut Writer, a: Analysis)
+    ensures { Writes (path_header a.settings.merge a.edge.0) out.old out.new }
+{
+    out.bytes(b"path");
+    put_field(out, a.settings.merge.word());
+    put_number(out, a.edge.0);
+    out.byte(semantics::LF);
+}
+
+// ---- the fields of a slot's line
 
 // The name of a location, after its tab.
 pub fn put_name(out: &mut Writer, chart: &Chart, l: LocationId)
@@ -139,18 +147,6 @@ fn put_mark(out: &mut Writer, waiting: bool)
     put_field(out, if waiting { b"w" } else { b"-" });
 }
 
-// The line of a slot, whose words are the row.
-fn put_slot(out: &mut Writer, chart: &Chart, slot: SlotId, row: &[i32], waiting: bool)
-    requires { 1 ≤ length row.now }
-    ensures { Writes (slot_text (decode chart.now) slot.0 (state_in row.now) waiting) out.old out.new }
-{
-    out.decimal(slot.0);
-    put_name(out, chart, state::location_of(row));
-    put_values(out, state::values(row));
-    put_mark(out, waiting);
-    out.byte(semantics::LF);
-}
-
 // Marks a slot; none past the marks.
 fn set_mark(marks: &mut [bool], slot: usize)
     ensures { marks.new ≡ set marks.old slot true }
@@ -161,7 +157,7 @@ fn set_mark(marks: &mut [bool], slot: usize)
     }
 }
 
-// The slots of the list, marked.
+// Which slots are in the list.
 fn marks_of(list: &[i32]) -> [bool; semantics::MOST_SLOTS]
     ensures { result ≡ marked (replicate most_slots false) (map nat_abs list.now) }
 {
@@ -170,4 +166,206 @@ fn marks_of(list: &[i32]) -> [bool; semantics::MOST_SLOTS]
         set_mark(&mut marks, words::magnitude(*w));
     }
     marks
+}
+
+// ---- an analysis in form
+
+// The words of an analysis in form, how its slots stand in the table, and which of them wait.
+#[derive(Drop)]
+struct Held<'a> {
+    chart: Chart<'a>,
+    table: &'a [i32],
+    list: &'a [i32],
+    analysis: Analysis,
+    layout: Layout,
+    marks: [bool; semantics::MOST_SLOTS],
+    ghost in_form: { InForm chart (lent table.now list.now analysis) },
+    ghost laid: { layout ≡ layout_of chart },
+    ghost marked: { marks ≡ marked (replicate most_slots false) (map nat_abs (take analysis.waiting list.now)) },
+}
+
+impl<'a> Held<'a> {
+    ghost use Rattle.listing.specs.Shown.{memory, origins, slot_line};
+
+    // 20, 14, 21: the first that refuses.
+    fn new(
+        words: &'a [i32],
+        analysis: Analysis,
+        table: &'a [i32],
+        list: &'a [i32],
+    ) -> Result<Held<'a>, Refusal>
+        ensures refused { refusal_of result ≡ refusal (form_of words.now (lent table.now list.now analysis)) }
+        ensures chart { IfOk result (λ held. held.chart ≡ words.now) }
+        ensures memory { IfOk result (λ held. memory held ≡ lent table.now list.now analysis) }
+    {
+        let chart = checks::form_refusal(words, analysis, table, list)?;
+        let marks = marks_of(&list[..analysis.waiting]);
+        Ok(Held {
+            chart,
+            table,
+            list,
+            analysis,
+            layout: state::layout_of(words),
+            marks,
+        })
+    }
+
+    // The line of a slot.
+    #[tactic(auto, using(crate::proofs::Shown::in_table))]
+    fn put_slot(&self, out: &mut Writer, id: SlotId)
+        requires { id.0 < self.now.analysis.used }
+        ensures { Writes (slot_line self.now id.0) out.old out.new }
+    {
+        let row = state::row_of(self.layout, self.table, self.layout.slot(id));
+        out.decimal(id.0);
+        put_name(out, &self.chart, state::location_of(row));
+        put_values(out, state::values(row));
+        put_mark(out, self.marks[id.0]);
+        out.byte(semantics::LF);
+    }
+
+    // The listing: the first line, and the lines of the slots in use.
+    fn put_listing(&self, out: &mut Writer)
+        ensures { Writes (listing_of (decode self.now.chart) (memory self.now)) out.old out.new }
+    {
+        put_header(out, self.analysis);
+        for id in 0..self.analysis.used {
+            self.put_slot(out, SlotId(id));
+        }
+    }
+
+    // A slot's line after the edge that brought it.
+    #[tactic(auto, using(crate::proofs::Shown::in_table))]
+    fn put_step(&self, out: &mut Writer, id: SlotId)
+        requires { id.0 < self.now.analysis.used }
+        ensures { Writes (path_line (decode self.now.chart) (load (decode self.now.chart) (memory self.now)) id.0) out.old out.new }
+    {
+        let tail = state::tail_of(self.layout, self.table, self.layout.slot(id));
+        out.decimal(state::origin_edge(tail).0);
+        out.byte(semantics::TAB);
+        self.put_slot(out, id);
+    }
+
+    // The slot that it came from.
+    #[tactic(auto, using(crate::proofs::Shown::in_table))]
+    fn parent(&self, id: SlotId) -> SlotId
+        requires { id.0 < self.now.analysis.used }
+        ensures { result.0 ≡ parent_of (origins self.now) id.0 }
+    {
+        state::origin_parent(state::tail_of(self.layout, self.table, self.layout.slot(id)))
+    }
+
+    // The slots from slot 0 to the one given, each after its parent, at the end of the places lent; where they begin there.
+    fn trace_back(&self, to: SlotId, way: &mut [usize]) -> usize
+        requires { (to.0 < self.now.analysis.used) × (self.now.analysis.used ≤ length way.old) }
+        ensures inside { result ≤ length way.new }
+        ensures way { drop result way.new ≡ way_to (origins self.now) to.0 to.0 }
+    {
+        // A `for` over the places would be no plainer: they go down as the slots go up to slot 0, and the last place taken is the answer.
+        let mut at = way.len() - 1;
+        let mut slot = to;
+        way[at] = to.0;
+        while slot.0 != 0 {
+            slot = self.parent(slot);
+            at -= 1;
+            way[at] = slot.0;
+        }
+        at
+    }
+
+    // The path: its first line, and the lines of the slots from slot 0 to the one that is taken next.
+    fn put_path(&self, out: &mut Writer)
+        requires { T (is_alarm self.now.analysis.verdict) }
+        ensures { Writes (path_of (decode self.now.chart) (memory self.now)) out.old out.new }
+    {
+        put_path_header(out, self.analysis);
+        let waiting = &self.list[..self.analysis.waiting];
+        let taken = waitlist::next_slot(self.analysis.settings.order, waiting);
+        let mut way = [0usize; semantics::MOST_SLOTS];
+        let first = self.trace_back(taken, &mut way);
+        let slots = &way[first..];
+        for id in slots {
+            self.put_step(out, SlotId(*id));
+        }
+    }
+
+    fn put(&self, out: &mut Writer, view: View)
+        requires { T (has_text view self.now.analysis.verdict) }
+        ensures { Writes (view_text view (decode self.now.chart) (memory self.now)) out.old out.new }
+    {
+        match view {
+            View::Listing => self.put_listing(out),
+            View::Path => self.put_path(out),
+        }
+    }
+
+    // Writes the text as far as it fits, and answers how long it is.
+    fn write(&self, view: View, space: &mut [u8]) -> usize
+        requires { T (has_text view self.now.analysis.verdict) }
+        ensures { Put 0 (view_text view (decode self.now.chart) (memory self.now)) space.old space.new result }
+    {
+        let mut out = Writer::new(space);
+        self.put(&mut out, view);
+        out.at()
+    }
+}
+
+// Whether there is such a text: a path needs an alarm.
+fn has_text(view: View, verdict: Verdict) -> bool
+    ensures { result ≡ has_text view verdict }
+{
+    matches!(view, View::Listing) | matches!(verdict, Verdict::Alarm)
+}
+
+// ---- the public calls
+
+// Writes a text of an analysis and answers its length; or refuses and writes nothing, by the first of 20, 14, 21, of a path
+// 24, then 15.
+pub fn show(
+    view: View,
+    chart: &[i32],
+    a: Analysis,
+    table: &[i32],
+    list: &[i32],
+    space: &mut [u8],
+) -> Result<usize, Refusal>
+    ensures answer { listed_of result ≡ (view_outcome view chart.now (lent table.now list.now a) space.old).answer }
+    ensures space { space.new ≡ (view_outcome view chart.now (lent table.now list.now a) space.old).space }
+{
+    let held = Held::new(chart, a, table, list)?;
+    if !has_text(view, a.verdict) {
+        return Err(Refusal::NoAlarm);
+    }
+    if space.len() < semantics::LISTING_BYTES && space.len() < held.write(view, &mut []) {
+        return Err(Refusal::FewBytes);
+    }
+    Ok(held.write(view, space))
+}
+
+// The listing of an analysis.
+pub fn listing(
+    chart: &[i32],
+    a: Analysis,
+    table: &[i32],
+    list: &[i32],
+    space: &mut [u8],
+) -> Result<usize, Refusal>
+    ensures answer { listed_of result ≡ (listing_outcome chart.now (lent table.now list.now a) space.old).answer }
+    ensures space { space.new ≡ (listing_outcome chart.now (lent table.now list.now a) space.old).space }
+{
+    show(View::Listing, chart, a, table, list, space)
+}
+
+// The path to the alarm of an analysis.
+pub fn path(
+    chart: &[i32],
+    a: Analysis,
+    table: &[i32],
+    list: &[i32],
+    space: &mut [u8],
+) -> Result<usize, Refusal>
+    ensures answer { listed_of result ≡ (path_outcome chart.now (lent table.now list.now a) space.old).answer }
+    ensures space { space.new ≡ (path_outcome chart.now (lent table.now list.now a) space.old).space }
+{
+    show(View::Path, chart, a, table, list, space)
 }
