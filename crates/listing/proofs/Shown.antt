@@ -1,8 +1,7 @@
 -- What an analysis held in form says of its slots. Assumes nothing.
-use Rattle.semantics.proofs.Prelude.{◌≡◌, ap, ◌∙◌, Bool, false, List, map, ℕ, ◌+◌, ◌*◌, ◌≤◌, ◌<◌, mul-le-mul_right, arith, eqb, ℤ, nat_abs, length, take, get_or}
+use Rattle.semantics.proofs.Prelude.{◌≡◌, ap, ◌∙◌, Bool, false, List, ℕ, ◌+◌, ◌*◌, ◌≤◌, ◌<◌, mul-le-mul_right, arith, eqb, length, get_or}
 use Rattle.semantics.specs.Layout.{most_slots}
 use Rattle.semantics.specs.Lists.{some_of}
-use Rattle.semantics.specs.Chart.{Chart}
 use Rattle.semantics.specs.Encoding.{decode}
 use Rattle.semantics.specs.Memory.{stride}
 use Rattle.semantics.proofs.ListingShort.{few_used}

@@ -1,13 +1,12 @@
 -- The texts piece by piece: lines as their fields, and what one turn of each loop adds. Assumes nothing.
 use Rattle.semantics.proofs.Prelude.{◌≡◌, refl, sym, ap, subst, ◌∙◌, Bool, true, false, ◌||◌, or-true, or-false, List, [], ◌∷◌, ◌++◌, map, append_assoc, ℕ, suc, ◌+◌, ◌*◌, ◌≤◌, ◌<◌, add-one, arith, eqb-true, eqb-false, T, eqb, leb→le, ℤ, pos, nat_abs, length, get_or, set, take, drop, replicate, get_or-replicate, length-set, length-replicate, drop-cons, length-take-le, get_or-set_same, get_or-set_other}
 use Rattle.semantics.specs.Lists.{some_of, each}
-use Rattle.semantics.specs.Text.{bytes, decimal, line_of}
+use Rattle.semantics.specs.Text.{decimal, line_of}
 use Rattle.semantics.specs.Chart.{Chart}
 use Rattle.semantics.specs.Encoding.{val, word_at, count, decode}
 use Rattle.semantics.specs.Memory.{Memory, state_in, states_in, origin_in, load, analysis_ok}
 use Rattle.semantics.specs.Listing.{loc_text, mark, val_text, slot_text, slots_text, header_text, listing_text}
 use Rattle.semantics.specs.Path.{way_to, path_header, path_line, path_text}
-use Rattle.semantics.specs.Tidy.{Every}
 use Rattle.semantics.specs.declared.Analysis.{Analysis}
 use Rattle.semantics.proofs.MemoryInForm.{form, states_count}
 use Rattle.state.specs.declared.Layout.{Layout}

@@ -1,11 +1,11 @@
 -- The way to a slot, followed back from parent to parent, and the slots of a table that it names. Assumes nothing.
-use Rattle.semantics.proofs.Prelude.{◌≡◌, refl, sym, ap, ◌∙◌, List, [], ◌∷◌, ◌++◌, map, append_snoc, some, ℕ, zero, suc, ◌+◌, ◌-◌, ◌*◌, ◌≤◌, ◌<◌, zero-add, suc-mul, add-one, arith, T, eqb-suc-zero, leb→le, ltb→lt, mul-le-mul_right, ℤ, nat_abs, length, take, drop, get_or, set, drop-drop, drop-cons, drop-set-lt}
+use Rattle.semantics.proofs.Prelude.{◌≡◌, refl, sym, ap, ◌∙◌, List, [], ◌∷◌, ◌++◌, map, append_snoc, some, ℕ, zero, suc, ◌+◌, ◌-◌, ◌*◌, ◌≤◌, ◌<◌, zero-add, suc-mul, add-one, arith, T, eqb-suc-zero, ltb→lt, ℤ, nat_abs, length, take, drop, get_or, set, drop-drop, drop-cons, drop-set-lt}
 use Rattle.semantics.specs.Lists.{get}
 use Rattle.semantics.specs.Chart.{Chart}
 use Rattle.semantics.specs.declared.Verdict.{Verdict}
 use Rattle.semantics.specs.declared.Verdict.TheVariants.{Open, Safe, Alarm, Full}
 use Rattle.semantics.specs.Algorithm.{Origin}
-use Rattle.semantics.specs.Memory.{Memory, stride, state_in, states_in, origin_in, origins_in, locations, origins_ok, is_alarm, empty_if_safe}
+use Rattle.semantics.specs.Memory.{Memory, state_in, states_in, origin_in, origins_in, locations, origins_ok, is_alarm, empty_if_safe}
 use Rattle.semantics.specs.Encoding.{decode}
 use Rattle.semantics.specs.Path.{parent_of, edge_of, way_to}
 use Rattle.semantics.specs.Tidy.{Every}
@@ -16,7 +16,7 @@ use Rattle.semantics.proofs.MemoryInForm.{form, origins_count}
 use Rattle.semantics.proofs.PathShort.{taken_waited, below_in}
 use Rattle.state.specs.declared.Layout.{Layout}
 use Rattle.state.specs.Rows.{row_of, tail_of, origins_of}
-use Rattle.state.proofs.Layouts.{LayoutOf, slots_in, origins_say}
+use Rattle.state.proofs.Layouts.{LayoutOf, origins_say}
 use Rattle.waitlist.specs.Waits.{NextBy}
 use Rattle.checks.specs.Form.{InForm}
 

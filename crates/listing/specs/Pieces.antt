@@ -1,5 +1,5 @@
 -- The pieces of a listing as the code writes them: each field of a line with the tab before it. Assumes nothing.
-use Rattle.std.specs.Prelude.{Bool, true, List, [], ◌∷◌, ◌++◌, map, ℕ, ℤ, set}
+use Rattle.std.specs.Prelude.{Bool, true, List, [], ◌∷◌, map, ℕ, ℤ, set}
 use Rattle.semantics.specs.Lists.{each}
 use Rattle.semantics.specs.Encoding.{val}
 use Rattle.semantics.specs.Listing.{val_text}

@@ -1,5 +1,5 @@
 -- Listing and path as two views of what a memory holds. Assumes nothing.
-use Rattle.std.specs.Prelude.{Bool, true, not, List, [], ◌∷◌, ◌++◌, ℕ, ◌*◌, ◌≤◌, ◌<◌, ℤ, length}
+use Rattle.std.specs.Prelude.{Bool, true, not, List, [], ◌∷◌, ◌++◌, ℕ, ℤ}
 use Rattle.semantics.specs.declared.View.{View}
 use Rattle.semantics.specs.declared.View.TheVariants.{Listing, Path}
 use Rattle.semantics.specs.declared.Verdict.{Verdict}

@@ -2,7 +2,7 @@
 // written as far as it fits and counted whole, so that one function measures a text and writes it.
 #![tactic(auto)]
 
-ghost use Rattle.std.specs.Prelude.{◌≡◌, true, false, List, map, ℕ, ◌≤◌, ◌<◌, IfOk, T, nat_abs, length, take, drop, set, replicate};
+ghost use Rattle.std.specs.Prelude.{◌≡◌, true, false, not, ltb, List, map, ℕ, ◌≤◌, ◌<◌, IfOk, T, nat_abs, length, take, drop, set, replicate};
 ghost use Rattle.semantics.specs.Layout.{most_slots};
 ghost use Rattle.semantics.specs.Text.{decimal};
 ghost use Rattle.semantics.specs.Encoding.{val, decode};
@@ -13,7 +13,7 @@ ghost use Rattle.semantics.specs.Outcomes.{refusal, form_of, listing_of, path_of
 ghost use Rattle.semantics.specs.Refusals.{refusal_of, listed_of};
 ghost use Rattle.state.specs.Rows.{layout_of};
 ghost use Rattle.checks.specs.Form.{lent, InForm};
-ghost use Rattle.writer.specs.Writing.{Put};
+ghost use Rattle.writer.specs.Writing.{Put, limit};
 ghost use Rattle.writer.specs.Writers.{Writes};
 ghost use Rattle.listing.specs.Pieces.{tabbed, values_text, marked};
 ghost use Rattle.listing.specs.Views.{has_text, view_text, view_outcome};
@@ -98,12 +98,12 @@ fn put_header(out: &mut Writer, a: Analysis)
 }
 
 // The first line of a path.
-fn put_path_header(out: &mut Writer, a: Analysis)
-    ensures { Writes (path_header a.settings.merge a.edge.0) out.old out.new }
+fn put_path_header(out: &mut Writer, analysis: Analysis)
+    ensures { Writes (path_header analysis.settings.merge analysis.edge.0) out.old out.new }
 {
     out.bytes(b"path");
-    put_field(out, a.settings.merge.word());
-    put_number(out, a.edge.0);
+    put_field(out, analysis.settings.merge.word());
+    put_number(out, analysis.edge.0);
     out.byte(semantics::LF);
 }
 
@@ -199,14 +199,13 @@ impl<'a> Held<'a> {
         ensures memory { IfOk result (λ held. memory held ≡ lent table.now list.now analysis) }
     {
         let chart = checks::form_refusal(words, analysis, table, list)?;
-        let marks = marks_of(&list[..analysis.waiting]);
         Ok(Held {
             chart,
             table,
             list,
             analysis,
             layout: state::layout_of(words),
-            marks,
+            marks: marks_of(&list[..analysis.waiting]),
         })
     }
 
@@ -261,7 +260,7 @@ impl<'a> Held<'a> {
         ensures inside { result ≤ length way.new }
         ensures way { drop result way.new ≡ way_to (origins self.now) to.0 to.0 }
     {
-        // A `for` over the places would be no plainer: they go down as the slots go up to slot 0, and the last place taken is the answer.
+        // No plainer by a `for`: a place is taken for each slot until slot 0, and the last one taken is the answer.
         let mut at = way.len() - 1;
         let mut slot = to;
         way[at] = to.0;
@@ -308,6 +307,14 @@ impl<'a> Held<'a> {
         self.put(&mut out, view);
         out.at()
     }
+
+    // Whether the text fits into so many bytes; it is measured only where a text might not.
+    fn fits(&self, view: View, room: usize) -> bool
+        requires { T (has_text view self.now.analysis.verdict) × (room < limit) }
+        ensures { result ≡ not (ltb room (length (view_text view (decode self.now.chart) (memory self.now)))) }
+    {
+        semantics::LISTING_BYTES <= room || self.write(view, &mut []) <= room
+    }
 }
 
 // Whether there is such a text: a path needs an alarm.
@@ -336,7 +343,7 @@ pub fn show(
     if !has_text(view, a.verdict) {
         return Err(Refusal::NoAlarm);
     }
-    if space.len() < semantics::LISTING_BYTES && space.len() < held.write(view, &mut []) {
+    if !held.fits(view, space.len()) {
         return Err(Refusal::FewBytes);
     }
     Ok(held.write(view, space))

@@ -1,6 +1,5 @@
 -- `listing::marks_of` meets its contract. The invariant: setting the marks of the slots left gives those of the whole list.
-use Rattle.semantics.proofs.Prelude.{◌≡◌, map, nat_abs, length, drop}
-use Rattle.semantics.specs.Layout.{most_slots}
+use Rattle.semantics.proofs.Prelude.{◌≡◌, map, nat_abs, drop}
 use Rattle.listing.specs.Pieces.{marked}
 use Rattle.listing.proofs.marks_of.Given as goal
 

@@ -1,5 +1,5 @@
 -- `listing::put_name` meets its contract: with the bytes left, the name is written after the tab.
-use Rattle.semantics.proofs.Prelude.{◌≡◌, sym, ap, ◌∙◌, map, ◌≤◌, add-one, arith, pos, nat_abs, rules, length, get_or, length-map, get_or-map, drop_of_length-le, drop-cons}
+use Rattle.semantics.proofs.Prelude.{◌≡◌, sym, ap, ◌∙◌, map, ◌≤◌, add-one, pos, nat_abs, rules, length, get_or, length-map, get_or-map, drop_of_length-le, drop-cons}
 use Rattle.semantics.specs.Encoding.{decode}
 use Rattle.semantics.specs.Listing.{loc_text}
 use Rattle.chart.specs.Encoded.{byte_of}

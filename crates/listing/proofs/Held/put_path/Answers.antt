@@ -5,6 +5,7 @@ use Rattle.semantics.specs.Lists.{each}
 use Rattle.semantics.specs.Encoding.{decode}
 use Rattle.semantics.specs.Memory.{load}
 use Rattle.semantics.specs.Path.{way_to, path_line}
+use Rattle.semantics.specs.Tidy.{Every}
 use Rattle.semantics.proofs.MemoryInForm.{form}
 use Rattle.words.proofs.Rows.{tail}
 use Rattle.writer.proofs.Written.{writes_then, writes_same, one_more, all_put}
@@ -39,8 +40,9 @@ put_step-requires c =
     let first = c.trace_back-first.result in
     let long : length way ≡ most_slots = search rules in
     let is_way = part_of most_slots way (way_to (origins h) k k) first long c.trace_back-first.ensures.way in
-    let used = rw is_way (way_below (origins h) h.analysis.used (falls h) k k (next_used h.chart (memory h) h.in_form k c.next_slot-taken.ensures)) in
-    every_at (λ s. s < h.analysis.used) (take (most_slots - first) (drop first way)) c.loop-id.id-index used c.loop-id-test.true
+    let slots = take (most_slots - first) (drop first way) in
+    let used : Every (λ s. s < h.analysis.used) slots = rw is_way (way_below (origins h) h.analysis.used (falls h) k k (next_used h.chart (memory h) h.in_form k c.next_slot-taken.ensures)) in
+    every_at (λ s. s < h.analysis.used) slots c.loop-id.id-index used c.loop-id-test.true
 
 pub loop-id-preserved : goal.loop-id-preserved
 loop-id-preserved c = one_more c.loop-id.invariant (steps_turn _ _ c.loop-id.id-index c.loop-id-test.true) c.put_step.ensures

@@ -1,9 +1,9 @@
 -- `listing::Held::trace_back` meets its contract. The invariant: the way to the loop's slot, and what is written after that
 -- slot, are the whole. A slot is never above its place, since parents fall.
-use Rattle.semantics.proofs.Prelude.{◌≡◌, ◌∙◌, ◌-◌, ◌≤◌, ◌<◌, arith, length-set, get_or-set_same}
+use Rattle.semantics.proofs.Prelude.{◌∙◌, ◌-◌, ◌≤◌, ◌<◌, arith, length-set, get_or-set_same}
 use Rattle.semantics.specs.Path.{parent_of, way_to}
 use Rattle.listing.specs.Shown.{origins}
-use Rattle.listing.proofs.Ways.{traced_turn, traced_end}
+use Rattle.listing.proofs.Ways.{traced_turn}
 use Rattle.listing.proofs.Shown.{falls}
 use Rattle.listing.proofs.Held.trace_back.Goals as goal
 
