@@ -5,7 +5,7 @@ use Rattle.semantics.specs.Encoding.{encode}
 use Rattle.semantics.specs.Layout.{counts_size}
 use Rattle.chart.specs.Rows.{stored}
 use Rattle.reader.specs.ReadSoFar.{used_words, Rows}
-use Rattle.reader.specs.declared.tally.Tally.{Tally}
+use Rattle.reader.specs.declared.draft.Tally.{Tally}
 
 module _ {t : Tally} {rows : List ℤ} {c : Chart} (h : Rows t rows c) (room : used_words t ≤ length rows) where
   encode_length : length (encode c) ≡ used_words t + counts_size

@@ -14,7 +14,7 @@ use Rattle.chart.specs.Rows.{stored, rows_size, the_location}
 use Rattle.chart.proofs.Names.{other_name}
 use Rattle.chart.proofs.NameNumbers.{numbers_of}
 use Rattle.reader.specs.ReadSoFar.{used_words, numbers_at, Rows, as_locations, Names}
-use Rattle.reader.specs.declared.tally.Tally.{Tally}
+use Rattle.reader.specs.declared.draft.Tally.{Tally}
 use Rattle.reader.proofs.OneRowMore.{each_none, numbers_kept}
 
 same_sym : (m n : List ℕ) → same_bytes m n ≡ same_bytes n m
@@ -105,12 +105,12 @@ length_locations (n ∷ ns) = length-append (as_locations ns) (the_location fals
 
 module _ {n : ℕ} {ws : List ℤ} {ns : List (List ℕ)} (h : Names n ws ns) (name : List ℕ) (o : T (name_ok name)) where
   pub new_variable : (ws' : List ℤ) → ws' ≡ stored (location_size * n) (loc_words (the_location false name)) ws
-      → all (other_name (take (length ws' - location_size * n) (drop (location_size * n) ws'))) (several loc_in location_size n (take (length ws' - 0) ws')) ≡ all (λ m. not (same_bytes m name)) ns
+      → all (other_name (take (length ws' - location_size * n) (drop (location_size * n) ws'))) (several loc_in location_size n ws') ≡ all (λ m. not (same_bytes m name)) ns
   unfolding stored
   new_variable ws' w =
       let row = loc_words (the_location false name) in
       let rest = drop (length row) (drop (location_size * n) ws) in
       let e : ws' ≡ each loc_words (as_locations ns) ++ (row ++ rest) = w ∙ rw h.rows in
-      rw (tail ws' (location_size * n), tail ws' 0, e)
+      rw (tail ws' (location_size * n), e)
       (new_among [] (as_locations ns) (the_location false name) rest (rw (all_locations (λ (m : Loc). name_ok m.name) ns) h.named) o 0 n refl (h.count ∙ sym (length_locations ns)) (location_size * n) (omega arith)
       ∙ all_locations (λ (m : Loc). not (same_bytes m.name name)) ns)

@@ -1,18 +1,21 @@
 -- A line by its kind, and reading goes on by one line. Assumes nothing.
-use Rattle.semantics.proofs.Prelude.{◌≡◌, refl, ◌∙◌, Bool, true, false, List, map, ℕ, suc, ◌+◌, ◌-◌, ◌≤◌, ◌<◌, add-one, arith, length, take, drop, ℤ}
+use Rattle.semantics.proofs.Prelude.{◌≡◌, refl, sym, ap, ◌∙◌, Bool, true, false, List, map, ℕ, suc, ◌+◌, ◌-◌, ◌*◌, ◌≤◌, ◌<◌, add-one, arith, length, take, drop, ℤ}
 use Rattle.semantics.specs.Text.{bytes, same_bytes, lines, fields}
 use Rattle.semantics.specs.Reading.{fail, ok, nth, SoFar, nothing_read, var_line, loc_line, edge_line, judge, refused, at_end, judged}
 use Rattle.text.specs.Fields.{up_to}
 use Rattle.text.proofs.LineEnds.{lines_at, lines_done}
-use Rattle.text.specs.Places.{line_at, place_after}
-use Rattle.text.specs.declared.lines.Form.{Form}
-use Rattle.text.specs.declared.lines.Line.{Line}
-use Rattle.text.proofs.Places.{Lies, line_some}
-use Rattle.reader.specs.ReadSoFar.{LineJudged, goes_on, nothing_judged, Along, Through, Goes, StandsBy, Stands, FewOf, Judgeable}
-use Rattle.reader.specs.declared.Descent.{Descent}
-use Rattle.reader.specs.declared.tally.Tally.{Tally}
-use Rattle.reader.specs.declared.tally.Judgement.{Judgement}
-use Rattle.reader.specs.declared.tally.Judgement.TheVariants as judgement
+use Rattle.text.specs.Places.{end_of}
+use Rattle.text.specs.Lines.{Begins}
+use Rattle.text.specs.declared.line.Line.{Line}
+use Rattle.semantics.specs.Layout.{location_size}
+use Rattle.reader.specs.ReadSoFar.{Rows, lines_judged, nothing_counted}
+use Rattle.std.specs.Prelude.{⊤, Result, Ok, Err}
+use Rattle.semantics.specs.Refusals.{number_of}
+use Rattle.semantics.specs.declared.Refusal.{Refusal}
+use Rattle.semantics.specs.declared.RefusedAt.{RefusedAt}
+use Rattle.reader.specs.Drafts.{Holds, Grown, Through, LineJudged, LinesRead}
+use Rattle.reader.specs.declared.draft.Draft.{Draft}
+use Rattle.reader.specs.declared.draft.Tally.{Tally}
 
 -- ---- by the kind
 
@@ -52,52 +55,64 @@ judged_end text at n s h = rw (lines_done text at h)
 
 -- ---- where reading stands
 
-module _ {text : List ℕ} {at line : ℕ} {t : Tally} {rows names : List ℤ} (a : Along text at line t rows names) where
+-- so many lines are judged, and the reader is at the place `at`: what was read so far, and what is left
+pub record Along (text : List ℕ) (at line : ℕ) (d : Draft) : Type 0 where
+  pub read : SoFar
+  pub holds : Holds d read
+  pub counted : line ≤ at
+  pub is : lines_judged text ≡ judged (line + 1) read (map fields (lines (drop at text)))
+
+module _ {text : List ℕ} {at line : ℕ} {d : Draft} (a : Along text at line d) where
   -- the text is at its end
-  pub all_judged : length text ≤ at → Through text t rows
-  all_judged h = record { chart = a.read.chart; few = a.few; held = a.held; is = a.is ∙ judged_end text at (line + 1) a.read h }
+  pub all_judged : length text ≤ at → Through text d
+  all_judged h = record { read = a.read; holds = a.holds; is = a.is ∙ judged_end text at (line + 1) a.read h }
 
-  -- one line more
-  pub line_judged : {start end next : ℕ} {form : Form} → Lies text at start end next form → (r : Judgement) (rows' names' : List ℤ) → LineJudged r (judge a.read (fields (take (end - start) (drop start text)))) rows' names'
-      → StandsBy (goes_on r) text next (line + 1) r rows' names'
-  line_judged l (judgement.Refused k) rows' names' h = a.is ∙ judged_stop text at _ (line + 1) a.read l.here l.ends (rw l.begins at h)
-  line_judged l (judgement.Passed u) rows' names' h = record {
-    read = h.read;
-    few = h.few;
-    held = h.held;
-    names_held = h.names_held;
-    counted = omega (arith, a.counted, l.ends, l.on);
-    is = rw l.on (a.is ∙ judged_on text at _ (line + 1) a.read l.here l.ends (rw l.begins at h.is));
-  }
+  module _ {l : Line} {next : ℕ} (b : Begins text at l next) where
+    same : take (end_of text at - at) (drop at text) ≡ l.bytes.now
+    same = let k : end_of text at - at ≡ up_to 10 (drop at text) = omega arith in rw k (sym b.is)
 
-pub at_first : (text : List ℕ) (rows names : List ℤ) → Stands text 0 nothing_judged rows names
-at_first text rows names = record {
-  read = nothing_read;
-  few = record { vars = omega arith; locs = omega arith; edges = omega arith };
-  held = record { vars = refl; locs = refl; edges = refl; rows = refl; numbers = refl; named = tt };
-  names_held = record { count = refl; rows = refl; named = tt };
-  counted = omega arith;
-  is = refl;
+    -- one line more
+    pub line_refused : {n : ℕ} → judge a.read (fields l.bytes.now) ≡ fail n → lines_judged text ≡ refused n (line + 1)
+    line_refused h = a.is ∙ judged_stop text at (end_of text at) (line + 1) a.read b.here refl (rw same h)
+
+    pub line_grown : {d' : Draft} → Grown (judge a.read (fields l.bytes.now)) d' → Along text next (line + 1) d'
+    line_grown h = record {
+      read = h.read;
+      holds = h.holds;
+      counted = omega (arith, a.counted, b.on);
+      is = rw b.on (a.is ∙ judged_on text at (end_of text at) (line + 1) a.read b.here refl (rw same h.is));
+    }
+
+    -- by what is answered to the line, and of that to the lines
+    module _ (r : Result ⊤ Refusal) (m : Result ⊤ RefusedAt) (d' : Draft) (h : LineJudged r (judge a.read (fields l.bytes.now)) d')
+        (fine : (x : ⊤) → r ≡ Ok x → m ≡ Ok x) (bad : (e : Refusal) → r ≡ Err e → m ≡ Err (record { refusal = e; line = line + 1 })) where
+      pub lines_on : {x : ⊤} → m ≡ Ok x → Along text next (line + 1) d'
+      lines_on {x} is = by_answer r refl h where
+        by_answer : (q : Result ⊤ Refusal) → r ≡ q → LineJudged q (judge a.read (fields l.bytes.now)) d' → Along text next (line + 1) d'
+        by_answer (Ok y) e g = line_grown g
+        by_answer (Err y) e g = absurd (other (sym (bad y e) ∙ is)) where
+          other : {f : RefusedAt} → Err f ≡ Ok x → ⊥
+          other z = cc
+
+      pub lines_refused : {f : RefusedAt} → m ≡ Err f → LinesRead text (Err f) d'
+      lines_refused {f} is = by_answer r refl h where
+        by_answer : (q : Result ⊤ Refusal) → r ≡ q → LineJudged q (judge a.read (fields l.bytes.now)) d' → LinesRead text (Err f) d'
+        by_answer (Ok y) e g = absurd (other (sym (fine y e) ∙ is)) where
+          other : {x : ⊤} → Ok x ≡ Err f → ⊥
+          other z = cc
+        by_answer (Err y) e g = line_refused g ∙ ap (λ (f : RefusedAt). refused (number_of f.refusal) f.line) (same_error (sym (bad y e) ∙ is)) where
+          same_error : {g : RefusedAt} → ◌≡◌ {A = Result ⊤ RefusedAt} (Err g) (Err f) → g ≡ f
+          same_error z = cc
+
+pub at_first : (text : List ℕ) (d : Draft) → Holds d nothing_read → Along text 0 0 d
+at_first text d h = record { read = nothing_read; holds = h; counted = omega arith; is = refl }
+
+-- a draft that counts nothing holds nothing
+no_rows : (t : Tally) (rows : List ℤ) → t ≡ nothing_counted → Rows t rows nothing_read.chart
+no_rows t rows e = rw e (record { vars = refl; locs = refl; edges = refl; rows = refl; numbers = refl; named = tt })
+
+pub nothing_held : (d : Draft) → d.tally ≡ nothing_counted → Holds d nothing_read
+nothing_held d e = record {
+  rows = no_rows d.tally d.rows e;
+  names = record { count = ap (λ (t : Tally). t.vars) e; rows = ap (λ (t : Tally). take (location_size * t.vars) d.names) e; named = tt };
 }
-
-module _ (text : List ℕ) (at : ℕ) (rows names : List ℤ) where
-  few_now : (line : ℕ) (s : Judgement) → Goes text at line s rows names → FewOf s
-  few_now line (judgement.Refused k) h = absurd h
-  few_now line (judgement.Passed t) h = h.few
-
-  counted_now : (line : ℕ) (s : Judgement) → Goes text at line s rows names → line ≤ at
-  counted_now line (judgement.Refused k) h = absurd h
-  counted_now line (judgement.Passed t) h = h.counted
-
-  -- what `advance` asks
-  pub ready : (p : Descent) (l : Line) → l ≡ line_at text at → p.going ≡ true → Stands text at p rows names → Judgeable text p l
-  ready p l e g h = record { at = at; is = e; few = few_now p.line p.last (rw g at h); counted = counted_now p.line p.last (rw g at h) }
-
--- how many turns are left at most, in a text of n bytes
-abbrev pub turns : Bool → ℕ → ℕ → ℕ
-turns true n at = suc (n - at)
-turns false n at = 0
-
-pub fewer : (text : List ℕ) (at : ℕ) (b : Bool) → (b ≡ true → at < length text) → turns b (length text) (place_after (line_at text at) at) < turns true (length text) at
-fewer text at false h = omega arith
-fewer text at true h = rw (line_some text at (h refl) refl) (omega (arith, h refl))

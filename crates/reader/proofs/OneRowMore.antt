@@ -14,7 +14,7 @@ use Rattle.chart.specs.Encoded.{ranged, number_of}
 use Rattle.chart.specs.Rows.{stored, rows_size, the_location}
 use Rattle.chart.proofs.Storing.{stored_take, stored_past}
 use Rattle.reader.specs.ReadSoFar.{chart_rows, used_words, numbers_at, Rows, as_locations, Names}
-use Rattle.reader.specs.declared.tally.Tally.{Tally}
+use Rattle.reader.specs.declared.draft.Tally.{Tally}
 
 module _ {A : Type 0} (f : A → List ℤ) where
   each_snoc : (xs : List A) (x : A) → each f (xs ++ (x ∷ [])) ≡ each f xs ++ f x
@@ -39,31 +39,33 @@ numbers_kept {t} {ws} h a row w k fits = rw (w, a, stored_past (used_words t) ro
 -- ---- the rows
 
 module _ {t : Tally} {ws ws' : List ℤ} {at : ℕ} (s : SoFar) (h : Rows t ws s.chart) (a : at ≡ used_words t) where
-  pub rows_var : (name : List ℕ) (v : Var) → ws' ≡ stored at (var_words v) ws → t.locs ≡ 0 → t.edges ≡ 0 → used_words t + variable_size ≤ length ws
-      → Rows (record { vars = t.vars + 1; locs = 0; edges = 0 }) ws' (with_var s name v).chart
-  rows_var name v w l g fits = record {
+  pub rows_var : (name : List ℕ) (v : Var) → ws' ≡ stored at (var_words v) ws → t.locs ≡ 0 → t.edges ≡ 0 → used_words t + variable_size ≤ numbers_at → numbers_at ≤ length ws
+      → Rows (record { vars = t.vars + 1; locs = t.locs; edges = t.edges }) ws' (with_var s name v).chart
+  rows_var name v w l g few room =
+    let fits : used_words t + variable_size ≤ length ws = omega arith in
+    record {
     vars = omega (arith, h.vars, length_snoc s.chart.vars v);
-    locs = omega (arith, h.locs);
-    edges = omega (arith, h.edges);
+    locs = h.locs;
+    edges = h.edges;
     rows =
-        rows_more h a (var_words v) w fits (rows_size (t.vars + 1) 0 0) (omega arith)
+        rows_more h a (var_words v) w fits (rows_size (t.vars + 1) t.locs t.edges) (omega arith)
         ∙ rw (each_none loc_words s.chart.locs (omega (arith, h.locs)), each_none edge_words s.chart.edges (omega (arith, h.edges)), each_snoc var_words s.chart.vars v) (simp append-nil);
-    numbers = rw l at h.numbers;
+    numbers = numbers_kept h a (var_words v) w (omega arith) room;
     named = h.named;
   }
 
   -- the number of its name is stored too
   pub rows_loc : (l : Loc) → ws' ≡ stored at (loc_words l) ws → T (name_ok l.name) → t.edges ≡ 0 → {z : ℤ} → z ≡ number_of l → (used_words t + location_size ≤ numbers_at) × (numbers_at ≤ length ws) × (numbers_at + t.locs < length ws')
-      → Rows (record { vars = t.vars; locs = t.locs + 1; edges = 0 }) (set ws' (numbers_at + t.locs) z) (with_loc s l).chart
+      → Rows (record { vars = t.vars; locs = t.locs + 1; edges = t.edges }) (set ws' (numbers_at + t.locs) z) (with_loc s l).chart
   rows_loc l w o g {z} e fits =
       let n = loc_wide l o in
       record {
         vars = h.vars;
         locs = omega (arith, h.locs, length_snoc s.chart.locs l);
-        edges = omega (arith, h.edges);
+        edges = h.edges;
         rows =
-            take-set-le (rows_size t.vars (t.locs + 1) 0) ws' (numbers_at + t.locs) z (omega arith)
-            ∙ rows_more h a (loc_words l) w (omega arith) (rows_size t.vars (t.locs + 1) 0) (omega arith)
+            take-set-le (rows_size t.vars (t.locs + 1) t.edges) ws' (numbers_at + t.locs) z (omega arith)
+            ∙ rows_more h a (loc_words l) w (omega arith) (rows_size t.vars (t.locs + 1) t.edges) (omega arith)
             ∙ rw (each_none edge_words s.chart.edges (omega (arith, h.edges)), each_snoc loc_words s.chart.locs l) (simp (append-nil, append_assoc));
         numbers =
             rw (drop-set-add numbers_at ws' t.locs z, add-one t.locs, take-suc-set (drop numbers_at ws') t.locs z (simp length-drop (omega arith)), e, numbers_kept h a (loc_words l) w (omega arith) (omega arith))

@@ -1,6 +1,6 @@
 -- The words that the code reads of a line are those of the variable, location or edge that the definitions read.
 -- Assumes nothing.
-use Rattle.semantics.proofs.Prelude.{◌≡◌, refl, sym, ap, ◌∙◌, true, false, ◌&&◌, List, ℕ, ◌<◌, ◌≤◌, arith, eqb, leb, ltb→lt, length, ℤ, le_z, lt-ltb, le-ltb}
+use Rattle.semantics.proofs.Prelude.{◌≡◌, ◌⊎◌, inl, inr, refl, sym, ap, ◌∙◌, true, false, ◌&&◌, List, ℕ, ◌<◌, ◌≤◌, arith, eqb, leb, ltb→lt, length, ℤ, le_z, lt-ltb, le-ltb}
 use Rattle.semantics.specs.Lists.{is_empty}
 use Rattle.semantics.specs.Layout.{most_variables, most_locations, most_edges}
 use Rattle.semantics.specs.Chart.{Var, input, Edge, Op, Chart, in_range}
@@ -10,11 +10,11 @@ use Rattle.semantics.proofs.ReadInBounds.{location_is, target_below, ok_parts}
 use Rattle.chart.specs.Encoded.{ranged}
 use Rattle.text.specs.Fields.{the_word}
 use Rattle.text.specs.declared.Action.TheVariants as action
-use Rattle.text.specs.declared.OpWord.{OpWord as CodeOpWord}
-use Rattle.text.specs.declared.OpWord.TheVariants as word_of
-use Rattle.reader.specs.Lines.{input_read, op_read, edge_read, var_judged, var_named, loc_judged, loc_named, edge_worded}
+use Rattle.std.specs.Prelude.{Option as Answer, Some, None}
+use Rattle.text.specs.declared.Action.{Action}
+use Rattle.reader.specs.Lines.{input_fields, op_read, edge_fields, edge_read, var_judged, var_named, loc_judged, loc_named, edge_worded}
 use Rattle.reader.specs.ReadSoFar.{Rows}
-use Rattle.reader.specs.declared.tally.Tally.{Tally}
+use Rattle.reader.specs.declared.draft.Tally.{Tally}
 use Rattle.reader.proofs.OneRowMore.{range_held}
 use Rattle.semantics.proofs.AtAndIn.{none_empty_list, some_list}
 use Rattle.text.proofs.FieldTests.{then_fail, then_ok}
@@ -24,43 +24,46 @@ use Rattle.reader.proofs.CheckSteps.{check_no, check_yes, step_by_step}
 
 -- by the ranges in the rows, and by those of the variables
 module _ (rows : List ℤ) (vars : List Var) (ranges : (k : ℕ) (z : ℤ) → k < length vars → ranged rows k z ≡ in_range vars k z) where
-  input_held : (t : Res ℕ) → ((v : ℕ) → t ≡ ok v → v < length vars) → (r q : Res ℤ)
-      → if_ok t (λ v. input_read rows v r q)
-      ≡ if_ok t (λ v. if_ok r (λ p. check (in_range vars v p) 7 (if_ok q (λ z. check (in_range vars v z && le_z p z) 7 (ok (input v p z))))))
+  input_held : (t : Res ℕ) → ((v : ℕ) → t ≡ ok v → v < length vars) → (f g : List ℕ)
+      → if_ok t (λ v. input_fields rows v f g)
+      ≡ if_ok t (λ v. if_ok (number_field f) (λ p. check (in_range vars v p) 7 (if_ok (number_field g) (λ z. check (in_range vars v z && le_z p z) 7 (ok (input v p z))))))
   unfolding if_ok
-  input_held (fail n) b r q = refl
-  input_held (ok v) b (fail n) q = refl
-  input_held (ok v) b (ok p) (fail n) = rw (ranges v p (b v refl))
-  input_held (ok v) b (ok p) (ok z) = rw (ranges v p (b v refl), ranges v z (b v refl))
+  input_held (fail n) b f g = refl
+  input_held (ok v) b f g = by_field (number_field f) (number_field g) where
+    by_field : (r q : Res ℤ) → if_ok r (λ p. check (ranged rows v p) 7 (if_ok q (λ z. check (ranged rows v z && le_z p z) 7 (ok (input v p z)))))
+        ≡ if_ok r (λ p. check (in_range vars v p) 7 (if_ok q (λ z. check (in_range vars v z && le_z p z) 7 (ok (input v p z)))))
+    by_field (fail n) q = refl
+    by_field (ok p) (fail n) = rw (ranges v p (b v refl))
+    by_field (ok p) (ok z) = rw (ranges v p (b v refl), ranges v z (b v refl))
 
-op_held : (rows : List ℤ) (c : Chart) → ((k : ℕ) (z : ℤ) → k < length c.vars → ranged rows k z ≡ in_range c.vars k z) → (w : CodeOpWord) (fs : List (List ℕ))
+op_held : (rows : List ℤ) (c : Chart) → ((k : ℕ) (z : ℤ) → k < length c.vars → ranged rows k z ≡ in_range c.vars k z) → (w : Answer Action) (fs : List (List ℕ))
     → op_read rows (length c.vars) w fs ≡ op_fields_read c (the_word w) fs
 unfolding op_fields_read
-op_held rows c ranges word_of.Skip fs = refl
-op_held rows c ranges (word_of.With action.Set) fs = refl
-op_held rows c ranges (word_of.With (action.Compute arithmetic.Add)) fs = refl
-op_held rows c ranges (word_of.With (action.Compute arithmetic.Sub)) fs = refl
-op_held rows c ranges (word_of.With action.In) fs =
+op_held rows c ranges None fs = refl
+op_held rows c ranges (Some action.Set) fs = refl
+op_held rows c ranges (Some (action.Compute arithmetic.Add)) fs = refl
+op_held rows c ranges (Some (action.Compute arithmetic.Sub)) fs = refl
+op_held rows c ranges (Some action.In) fs =
     let n = length c.vars in
-    input_held rows c.vars ranges (target_field n (nth fs 4)) (λ v e. ltb→lt v n (target_below n (nth fs 4) v e)) (number_field (nth fs 5)) (number_field (nth fs 6))
-op_held rows c ranges (word_of.With action.If) fs = refl
+    input_held rows c.vars ranges (target_field n (nth fs 4)) (λ v e. ltb→lt v n (target_below n (nth fs 4) v e)) (nth fs 5) (nth fs 6)
+op_held rows c ranges (Some action.If) fs = refl
 
 -- ---- edges
 
 -- a line with as many fields as it is to have
-pub edge_counted : {t : Tally} {ws : List ℤ} (s : SoFar) → Rows t ws s.chart → (w : CodeOpWord) (fs : List (List ℕ)) → eqb (length fs) (field_count (the_word w)) ≡ true
+pub edge_counted : {t : Tally} {ws : List ℤ} (s : SoFar) → Rows t ws s.chart → (w : Answer Action) (fs : List (List ℕ)) → eqb (length fs) (field_count (the_word w)) ≡ true
     → edge_worded s (the_word w) fs ≡ if_ok (edge_read t.locs (op_read ws t.vars w fs) fs) (λ g. ok (with_edge s g))
 edge_counted {t} {ws} s h w fs e = check_yes _ _ e ∙ rw (h.vars, h.locs, op_held ws s.chart (λ k z l. range_held h k z (omega (arith, h.vars))) w fs)
 
 -- an edge's locations are among those of the chart
-pub edge_near : (m : ℕ) (r : Res Op) (fs : List (List ℕ)) {g : Edge} → edge_read m r fs ≡ ok g → (g.from < m) × (g.to < m)
-edge_near m r fs {g} e =
-    let f = ok_parts _ _ e in
-    let t = ok_parts _ _ f.2 in
-    let o = ok_parts _ _ t.2 in
-    let p : f.0 ≡ g.from = cc o.2 in
-    let q : t.0 ≡ g.to = cc o.2 in
-    (omega (arith, ltb→lt f.0 m (location_is m (nth fs 1) f.0 f.1)), omega (arith, ltb→lt t.0 m (location_is m (nth fs 2) t.0 t.1)))
+pub edge_near : (m : ℕ) (r : Res Op) (f h : List ℕ) {g : Edge} → edge_fields m r f h ≡ ok g → (g.from < m) × (g.to < m)
+edge_near m r f h {g} e =
+    let from = ok_parts _ _ e in
+    let to = ok_parts _ _ from.2 in
+    let o = ok_parts _ _ to.2 in
+    let p : from.0 ≡ g.from = cc o.2 in
+    let q : to.0 ≡ g.to = cc o.2 in
+    (omega (arith, ltb→lt from.0 m (location_is m f from.0 from.1)), omega (arith, ltb→lt to.0 m (location_is m h to.0 to.1)))
 
 -- ---- lines
 
@@ -108,17 +111,14 @@ module _ (s : SoFar) (fs : List (List ℕ)) {t : Tally} {ws : List ℤ} (h : Row
         ∙ sym (simp step_by_step)
 
   -- a variable
-  pub var_after_loc : (t.locs ≡ 0 → ⊥) → var_line s fs ≡ fail 4
+  pub var_late : (t.locs ≡ 0 → ⊥) ⊎ ((t.locs ≡ 0) × (t.edges ≡ 0 → ⊥)) → var_line s fs ≡ fail 4
   unfolding var_line
-  var_after_loc n = check_no _ _ (rw (some_list s.chart.locs (omega (arith, h.locs, n))))
+  var_late (inl n) = check_no _ _ (rw (some_list s.chart.locs (omega (arith, h.locs, n))))
+  var_late (inr n) = check_no _ _ (rw (none_empty_list s.chart.locs (omega (arith, h.locs, n.0)), some_list s.chart.edges (omega (arith, h.edges, n.1))))
 
   module _ (l : t.locs ≡ 0) where
     no_locs : is_empty s.chart.locs ≡ true
     no_locs = none_empty_list s.chart.locs (omega (arith, h.locs, l))
-
-    pub var_after_edge : (t.edges ≡ 0 → ⊥) → var_line s fs ≡ fail 4
-    unfolding var_line
-    var_after_edge n = check_no _ _ (rw (no_locs, some_list s.chart.edges (omega (arith, h.edges, n))))
 
     module _ (e : t.edges ≡ 0) where
       early : (is_empty s.chart.locs && is_empty s.chart.edges) ≡ true

@@ -1,36 +1,30 @@
 -- The parts of the definitions of a V, an L and an E line, as the code judges them one after the other. Assumes
 -- nothing.
-use Rattle.std.specs.Prelude.{Bool, ◌&&◌, not, List, ℕ, eqb, length, ℤ}
+use Rattle.std.specs.Prelude.{Bool, ◌&&◌, not, List, ℕ, eqb, length, ℤ, Option, Some, None}
 use Rattle.std.specs.Int.Signed.{le_z}
 use Rattle.semantics.specs.Lists.{all}
 use Rattle.semantics.specs.Text.{same_bytes, name_ok}
-use Rattle.semantics.specs.Chart.{Var, Operand, Rel, Op, assign, input, assume, skip, Edge}
+use Rattle.semantics.specs.Chart.{Var, Op, assign, input, assume, skip, Edge}
 use Rattle.semantics.specs.Operations.{the_sum}
 use Rattle.semantics.specs.Reading.{Res, ok, check, if_ok, nth, filled, number_field, location_field, target_field, operand_field, init_field, kind_field, rel_field, OpWord, field_count, op_fields_read, SoFar, with_var, with_loc, with_edge}
-use Rattle.semantics.specs.declared.Arithmetic.{Arithmetic}
 use Rattle.chart.specs.Encoded.{ranged}
 use Rattle.text.specs.declared.Action.{Action}
 use Rattle.text.specs.declared.Action.TheVariants as action
-use Rattle.text.specs.declared.OpWord.{OpWord as CodeOpWord}
-use Rattle.text.specs.declared.OpWord.TheVariants as word_of
 
 -- ---- `V name lo hi init`
 
--- the last field, after lo and hi
-abbrev pub var_init : ℤ → ℤ → List ℕ → Res Var
-var_init lo hi f = if_ok (init_field lo hi f) λ x. ok (record { lo = lo; hi = hi; init = x })
-
--- the fields from hi on
-abbrev pub var_high : ℤ → List (List ℕ) → Res Var
-var_high lo fs = if_ok (number_field (nth fs 3)) λ hi. check (le_z lo hi) 7 (var_init lo hi (nth fs 4))
-
--- the fields from lo on
-abbrev pub var_low : List (List ℕ) → Res Var
-var_low fs = if_ok (number_field (nth fs 2)) λ lo. var_high lo fs
+-- the name, then the numbers
+abbrev pub var_fields : List ℕ → List ℕ → List ℕ → List ℕ → Res Var
+var_fields name lo hi init =
+    check (name_ok name) 6
+    (if_ok (number_field lo) λ l.
+    if_ok (number_field hi) λ h.
+    check (le_z l h) 7
+    (if_ok (init_field l h init) λ x. ok (record { lo = l; hi = h; init = x })))
 
 -- all the fields
 abbrev pub var_judged : List (List ℕ) → Res Var
-var_judged fs = check (filled 5 fs) 5 (check (name_ok (nth fs 1)) 6 (var_low fs))
+var_judged fs = check (filled 5 fs) 5 (var_fields (nth fs 1) (nth fs 2) (nth fs 3) (nth fs 4))
 
 -- the name is looked for last
 abbrev pub var_named : SoFar → List ℕ → Var → Res SoFar
@@ -48,53 +42,31 @@ loc_named s name k = check (all (λ m. not (same_bytes m.name name)) s.chart.loc
 
 -- ---- `E from to operation ...`. The range of `in`'s target is looked up in the rows
 
--- the operand of `set`
-abbrev pub set_read : ℕ → Res Operand → Res Op
-set_read v r = if_ok r λ a. ok (assign v a)
-
--- the operands of `add` and `sub`
-abbrev pub sum_read : Arithmetic → ℕ → Res Operand → Res Operand → Res Op
-sum_read s v r q = if_ok r λ a. if_ok q λ b. ok (the_sum s v a b)
-
--- q of `in`, after p
-abbrev pub input_high_read : List ℤ → ℕ → ℤ → Res ℤ → Res Op
-input_high_read rows v p r = if_ok r λ q. check (ranged rows v q && le_z p q) 7 (ok (input v p q))
-
 -- p and q of `in`
-abbrev pub input_read : List ℤ → ℕ → Res ℤ → Res ℤ → Res Op
-input_read rows v r q = if_ok r λ p. check (ranged rows v p) 7 (input_high_read rows v p q)
+abbrev pub input_fields : List ℤ → ℕ → List ℕ → List ℕ → Res Op
+input_fields rows v f g =
+    if_ok (number_field f) λ p. check (ranged rows v p) 7
+    (if_ok (number_field g) λ q. check (ranged rows v q && le_z p q) 7 (ok (input v p q)))
 
--- relation and operand of `if`
-abbrev pub assume_read : ℕ → Res Rel → Res Operand → Res Op
-assume_read v r q = if_ok r λ x. if_ok q λ a. ok (assume v x a)
-
--- the fields after the target v, with n variables
-abbrev pub after_target : List ℤ → ℕ → Action → ℕ → List (List ℕ) → Res Op
-after_target rows n action.Set v fs = set_read v (operand_field n (nth fs 5))
-after_target rows n (action.Compute s) v fs = sum_read s v (operand_field n (nth fs 5)) (operand_field n (nth fs 6))
-after_target rows n action.In v fs = input_read rows v (number_field (nth fs 5)) (number_field (nth fs 6))
-after_target rows n action.If v fs = assume_read v (rel_field (nth fs 5)) (operand_field n (nth fs 6))
-
--- the fields from the target on
-abbrev pub targeted : List ℤ → ℕ → Action → List (List ℕ) → Res Op
-targeted rows n w fs = if_ok (target_field n (nth fs 4)) λ v. after_target rows n w v fs
+-- the two fields after the target v, with n variables
+abbrev pub op_fields : List ℤ → ℕ → Action → ℕ → List ℕ → List ℕ → Res Op
+op_fields rows n action.Set v f g = if_ok (operand_field n f) λ a. ok (assign v a)
+op_fields rows n (action.Compute s) v f g = if_ok (operand_field n f) λ a. if_ok (operand_field n g) λ b. ok (the_sum s v a b)
+op_fields rows n action.In v f g = input_fields rows v f g
+op_fields rows n action.If v f g = if_ok (rel_field f) λ x. if_ok (operand_field n g) λ a. ok (assume v x a)
 
 -- the operation
-abbrev pub op_read : List ℤ → ℕ → CodeOpWord → List (List ℕ) → Res Op
-op_read rows n word_of.Skip fs = ok skip
-op_read rows n (word_of.With a) fs = targeted rows n a fs
+abbrev pub op_read : List ℤ → ℕ → Option Action → List (List ℕ) → Res Op
+op_read rows n None fs = ok skip
+op_read rows n (Some a) fs = if_ok (target_field n (nth fs 4)) λ v. op_fields rows n a v (nth fs 5) (nth fs 6)
 
--- the edge, from its operation
-abbrev pub with_op : ℕ → ℕ → Res Op → Res Edge
-with_op from to r = if_ok r λ o. ok (record { from = from; to = to; op = o })
+-- the locations, of m, in two fields, then the operation
+abbrev pub edge_fields : ℕ → Res Op → List ℕ → List ℕ → Res Edge
+edge_fields m r f g = if_ok (location_field m f) λ from. if_ok (location_field m g) λ to. if_ok r λ o. ok (record { from = from; to = to; op = o })
 
--- the fields from `to` on, with m locations
-abbrev pub with_from : ℕ → ℕ → Res Op → List (List ℕ) → Res Edge
-with_from from m r fs = if_ok (location_field m (nth fs 2)) λ to. with_op from to r
-
--- the fields from `from` on, with m locations
+-- the same of a line's fields
 abbrev pub edge_read : ℕ → Res Op → List (List ℕ) → Res Edge
-edge_read m r fs = if_ok (location_field m (nth fs 1)) λ from. with_from from m r fs
+edge_read m r fs = edge_fields m r (nth fs 1) (nth fs 2)
 
 -- a line whose operation is known: 5 by its count, then its fields
 abbrev pub edge_worded : SoFar → OpWord → List (List ℕ) → Res SoFar

@@ -1,73 +1,68 @@
 // `L name kind`: the line is judged, and its row stored.
-ghost use Rattle.std.specs.Prelude.{◌≡◌, T, List, ◌<◌, ℤ, length};
+ghost use Rattle.std.specs.Prelude.{◌≡◌, T, ◌<◌};
 ghost use Rattle.semantics.specs.Layout.{most_locations};
 ghost use Rattle.semantics.specs.Text.{fields, name_ok};
 ghost use Rattle.semantics.specs.Reading.{SoFar, loc_line};
-ghost use Rattle.text.specs.Fields.{kind_res, field_at};
-ghost use Rattle.text.specs.Places.{form_of};
+ghost use Rattle.text.specs.Fields.{field_at, res};
 ghost use Rattle.reader.specs.Lines.{loc_judged, loc_named};
-ghost use Rattle.reader.specs.ReadSoFar.{Few, Rows, Names, LineJudged, most_rows};
+ghost use Rattle.reader.specs.Drafts.{Holds, LineJudged};
 
-use super::tally::{Judgement, NUMBERS_PLACE, Tally, used_words};
-use semantics::MOST_LOCATIONS;
+use super::draft::{Draft, NUMBERS_PLACE};
+use semantics::{MOST_LOCATIONS, Refusal};
 use text::Field;
-use text::lines::Form;
+use text::line::Line;
 
 // All the fields: their count, then the name, then the kind, which is the answer.
-fn judged(line: &[u8], form: Form, name: Field) -> text::KindRead
-    requires { (form ≡ form_of line.now) × (name ≡ field_at line.now 1) }
-    ensures { kind_res result ≡ loc_judged (fields line.now) }
+fn judged(line: &Line, name: Field) -> Result<bool, Refusal>
+    requires { name ≡ field_at line.now.bytes.now 1 }
+    ensures { res result ≡ loc_judged (fields line.now.bytes.now) }
 {
-    if !form.has(3) {
-        return text::KindRead::Refused(5);
+    if !line.form.has(3) {
+        return Err(Refusal::WrongFields);
     }
-    if !text::name_ok(text::field_bytes(line, name)) {
-        return text::KindRead::Refused(6);
+    if !text::name_ok(text::field_bytes(line.bytes, name)) {
+        return Err(Refusal::Malformed);
     }
-    let kind = text::field_after(line, name);
-    text::kind_field(text::field_bytes(line, kind))
+    let kind = text::field_after(line.bytes, name);
+    text::kind_field(text::field_bytes(line.bytes, kind))
 }
 
 // A location, if its name is new; the name's number is kept, so that it is computed once.
-fn named(t: Tally, rows: &mut [i32], error: bool, name: &[u8]) -> Judgement
-    requires { T (name_ok name.now) × Few t × (t.locs < most_locations) × (t.edges ≡ 0) × (length rows.old ≡ most_rows) }
-    ensures { (s : SoFar) (names : List ℤ) → Rows t rows.old s.chart → Names t.vars names s.names → LineJudged result (loc_named s name.now error) rows.new names }
+fn named(draft: &mut Draft, error: bool, name: &[u8]) -> Result<(), Refusal>
+    requires { T (name_ok name.now) × (draft.old.tally.locs < most_locations) × (draft.old.tally.edges ≡ 0) }
+    ensures { (s : SoFar) → Holds draft.old s → LineJudged result (loc_named s name.now error) draft.new }
 {
-    let first = chart::rows_size(t.vars, 0, 0);
-    let at = used_words(t);
-    chart::put_location(rows, at, error, name);
+    let first = chart::rows_size(draft.tally.vars, 0, 0);
+    let at = draft.used_words();
+    chart::put_location(&mut draft.rows, at, error, name);
+    let rows: &[i32] = &draft.rows;
     let number = chart::name_number(&rows[at..]);
-    let end = NUMBERS_PLACE + t.locs;
+    let end = NUMBERS_PLACE + draft.tally.locs;
     if !chart::name_differs(
         &rows[at..],
         number,
         &rows[first..],
         &rows[NUMBERS_PLACE..end],
     ) {
-        return Judgement::Refused(9);
+        return Err(Refusal::NamedTwice);
     }
-    rows[end] = number;
-    Judgement::Passed(Tally {
-        vars: t.vars,
-        locs: t.locs + 1,
-        edges: 0,
-    })
+    draft.rows[end] = number;
+    draft.tally.locs += 1;
+    Ok(())
 }
 
 // An L line, which stands before every E.
-pub fn read_line(t: Tally, rows: &mut [i32], line: &[u8], form: Form, kind: Field) -> Judgement
-    requires { Few t × (length rows.old ≡ most_rows) × (form ≡ form_of line.now) × (kind ≡ field_at line.now 0) }
-    ensures { (s : SoFar) (names : List ℤ) → Rows t rows.old s.chart → Names t.vars names s.names → LineJudged result (loc_line s (fields line.now)) rows.new names }
+pub fn read_line(draft: &mut Draft, line: &Line, kind: Field) -> Result<(), Refusal>
+    requires { kind ≡ field_at line.now.bytes.now 0 }
+    ensures { (s : SoFar) → Holds draft.old s → LineJudged result (loc_line s (fields line.now.bytes.now)) draft.new }
 {
-    if t.edges != 0 {
-        return Judgement::Refused(4);
+    if draft.tally.edges != 0 {
+        return Err(Refusal::WrongKind);
     }
-    if MOST_LOCATIONS <= t.locs {
-        return Judgement::Refused(8);
+    if MOST_LOCATIONS <= draft.tally.locs {
+        return Err(Refusal::WrongCount);
     }
-    let name = text::field_after(line, kind);
-    match judged(line, form, name) {
-        text::KindRead::Refused(k) => Judgement::Refused(k),
-        text::KindRead::Is(error) => named(t, rows, error, text::field_bytes(line, name)),
-    }
+    let name = text::field_after(line.bytes, kind);
+    let error = judged(line, name)?;
+    named(draft, error, text::field_bytes(line.bytes, name))
 }

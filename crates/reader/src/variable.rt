@@ -1,18 +1,17 @@
 // `V name lo hi init`: the line is judged, and its row stored.
-ghost use Rattle.std.specs.Prelude.{◌≡◌, T, ◌<◌, length};
+ghost use Rattle.std.specs.Prelude.{◌≡◌, T, ◌<◌};
 ghost use Rattle.semantics.specs.Layout.{most_variables};
 ghost use Rattle.semantics.specs.Text.{fields, name_ok};
 ghost use Rattle.semantics.specs.Reading.{SoFar, var_line};
-ghost use Rattle.text.specs.Fields.{field_at};
-ghost use Rattle.text.specs.Places.{form_of};
-ghost use Rattle.reader.specs.Answers.{var_of, var_res};
-ghost use Rattle.reader.specs.Lines.{var_init, var_high, var_low, var_judged, var_named};
-ghost use Rattle.reader.specs.ReadSoFar.{Few, Rows, Names, LineJudged, most_rows, most_names};
+ghost use Rattle.text.specs.Fields.{field_at, res_by};
+ghost use Rattle.reader.specs.Answers.{var_of};
+ghost use Rattle.reader.specs.Lines.{var_fields, var_judged, var_named};
+ghost use Rattle.reader.specs.Drafts.{Holds, LineJudged};
 
-use super::tally::{Judgement, Tally, used_words};
-use semantics::MOST_VARIABLES;
+use super::draft::Draft;
+use semantics::{MOST_VARIABLES, Refusal};
 use text::Field;
-use text::lines::Form;
+use text::line::Line;
 
 // The three words of a variable's row.
 #[derive(Clone, Copy)]
@@ -22,111 +21,72 @@ struct VarRow {
     init: i32,
 }
 
-// What the fields of a V line come to: a refusal's number, or the row.
-#[derive(Clone, Copy)]
-enum VarLine {
-    Refused(u32),
-    Is(VarRow),
+// The name, then the numbers.
+fn fields_judged(name: &[u8], lo: &[u8], hi: &[u8], init: &[u8]) -> Result<VarRow, Refusal>
+    ensures { res_by var_of result ≡ var_fields name.now lo.now hi.now init.now }
+{
+    if !text::name_ok(name) {
+        return Err(Refusal::Malformed);
+    }
+    let lo = text::number_field(lo)?;
+    let hi = text::number_field(hi)?;
+    if !(lo <= hi) {
+        return Err(Refusal::OutOfRange);
+    }
+    let init = text::init_field(lo, hi, init)?;
+    Ok(VarRow { lo, hi, init })
 }
 
-// The last field, after lo and hi.
-fn init(lo: i32, hi: i32, f: &[u8]) -> VarLine
-    ensures { var_res result ≡ var_init lo hi f.now }
+// All the fields: their count, then what they say.
+fn judged(line: &Line, name: Field) -> Result<VarRow, Refusal>
+    requires { name ≡ field_at line.now.bytes.now 1 }
+    ensures { res_by var_of result ≡ var_judged (fields line.now.bytes.now) }
 {
-    match text::init_field(lo, hi, f) {
-        text::WordRead::Refused(k) => VarLine::Refused(k),
-        text::WordRead::Is(x) => VarLine::Is(VarRow {
-            lo: lo,
-            hi: hi,
-            init: x,
-        }),
+    if !line.form.has(5) {
+        return Err(Refusal::WrongFields);
     }
-}
-
-// The fields from `hi` on, which is not below lo.
-fn high(lo: i32, line: &[u8], at: Field) -> VarLine
-    requires { at ≡ field_at line.now 3 }
-    ensures { var_res result ≡ var_high lo (fields line.now) }
-{
-    match text::number_field(text::field_bytes(line, at)) {
-        text::WordRead::Refused(k) => VarLine::Refused(k),
-        text::WordRead::Is(hi) => {
-            if lo <= hi {
-                let next = text::field_after(line, at);
-                return init(lo, hi, text::field_bytes(line, next));
-            }
-            VarLine::Refused(7)
-        }
-    }
-}
-
-// The fields from `lo` on.
-fn low(line: &[u8], at: Field) -> VarLine
-    requires { at ≡ field_at line.now 2 }
-    ensures { var_res result ≡ var_low (fields line.now) }
-{
-    match text::number_field(text::field_bytes(line, at)) {
-        text::WordRead::Refused(k) => VarLine::Refused(k),
-        text::WordRead::Is(lo) => high(lo, line, text::field_after(line, at)),
-    }
-}
-
-// All the fields: their count, then the name, then the numbers.
-fn judged(line: &[u8], form: Form, name: Field) -> VarLine
-    requires { (form ≡ form_of line.now) × (name ≡ field_at line.now 1) }
-    ensures { var_res result ≡ var_judged (fields line.now) }
-{
-    if !form.has(5) {
-        return VarLine::Refused(5);
-    }
-    if !text::name_ok(text::field_bytes(line, name)) {
-        return VarLine::Refused(6);
-    }
-    low(line, text::field_after(line, name))
+    let lo = text::field_after(line.bytes, name);
+    let hi = text::field_after(line.bytes, lo);
+    let init = text::field_after(line.bytes, hi);
+    fields_judged(
+        text::field_bytes(line.bytes, name),
+        text::field_bytes(line.bytes, lo),
+        text::field_bytes(line.bytes, hi),
+        text::field_bytes(line.bytes, init),
+    )
 }
 
 // A variable, if its name is new. The name is kept as a location's is, so that one function looks for both.
-fn named(t: Tally, rows: &mut [i32], names: &mut [i32], v: VarRow, name: &[u8]) -> Judgement
-    requires { T (name_ok name.now) × (t.vars < most_variables) × (t.locs ≡ 0) × (t.edges ≡ 0) × (length rows.old ≡ most_rows) × (length names.old ≡ most_names) }
-    ensures { (s : SoFar) → Rows t rows.old s.chart → Names t.vars names.old s.names → LineJudged result (var_named s name.now (var_of v)) rows.new names.new }
+fn named(draft: &mut Draft, v: VarRow, name: &[u8]) -> Result<(), Refusal>
+    requires { T (name_ok name.now) × (draft.old.tally.vars < most_variables) × (draft.old.tally.locs ≡ 0) × (draft.old.tally.edges ≡ 0) }
+    ensures { (s : SoFar) → Holds draft.old s → LineJudged result (var_named s name.now (var_of v)) draft.new }
 {
-    let at = chart::LOCATION_SIZE * t.vars;
-    chart::put_location(names, at, false, name);
-    if !chart::name_is_new(&names[at..], &names[0..], t.vars) {
-        return Judgement::Refused(9);
+    let vars = draft.tally.vars;
+    let at = chart::LOCATION_SIZE * vars;
+    chart::put_location(&mut draft.names, at, false, name);
+    let names: &[i32] = &draft.names;
+    if !chart::name_is_new(&names[at..], names, vars) {
+        return Err(Refusal::NamedTwice);
     }
-    chart::put_variable(rows, used_words(t), v.lo, v.hi, v.init);
-    Judgement::Passed(Tally {
-        vars: t.vars + 1,
-        locs: 0,
-        edges: 0,
-    })
+    let end = draft.used_words();
+    chart::put_variable(&mut draft.rows, end, v.lo, v.hi, v.init);
+    draft.tally.vars += 1;
+    Ok(())
 }
 
 // A V line, which stands before every L and E.
-pub fn read_line(
-    t: Tally,
-    rows: &mut [i32],
-    names: &mut [i32],
-    line: &[u8],
-    form: Form,
-    kind: Field,
-) -> Judgement
-    requires { Few t × (length rows.old ≡ most_rows) × (length names.old ≡ most_names) × (form ≡ form_of line.now) × (kind ≡ field_at line.now 0) }
-    ensures { (s : SoFar) → Rows t rows.old s.chart → Names t.vars names.old s.names → LineJudged result (var_line s (fields line.now)) rows.new names.new }
+pub fn read_line(draft: &mut Draft, line: &Line, kind: Field) -> Result<(), Refusal>
+    requires { kind ≡ field_at line.now.bytes.now 0 }
+    ensures { (s : SoFar) → Holds draft.old s → LineJudged result (var_line s (fields line.now.bytes.now)) draft.new }
 {
-    if t.locs != 0 {
-        return Judgement::Refused(4);
-    }
-    if t.edges != 0 {
-        return Judgement::Refused(4);
+    let t = draft.tally;
+    if t.locs != 0 || t.edges != 0 {
+        return Err(Refusal::WrongKind);
     }
     if MOST_VARIABLES <= t.vars {
-        return Judgement::Refused(8);
+        return Err(Refusal::WrongCount);
     }
-    let name = text::field_after(line, kind);
-    match judged(line, form, name) {
-        VarLine::Refused(k) => Judgement::Refused(k),
-        VarLine::Is(v) => named(t, rows, names, v, text::field_bytes(line, name)),
-    }
+    let name = text::field_after(line.bytes, kind);
+    let v = judged(line, name)?;
+    named(draft, v, text::field_bytes(line.bytes, name))
 }

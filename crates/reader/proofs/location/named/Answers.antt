@@ -11,29 +11,30 @@ use Rattle.reader.proofs.CheckSteps.{check_no, check_yes}
 use Rattle.reader.proofs.location.named.Goals as goal
 
 pub returns-then-not-name_differs : goal.returns-then-not-name_differs
-returns-then-not-name_differs c = λ s names h g.
-    let a = c.args in
-    let location : Loc = the_location a.error a.name.now in
+returns-then-not-name_differs c = λ s h.
+    let t = c.args.draft.now.tally in
+    let location : Loc = the_location c.args.error c.args.name.now in
     let rows : List ℤ = c.put_location.new.rows in
-    let long : length rows ≡ length a.rows.now = c.put_location.auto.rows in
-    let kept : length (take a.t.locs (drop numbers_at rows)) ≡ a.t.locs = length-take-le _ _ (simp length-drop (omega (arith, long))) in
-    let laid = new_location h location c.requires.3 c.requires.0 c.used_words-at.result c.rows_size-first.result rows c.put_location.ensures c.used_words-at.ensures c.rows_size-first.ensures (omega arith) (omega arith) in
-    let new = (rw (span numbers_at a.t.locs, kept) at c.name_differs.ensures) ((search rules) ∙ c.name_number-number.ensures) laid.1 ∙ laid.2 in
+    let long : length rows ≡ length c.args.draft.now.rows = c.put_location.auto.rows in
+    let kept : length (take t.locs (drop numbers_at rows)) ≡ t.locs = length-take-le _ _ (simp length-drop (omega (arith, long))) in
+    let laid = new_location h.rows location c.requires.2 c.requires.0 c.used_words-at.result c.rows_size-first.result rows c.put_location.ensures c.used_words-at.ensures c.rows_size-first.ensures (omega arith) (omega arith) in
+    let new = (rw (span numbers_at t.locs, kept) at c.name_differs.ensures) ((search rules) ∙ c.name_number-number.ensures) laid.1 ∙ laid.2 in
     check_no _ _ (sym new ∙ c.if-not-name_differs.true)
 
 pub returns : goal.returns
-returns c = λ s names h g.
-    let a = c.args in
-    let location : Loc = the_location a.error a.name.now in
+returns c = λ s h.
+    let t = c.args.draft.now.tally in
+    let location : Loc = the_location c.args.error c.args.name.now in
     let rows : List ℤ = c.put_location.new.rows in
-    let long : length rows ≡ length a.rows.now = c.put_location.auto.rows in
-    let kept : length (take a.t.locs (drop numbers_at rows)) ≡ a.t.locs = length-take-le _ _ (simp length-drop (omega (arith, long))) in
-    let laid = new_location h location c.requires.3 c.requires.0 c.used_words-at.result c.rows_size-first.result rows c.put_location.ensures c.used_words-at.ensures c.rows_size-first.ensures (omega arith) (omega arith) in
-    let new = (rw (span numbers_at a.t.locs, kept) at c.name_differs.ensures) ((search rules) ∙ c.name_number-number.ensures) laid.1 ∙ laid.2 in
+    let long : length rows ≡ length c.args.draft.now.rows = c.put_location.auto.rows in
+    let kept : length (take t.locs (drop numbers_at rows)) ≡ t.locs = length-take-le _ _ (simp length-drop (omega (arith, long))) in
+    let laid = new_location h.rows location c.requires.2 c.requires.0 c.used_words-at.result c.rows_size-first.result rows c.put_location.ensures c.used_words-at.ensures c.rows_size-first.ensures (omega arith) (omega arith) in
+    let new = (rw (span numbers_at t.locs, kept) at c.name_differs.ensures) ((search rules) ∙ c.name_number-number.ensures) laid.1 ∙ laid.2 in
     record {
       read = with_loc s location;
       is = check_yes _ _ (sym new ∙ c.if-not-name_differs.false);
-      few = record { vars = c.requires.1.vars; locs = omega arith; edges = omega arith };
-      held = rows_loc s h c.used_words-at.ensures location c.put_location.ensures c.requires.0 c.requires.3 ((search rules) ∙ c.name_number-number.ensures ∙ laid.0) (omega (arith, long));
-      names_held = g;
+      holds = record {
+        rows = rows_loc s h.rows c.used_words-at.ensures location c.put_location.ensures c.requires.0 c.requires.2 ((search rules) ∙ c.name_number-number.ensures ∙ laid.0) (omega (arith, long));
+        names = h.names;
+      };
     }

@@ -1,22 +1,27 @@
--- `reader::scan::bad_byte` meets its contract.
-use Rattle.semantics.proofs.Prelude.{◌≡◌, sym, ◌∙◌, suc, arith, get_or, eqb}
-use Rattle.semantics.specs.Lists.{pick}
-use Rattle.reader.proofs.Scans.{bad_none, bad_step, bad_stop, bad_end, line_near}
+-- `reader::scan::bad_byte` meets its contract: the lines that end before the first byte at fault.
+use Rattle.semantics.proofs.Prelude.{◌≡◌, sym, ap, ◌∙◌, not, List, ℕ, ◌+◌, some, rules}
+use borrow.Author.Tests.{tests}
+use Rattle.std.specs.Prelude.{None, Some}
+use Rattle.std.specs.Prelude.{Option as Answer}
+use Rattle.std.specs.List.{position}
+use Rattle.std.proofs.lemmas.Iterator.{YieldsList-from_slice}
+use Rattle.std.proofs.lemmas.Iterator.Search.{position_from_yields_List}
+use Rattle.semantics.specs.Reading.{byte_ok, bad_byte_line}
+use Rattle.reader.specs.Answers.{found}
+use Rattle.reader.proofs.Scans.{bad_none, bad_nowhere, bad_at}
 use Rattle.reader.proofs.scan.bad_byte.Goals as goal
 
 pub returns-then-bytes_ok : goal.returns-then-bytes_ok
-returns-then-bytes_ok c = sym (bad_none _ _ (sym c.bytes_ok.ensures ∙ c.if-bytes_ok.true))
+returns-then-bytes_ok c = sym (bad_none 1 _ (sym c.bytes_ok.ensures ∙ c.if-bytes_ok.true))
 
-pub returns-then-not-byte_ok : goal.returns-then-not-byte_ok
-returns-then-not-byte_ok c = let k = c in
-    sym (k.loop-i.invariant.2 ∙ bad_stop _ _ _ k.loop-i-test.true (sym c.byte_ok.ensures ∙ c.if-not-byte_ok.true))
-
-pub loop-i-preserved : goal.loop-i-preserved
-loop-i-preserved c = let k = c in
-    let n = k.loop-i.n in
-    let b = get_or (k.args.text.now) k.loop-i.i 0 in
-    let e : c.line_after-n.result ≡ pick (eqb b 10) (suc n) n = c.line_after-n.ensures in
-    (omega arith, omega (arith, line_near (eqb b 10) n), k.loop-i.invariant.2 ∙ bad_step _ _ _ k.loop-i-test.true (sym c.byte_ok.ensures ∙ c.if-not-byte_ok.false) ∙ rw e)
+pub returns-in_err-at : goal.returns-in_err-at
+returns-in_err-at c =
+    let looked : c.position.result ≡ position (λ b. not (byte_ok b)) c.args.text.now
+    = position_from_yields_List (λ b. not (byte_ok b)) _ _ c.position.result c.position.ensures.ran (YieldsList-from_slice c.args.text.now cc) (λ x b q k. search (rules, tests)) in
+    ap found c.from_residual.ensures ∙ sym (bad_nowhere 1 c.args.text.now (sym looked ∙ c.in_err-at.was))
 
 pub returns : goal.returns
-returns c = sym (c.loop-i.invariant.2 ∙ bad_end _ _ _ c.loop-i-test.false)
+returns c =
+    let looked : c.position.result ≡ position (λ b. not (byte_ok b)) c.args.text.now
+    = position_from_yields_List (λ b. not (byte_ok b)) _ _ c.position.result c.position.ensures.ran (YieldsList-from_slice c.args.text.now cc) (λ x b q k. search (rules, tests)) in
+    ap (λ (n : ℕ). some (1 + n)) c.ended_lines.ensures ∙ sym (bad_at 1 c.args.text.now (sym looked ∙ c.in_ok-at.was))

@@ -8,15 +8,15 @@ use Rattle.reader.proofs.CheckSteps.{check_no, check_yes}
 use Rattle.reader.proofs.variable.named.Goals as goal
 
 pub returns-then-not-name_is_new : goal.returns-then-not-name_is_new
-returns-then-not-name_is_new c = λ s h g.
+returns-then-not-name_is_new c = λ s h.
     let p = c.put_location in
-    let new = c.name_is_new.ensures ∙ new_variable g c.args.name.now c.requires.0 p.new.rows p.ensures in
+    let new = c.name_is_new.ensures ∙ new_variable h.names c.args.name.now c.requires.0 p.new.rows p.ensures in
     check_no _ _ (sym new ∙ c.if-not-name_is_new.true)
 
 pub returns : goal.returns
-returns c = λ s h g.
+returns c = λ s h.
     let p = c.put_location in
-    let new = c.name_is_new.ensures ∙ new_variable g c.args.name.now c.requires.0 p.new.rows p.ensures in
+    let new = c.name_is_new.ensures ∙ new_variable h.names c.args.name.now c.requires.0 p.new.rows p.ensures in
     let v = c.args.v in
     let name = c.args.name.now in
     let q = c.requires in
@@ -26,7 +26,8 @@ returns c = λ s h g.
     record {
       read = with_var s name (var_of v);
       is = check_yes _ _ (sym new ∙ c.if-not-name_is_new.false);
-      few = record { vars = omega (arith, q); locs = omega arith; edges = omega arith };
-      held = rows_var s h c.used_words.ensures name (var_of v) (c.put_variable.ensures ∙ rw (x, y, z)) (omega (arith, q)) (omega (arith, q)) (omega (arith, q));
-      names_held = names_more name g p.ensures q.0 (omega (arith, q));
+      holds = record {
+        rows = rows_var s h.rows c.used_words-end.ensures name (var_of v) (c.put_variable.ensures ∙ rw (x, y, z)) q.2 q.3 (omega (arith, q)) (omega arith);
+        names = names_more name h.names p.ensures q.0 (omega (arith, q));
+      };
     }
