@@ -1,5 +1,5 @@
 -- A line by its kind, and reading goes on by one line. Assumes nothing.
-use Rattle.semantics.proofs.Prelude.{◌≡◌, refl, sym, ap, ◌∙◌, Bool, true, false, List, map, ℕ, suc, ◌+◌, ◌-◌, ◌*◌, ◌≤◌, ◌<◌, add-one, arith, length, take, drop, ℤ}
+use Rattle.semantics.proofs.Prelude.{◌≡◌, refl, sym, ap, ◌∙◌, true, false, List, map, ℕ, ◌+◌, ◌-◌, ◌*◌, ◌≤◌, ◌<◌, add-one, arith, length, take, drop, ℤ}
 use Rattle.semantics.specs.Text.{bytes, same_bytes, lines, fields}
 use Rattle.semantics.specs.Reading.{fail, ok, nth, SoFar, nothing_read, var_line, loc_line, edge_line, judge, refused, at_end, judged}
 use Rattle.text.specs.Fields.{up_to}

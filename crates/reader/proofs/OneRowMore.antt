@@ -42,17 +42,17 @@ module _ {t : Tally} {ws ws' : List ℤ} {at : ℕ} (s : SoFar) (h : Rows t ws s
   pub rows_var : (name : List ℕ) (v : Var) → ws' ≡ stored at (var_words v) ws → t.locs ≡ 0 → t.edges ≡ 0 → used_words t + variable_size ≤ numbers_at → numbers_at ≤ length ws
       → Rows (record { vars = t.vars + 1; locs = t.locs; edges = t.edges }) ws' (with_var s name v).chart
   rows_var name v w l g few room =
-    let fits : used_words t + variable_size ≤ length ws = omega arith in
-    record {
-    vars = omega (arith, h.vars, length_snoc s.chart.vars v);
-    locs = h.locs;
-    edges = h.edges;
-    rows =
-        rows_more h a (var_words v) w fits (rows_size (t.vars + 1) t.locs t.edges) (omega arith)
-        ∙ rw (each_none loc_words s.chart.locs (omega (arith, h.locs)), each_none edge_words s.chart.edges (omega (arith, h.edges)), each_snoc var_words s.chart.vars v) (simp append-nil);
-    numbers = numbers_kept h a (var_words v) w (omega arith) room;
-    named = h.named;
-  }
+      let fits : used_words t + variable_size ≤ length ws = omega arith in
+      record {
+        vars = omega (arith, h.vars, length_snoc s.chart.vars v);
+        locs = h.locs;
+        edges = h.edges;
+        rows =
+            rows_more h a (var_words v) w fits (rows_size (t.vars + 1) t.locs t.edges) (omega arith)
+            ∙ rw (each_none loc_words s.chart.locs (omega (arith, h.locs)), each_none edge_words s.chart.edges (omega (arith, h.edges)), each_snoc var_words s.chart.vars v) (simp append-nil);
+        numbers = numbers_kept h a (var_words v) w (omega arith) room;
+        named = h.named;
+      }
 
   -- the number of its name is stored too
   pub rows_loc : (l : Loc) → ws' ≡ stored at (loc_words l) ws → T (name_ok l.name) → t.edges ≡ 0 → {z : ℤ} → z ≡ number_of l → (used_words t + location_size ≤ numbers_at) × (numbers_at ≤ length ws) × (numbers_at + t.locs < length ws')

@@ -8,7 +8,6 @@ use Rattle.std.proofs.lemmas.List.Recursion.{is_count_by}
 use Rattle.semantics.specs.Lists.{pick, all}
 use Rattle.semantics.specs.Reading.{byte_ok, bad_byte_line, open_line}
 use Rattle.semantics.proofs.Bools.{left_true, right_true}
-use Rattle.reader.specs.Answers.{found}
 
 -- one of some lines more, where the byte ends one
 more_lines : (t : Bool) (n m : ℕ) → pick t (suc n) n + m ≡ n + cond t (1 + m) m

@@ -1,5 +1,5 @@
 -- What was read so far as the code holds it: counts, the chart's rows, and the names of the variables. Assumes nothing.
-use Rattle.std.specs.Prelude.{◌≡◌, false, List, [], ◌∷◌, ◌++◌, map, ℕ, ◌+◌, ◌*◌, ◌≤◌, ◌<◌, T, length, take, drop, ℤ}
+use Rattle.std.specs.Prelude.{◌≡◌, false, List, [], ◌∷◌, ◌++◌, map, ℕ, ◌+◌, ◌*◌, ◌≤◌, T, length, take, drop, ℤ}
 use Rattle.semantics.specs.Lists.{all, each}
 use Rattle.semantics.specs.Text.{name_ok, lines, fields}
 use Rattle.semantics.specs.Chart.{Loc, Chart}

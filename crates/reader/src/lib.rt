@@ -27,6 +27,13 @@ use text::line::Line;
 // Refusal 1: the most bytes of a chart file.
 pub const MOST_BYTES: usize = 32768;
 
+// A refusal where no line applies.
+fn no_line(refusal: Refusal) -> RefusedAt
+    ensures { result ≡ record { refusal = refusal; line = 0 } }
+{
+    RefusedAt { refusal, line: 0 }
+}
+
 // One line, by its kind.
 fn judge_line(draft: &mut Draft, line: &Line) -> Result<(), Refusal>
     ensures { (s : SoFar) → Holds draft.old s → LineJudged result (judge s (fields line.now.bytes.now)) draft.new }
@@ -69,17 +76,11 @@ fn copy_out(draft: &Draft, words: &mut [i32]) -> Result<(), RefusedAt>
 {
     let t = draft.tally;
     if t.locs == 0 {
-        return Err(RefusedAt {
-            refusal: Refusal::WrongCount,
-            line: 0,
-        });
+        return Err(no_line(Refusal::WrongCount));
     }
     let size = draft.used_words();
     if words.len() < size + COUNTS_SIZE {
-        return Err(RefusedAt {
-            refusal: Refusal::FewWords,
-            line: 0,
-        });
+        return Err(no_line(Refusal::FewWords));
     }
     chart::put_chart(words, t.vars, t.locs, t.edges, &draft.rows[..size]);
     Ok(())
@@ -102,10 +103,7 @@ pub fn read(text: &[u8], words: &mut [i32]) -> Result<(), RefusedAt>
     ensures written { words.new ≡ (read_outcome text.now words.old).words }
 {
     if MOST_BYTES < text.len() {
-        return Err(RefusedAt {
-            refusal: Refusal::TooLong,
-            line: 0,
-        });
+        return Err(no_line(Refusal::TooLong));
     }
     if let Some(line) = scan::bad_byte(text) {
         return Err(RefusedAt {

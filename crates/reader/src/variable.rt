@@ -30,7 +30,7 @@ fn fields_judged(name: &[u8], lo: &[u8], hi: &[u8], init: &[u8]) -> Result<VarRo
     }
     let lo = text::number_field(lo)?;
     let hi = text::number_field(hi)?;
-    if !(lo <= hi) {
+    if hi < lo {
         return Err(Refusal::OutOfRange);
     }
     let init = text::init_field(lo, hi, init)?;

@@ -1,5 +1,5 @@
 -- `reader::copy_out` meets its contract.
-use Rattle.semantics.proofs.Prelude.{◌≡◌, ◌∙◌, ◌+◌, ◌≤◌, arith, length}
+use Rattle.semantics.proofs.Prelude.{◌∙◌, ◌+◌, ◌≤◌, arith, length}
 use Rattle.semantics.specs.Layout.{counts_size}
 use Rattle.semantics.proofs.AtAndIn.{some_list}
 use Rattle.reader.specs.ReadSoFar.{used_words}
@@ -10,7 +10,7 @@ pub returns-then-words-size : goal.returns-then-words-size
 returns-then-words-size c =
     let few = c.args.draft.now.few in
     record {
-      answered = λ d h. rw (some_list d.locs (omega (arith, h.locs)), too_short h (omega arith) c.args.words.now (omega (arith, c.used_words-size.ensures, c.if-words-size.true)));
+      answered = λ d h. rw (c.no_line-then-words-size.ensures, some_list d.locs (omega (arith, h.locs)), too_short h (omega arith) c.args.words.now (omega (arith, c.used_words-size.ensures, c.if-words-size.true)));
       written = λ d h. rw (some_list d.locs (omega (arith, h.locs)), too_short h (omega arith) c.args.words.now (omega (arith, c.used_words-size.ensures, c.if-words-size.true)));
     }
 

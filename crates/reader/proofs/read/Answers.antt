@@ -7,7 +7,7 @@ use Rattle.reader.proofs.read.Goals as goal
 
 pub returns-then-text-gt-MOST_BYTES : goal.returns-then-text-gt-MOST_BYTES
 unfolding read read_outcome
-returns-then-text-gt-MOST_BYTES c = let e = lt-ltb _ _ c.if-text-gt-MOST_BYTES.true in record { answered = rw e; written = rw e }
+returns-then-text-gt-MOST_BYTES c = let e = lt-ltb _ _ c.if-text-gt-MOST_BYTES.true in record { answered = rw (c.no_line.ensures, e); written = rw e }
 
 pub returns-in-Some : goal.returns-in-Some
 unfolding read read_outcome

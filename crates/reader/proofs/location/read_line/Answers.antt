@@ -5,7 +5,6 @@ use Rattle.semantics.specs.Text.{name_ok, fields}
 use Rattle.semantics.specs.Reading.{ok}
 use Rattle.semantics.proofs.ReadInBounds.{check_ok}
 use Rattle.text.specs.Fields.{res_by, res}
-use Rattle.text.proofs.LineFields.{field_lies_at}
 use Rattle.text.proofs.FieldTests.{then_fail, then_ok}
 use Rattle.reader.specs.Lines.{loc_judged}
 use Rattle.reader.proofs.Reading.{loc_late, loc_full, loc_read}

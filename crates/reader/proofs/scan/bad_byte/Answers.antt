@@ -1,12 +1,10 @@
 -- `reader::scan::bad_byte` meets its contract: the lines that end before the first byte at fault.
-use Rattle.semantics.proofs.Prelude.{◌≡◌, sym, ap, ◌∙◌, not, List, ℕ, ◌+◌, some, rules}
+use Rattle.semantics.proofs.Prelude.{◌≡◌, sym, ap, ◌∙◌, not, ℕ, ◌+◌, some, rules}
 use borrow.Author.Tests.{tests}
-use Rattle.std.specs.Prelude.{None, Some}
-use Rattle.std.specs.Prelude.{Option as Answer}
 use Rattle.std.specs.List.{position}
 use Rattle.std.proofs.lemmas.Iterator.{YieldsList-from_slice}
 use Rattle.std.proofs.lemmas.Iterator.Search.{position_from_yields_List}
-use Rattle.semantics.specs.Reading.{byte_ok, bad_byte_line}
+use Rattle.semantics.specs.Reading.{byte_ok}
 use Rattle.reader.specs.Answers.{found}
 use Rattle.reader.proofs.Scans.{bad_none, bad_nowhere, bad_at}
 use Rattle.reader.proofs.scan.bad_byte.Goals as goal

@@ -1,5 +1,5 @@
 -- `reader::scan::open_line` meets its contract: by the last byte.
-use Rattle.semantics.proofs.Prelude.{◌≡◌, sym, ap, ◌∙◌, ◌-◌, ◌+◌, ℕ, some, length, get_or, eq-eqb, ne_eqb, arith, rules}
+use Rattle.semantics.proofs.Prelude.{◌≡◌, sym, ap, ◌∙◌, ◌-◌, ◌+◌, ℕ, some, length, get_or, eq-eqb, ne_eqb, rules}
 use Rattle.reader.specs.Answers.{found}
 use Rattle.reader.proofs.Scans.{open_none, open_some, last_none, last_some}
 use Rattle.reader.proofs.scan.open_line.Goals as goal
