@@ -1,5 +1,6 @@
 -- The runs of so many moves, from the starting states in turn, and deepening. Assumes nothing.
 use mathlib.Core.Option.{map}
+use Rattle.std.specs.Prelude.{Option as Perhaps, Some, None}
 use Rattle.semantics.proofs.Prelude.{◌≡◌, refl, sym, ap, ◌∙◌, subst, inl, inr, Bool, true, false, not, List, [], ◌∷◌, ◌++◌, Option, none, some, ℕ, zero, suc, ◌+◌, ◌-◌, ◌≤◌, ◌<◌, add-one, arith, T, leb, le-leb, lt-leb, ltb→lt, ℤ, length, drop, drop-append_seam}
 use Rattle.semantics.specs.Lists.{pick, In, all}
 use Rattle.semantics.specs.Chart.{Edge, Chart, Numbered, number_from, State, Ranged}
@@ -14,9 +15,10 @@ use Rattle.semantics.proofs.ChartChoices.{choices_in}
 use Rattle.semantics.proofs.RealRuns.{Taken, taken}
 use Rattle.state.specs.Rows.{location_in, values_of}
 use Rattle.descent.specs.Rows.{state_of, Concrete}
-use Rattle.descent.specs.Starts.{Starts, Next, starts_after, left_over}
-use Rattle.descent.specs.declared.Found.{Found}
-use Rattle.descent.specs.Trails.{trail_words, answer_of, laid, Went, is_nothing, Within, Held, Holds}
+use Rattle.descent.specs.Starts.{Starts, starts_after}
+use Rattle.descent.specs.declared.End.{End}
+use Rattle.descent.specs.declared.Run.{Run}
+use Rattle.descent.specs.Trails.{end_of, trail_words, answer_of, laid, Went, Within, Held, Holds}
 use Rattle.descent.proofs.StartingValues.{starts_concrete}
 use Rattle.descent.proofs.Turns.{nothing, something, first_map}
 
@@ -41,15 +43,16 @@ module _ (c : Chart) (b : Bounds c) where
       (record { words = refl; location = subst (λ (n : ℕ). n < length c.locs) m.0.comes l; ranged = m.0.ranged }, within t r m.0.ranged w.2)
 
   -- what is found from a row, in words
-  pub held : (m : ℕ) (e p u : List ℤ) (t : Trail Choice State) {r : Found} → Concrete c e → found (explicit c) m (state_of e) ≡ some t → Went (found (explicit c) m (state_of e)) p u r → Held c (run_from (state_of e) t) e u m r
-  held m e p u t k h w =
+  pub held : (m : ℕ) (e p u : List ℤ) (t : Trail Choice State) {end : End} → Concrete c e → found (explicit c) m (state_of e) ≡ some t → Went (found (explicit c) m (state_of e)) p u (Some end) → Held c (run_from (state_of e) t) e u (record { moves = m; end = end })
+  held m e p u t {end} k h w =
+      let same : Some end ≡ Some (end_of t) = w.answer ∙ ap answer_of h in
       let f = found_sound (explicit c) m (state_of e) t h in
       let q : u ≡ trail_words t ++ drop (length (trail_words t)) p = w.words ∙ ap (λ (o : Option (Trail Choice State)). laid o p) h in
       record {
         concrete = k;
         first = refl;
         count = sym f.1;
-        answer = w.answer ∙ ap answer_of h;
+        answer = cc;
         words = q ∙ ap (λ (l : List ℤ). trail_words t ++ l) (sym (ap (drop (length (trail_words t))) q ∙ drop-append_seam (trail_words t) (drop (length (trail_words t)) p)));
         within = within (state_of e) t k.ranged f.0;
       }
@@ -69,37 +72,29 @@ start_state c e s = ap (λ (l : ℕ). state l (values_of e)) (ap location_in (sy
 map_none : {A B : Type 0} (f : A → B) (o : Option A) → o ≡ none → map f o ≡ none
 map_none f o e = ap (map f) e
 
-module _ (c : Chart) (b : Bounds c) (m : ℕ) (e p u : List ℤ) {r : Found} (s : Starts c e) (w : Went (found (explicit c) m (state_of e)) p u r) {whole : Option (ErrorRun Choice State)} (inv : whole ≡ first_of (from_values c m) (left_over c true e)) where
+module _ (c : Chart) (b : Bounds c) (m : ℕ) (e p u : List ℤ) {r : Perhaps End} (s : Starts c e) (w : Went (found (explicit c) m (state_of e)) p u r) {whole : Option (ErrorRun Choice State)} (inv : whole ≡ first_of (from_values c m) (values_of e ∷ starts_after c.vars (values_of e))) where
   same : found (explicit c) m (state 0 (values_of e)) ≡ found (explicit c) m (state_of e)
   same = ap (found (explicit c) m) (start_state c e s)
 
-  pub start_found : not (is_nothing r) ≡ true → Holds c whole e u m r
-  start_found h =
-      let t = something (found (explicit c) m (state_of e)) w.answer h in
+  pub start_found : {end : End} → r ≡ Some end → Holds c whole e u (Some (record { moves = m; end = end }))
+  start_found {end} h =
+      let t = something (found (explicit c) m (state_of e)) (sym w.answer ∙ h) in
       let q : whole ≡ some (run_from (state_of e) t.0) = inv ∙ ap (λ (o : Option (Trail Choice State)). or_else (map (run_from (state 0 (values_of e))) o) (first_of (from_values c m) (starts_after c.vars (values_of e)))) (same ∙ t.1) ∙ ap (λ (x : State). some (run_from x t.0)) (start_state c e s) in
-      rw q (held c b m e p u t.0 (starts_concrete c b e s) t.1 w)
+      rw q (held c b m e p u t.0 (starts_concrete c b e s) t.1 (subst (Went (found (explicit c) m (state_of e)) p u) h w))
 
-  pub start_kept : not (is_nothing r) ≡ false → u ≡ p
-  start_kept h = w.words ∙ ap (λ (o : Option (Trail Choice State)). laid o p) (nothing (found (explicit c) m (state_of e)) w.answer h)
+  module _ (h : r ≡ None) where
+    none_here : found (explicit c) m (state_of e) ≡ none
+    none_here = nothing (found (explicit c) m (state_of e)) (sym w.answer ∙ h)
 
-  pub start_next : not (is_nothing r) ≡ false → (e' : List ℤ) (more : Bool) → Next c e e' more → whole ≡ first_of (from_values c m) (left_over c more e')
-  start_next h e' more n =
-      inv
-      ∙ ap (λ (o : Option (Trail Choice State)). or_else (map (run_from (state 0 (values_of e))) o) (first_of (from_values c m) (starts_after c.vars (values_of e)))) (same ∙ nothing (found (explicit c) m (state_of e)) w.answer h)
-      ∙ go more n
-    where
-      go : (more : Bool) → Next c e e' more → first_of (from_values c m) (starts_after c.vars (values_of e)) ≡ first_of (from_values c m) (left_over c more e')
-      go true n = ap (first_of (from_values c m)) n.1
-      go false n = ap (first_of (from_values c m)) n
+    pub start_kept : u ≡ p
+    start_kept = w.words ∙ ap (λ (o : Option (Trail Choice State)). laid o p) none_here
 
--- how many are left falls
-pub fewer : (c : Chart) (e e' : List ℤ) (more : Bool) → Next c e e' more → length (left_over c more e') < length (left_over c true e)
-fewer c e e' true n = let q = ap length n.1 in omega arith
-fewer c e e' false n = omega arith
+    pub start_next : whole ≡ first_of (from_values c m) (starts_after c.vars (values_of e))
+    start_next = inv ∙ ap (λ (o : Option (Trail Choice State)). or_else (map (run_from (state 0 (values_of e))) o) (first_of (from_values c m) (starts_after c.vars (values_of e)))) (same ∙ none_here)
 
-pub next_starts : (c : Chart) (e e' : List ℤ) (more : Bool) → Next c e e' more → more ≡ true → Starts c e'
-next_starts c e e' true n h = n.0
-next_starts c e e' false n h = absurd (subst T (sym h) tt)
+    -- that was the last
+    pub no_start : (e' : List ℤ) → starts_after c.vars (values_of e) ≡ [] → Holds c whole e' u None
+    no_start e' k = rw (start_next ∙ ap (first_of (from_values c m)) k) tt
 
 -- ---- one move more
 
@@ -125,17 +120,21 @@ deeper c k m h = rw (le-leb m k h) (go (k - m) refl)
         rw (le-leb (m + 1) k (omega arith), q, add-one m)
 
 -- what an attempt leaves
-module _ (c : Chart) (k m : ℕ) (e u : List ℤ) (r : Found) (l : m ≤ k) (h : Holds c (attempt (explicit c) m) e u m r) {whole : Option (ErrorRun Choice State)} (inv : whole ≡ from_moves c k m) where
-  pub attempt_found : not (is_nothing r) ≡ true → Holds c whole e u m r
-  attempt_found n = go (attempt (explicit c) m) refl h
+module _ (c : Chart) (k m : ℕ) (e u : List ℤ) (l : m ≤ k) {whole : Option (ErrorRun Choice State)} (inv : whole ≡ from_moves c k m) where
+  pub attempt_found : (run : Run) → Holds c (attempt (explicit c) m) e u (Some run) → Holds c whole e u (Some run)
+  attempt_found run h = go (attempt (explicit c) m) refl h
     where
-      go : (o : Option (ErrorRun Choice State)) → attempt (explicit c) m ≡ o → Holds c o e u m r → Holds c whole e u m r
-      go none q x = absurd (none_some refl (something none x n).1)
+      go : (o : Option (ErrorRun Choice State)) → attempt (explicit c) m ≡ o → Holds c o e u (Some run) → Holds c whole e u (Some run)
+      go none q x = absurd x
       go (some v) q x = rw (inv ∙ deeper c k m l ∙ ap (λ (o : Option (ErrorRun Choice State)). or_else o (from_moves c k (m + 1))) q) x
 
-  pub attempt_next : not (is_nothing r) ≡ false → whole ≡ from_moves c k (m + 1)
-  attempt_next n = go (attempt (explicit c) m) refl h
+  pub attempt_next : Holds c (attempt (explicit c) m) e u None → whole ≡ from_moves c k (m + 1)
+  attempt_next h = go (attempt (explicit c) m) refl h
     where
-      go : (o : Option (ErrorRun Choice State)) → attempt (explicit c) m ≡ o → Holds c o e u m r → whole ≡ from_moves c k (m + 1)
+      go : (o : Option (ErrorRun Choice State)) → attempt (explicit c) m ≡ o → Holds c o e u None → whole ≡ from_moves c k (m + 1)
       go none q x = inv ∙ deeper c k m l ∙ ap (λ (o : Option (ErrorRun Choice State)). or_else o (from_moves c k (m + 1))) q
-      go (some v) q x = absurd (none_some (nothing (some v.trail) x.answer n) refl)
+      go (some v) q x = absurd x
+
+-- and where none is left
+pub none_deeper : (c : Chart) (k m : ℕ) (e u : List ℤ) {whole : Option (ErrorRun Choice State)} → whole ≡ from_moves c k m → k < m → Holds c whole e u None
+none_deeper c k m e u inv h = let none : from_moves c k m ≡ none = rw (lt-leb m k h) in rw (inv ∙ none) tt

@@ -1,6 +1,7 @@
 -- The places of the search that its parts share: the edge of a turn, the last state, and the words of the path. Assumes
 -- nothing.
-use Rattle.semantics.proofs.Prelude.{◌≡◌, refl, sym, ap, ◌∙◌, subst, Bool, true, false, not, List, [], ◌∷◌, ◌++◌, append_assoc, append-nil, Option, none, some, ℕ, zero, suc, ◌+◌, ◌-◌, ◌*◌, ◌≤◌, suc-mul, arith, T, ℤ, pos, length, get_or, take, drop, length-drop, length-append, length-take-le, drop_of_length-le, drop-drop, take-append-drop, take_all, drop-append_seam, take-append_seam}
+use Rattle.std.specs.Prelude.{Option as Perhaps, Some, None}
+use Rattle.semantics.proofs.Prelude.{◌≡◌, refl, sym, ap, ◌∙◌, subst, Bool, true, false, not, List, [], ◌∷◌, ◌++◌, append_assoc, append-nil, Option, none, some, ℕ, zero, suc, ◌+◌, ◌-◌, ◌*◌, ◌≤◌, ◌<◌, suc-mul, arith, T, ℤ, pos, length, get_or, take, drop, length-drop, length-append, length-take-le, drop_of_length-le, drop-cons, drop-drop, take-append-drop, take_all, drop-append_seam, take-append_seam}
 use Rattle.semantics.specs.Chart.{Var, Edge, skip, Chart, Numbered, number_from, numbered, State, Ranged, error_location}
 use Rattle.semantics.specs.Lists.{pick}
 use Rattle.semantics.specs.Encoding.{decode, well_formed, edge_count}
@@ -11,8 +12,8 @@ use Rattle.semantics.proofs.Encoded.{formed_bounds}
 use Rattle.chart.specs.declared.EdgeRow.{EdgeRow}
 use Rattle.state.specs.Rows.{most_width, values_of}
 use Rattle.descent.specs.Rows.{edge_of, IsEdge, state_of, Concrete}
-use Rattle.descent.specs.declared.Found.{Found}
-use Rattle.descent.specs.Trails.{step_words, trail_words, answer_of, laid, Went, is_nothing, from_step}
+use Rattle.descent.specs.declared.End.{End}
+use Rattle.descent.specs.Trails.{step_words, trail_words, answer_of, laid, Went, from_step}
 use Rattle.descent.proofs.Moves.{edge_numbered}
 use Rattle.descent.proofs.Turns.{nothing, something, at_get_or}
 
@@ -27,12 +28,22 @@ number_length n (g ∷ gs) = ap suc (number_length (suc n) gs)
 pub numbered_length : (ws : List ℤ) → length (numbered (decode ws)) ≡ edge_count ws
 numbered_length ws = number_length 1 (decode ws).edges ∙ edges_count ws
 
--- the edge of a turn
-pub edge_here : (ws : List ℤ) → T (well_formed ws) → (e : EdgeRow) → IsEdge ws e → edge_of ws e ≡ get_or (numbered (decode ws)) (e.id.0 - 1) no_edge
+edge_here : (ws : List ℤ) → T (well_formed ws) → (e : EdgeRow) → IsEdge ws e → edge_of ws e ≡ get_or (numbered (decode ws)) (e.id.0 - 1) no_edge
 edge_here ws f e is = sym (at_get_or (numbered (decode ws)) (e.id.0 - 1) (edge_of ws e) no_edge (edge_numbered ws f e is))
 
+-- the edges that are left where edge n is next, and where none is
+module _ (ws : List ℤ) (f : T (well_formed ws)) (e : EdgeRow) (is : IsEdge ws e) where
+  pub edges_left : drop (e.id.0 - 1) (numbered (decode ws)) ≡ edge_of ws e ∷ drop e.id.0 (numbered (decode ws))
+  edges_left =
+      let inside : e.id.0 - 1 < length (numbered (decode ws)) = omega (arith, is.some, is.within, numbered_length ws) in
+      let next : suc (e.id.0 - 1) ≡ e.id.0 = omega (arith, is.some) in
+      drop-cons (numbered (decode ws)) (e.id.0 - 1) no_edge inside ∙ (λ i. sym (edge_here ws f e is) i ∷ drop (next i) (numbered (decode ws)))
+
+pub no_edges_left : (ws : List ℤ) (n : ℕ) → edge_count ws ≤ n → drop n (numbered (decode ws)) ≡ []
+no_edges_left ws n h = drop_of_length-le (numbered (decode ws)) (omega (arith, numbered_length ws, h))
+
 -- with no move left
-pub end_went : (c : Chart) (s : State) (m : ℕ) {p : List ℤ} {r : Found} → m ≡ 0 → r ≡ answer_of (found (explicit c) 0 s) → Went (found (explicit c) m s) p p r
+pub end_went : (c : Chart) (s : State) (m : ℕ) {p : List ℤ} {r : Perhaps End} → m ≡ 0 → r ≡ answer_of (found (explicit c) 0 s) → Went (found (explicit c) m s) p p r
 unfolding found
 end_went c s m e h = rw e (record { answer = h; words = go (error_location c.locs s.loc) })
   where
@@ -69,17 +80,17 @@ module _ (p : List ℤ) (n : ℕ) (h : n ≤ length p) where
   pub back_length : (u : List ℤ) → length u ≡ length part → length (take n p ++ (u ++ drop (length p - n) (drop n p))) ≡ length p
   back_length u e = ap length (back_is u) ∙ omega (arith, length-append (take n p) u, length-take-le n p h, e, part_length)
 
-  module _ (c : Chart) (m : ℕ) (a : Choice) (row : List ℤ) {u : List ℤ} {r : Found} (k : Concrete c row) (w : Went (found (explicit c) m (state_of row)) part u r) where
-    pub step_none : is_nothing r ≡ true → Went (from_step c m a (state_of row)) p (take n p ++ (u ++ drop (length p - n) (drop n p))) r
+  module _ (c : Chart) (m : ℕ) (a : Choice) (row : List ℤ) {u : List ℤ} {r : Perhaps End} (k : Concrete c row) (w : Went (found (explicit c) m (state_of row)) part u r) where
+    pub step_none : r ≡ None → Went (from_step c m a (state_of row)) p (take n p ++ (u ++ drop (length p - n) (drop n p))) None
     step_none e =
-        let z : found (explicit c) m (state_of row) ≡ none = nothing (found (explicit c) m (state_of row)) w.answer (ap not e) in
+        let z : found (explicit c) m (state_of row) ≡ none = nothing (found (explicit c) m (state_of row)) (sym w.answer ∙ e) in
         let q : u ≡ drop n p = w.words ∙ ap (λ (o : Option (Trail Choice State)). laid o part) z ∙ part_is in
         let same : take n p ++ (u ++ drop (length p - n) (drop n p)) ≡ p = back_is u ∙ ap (λ (l : List ℤ). take n p ++ l) q ∙ take-append-drop n p in
-        rw (same, z) (record { answer = w.answer ∙ ap answer_of z; words = refl })
+        rw (same, z) (record { answer = refl; words = refl })
 
-    pub step_some : n ≡ suc (length row) → is_nothing r ≡ false → (q : List ℤ) → q ≡ (pos a.edge.no ∷ row) ++ drop n (take n p ++ (u ++ drop (length p - n) (drop n p))) → Went (from_step c m a (state_of row)) p q r
+    pub step_some : {end : End} → n ≡ suc (length row) → r ≡ Some end → (q : List ℤ) → q ≡ (pos a.edge.no ∷ row) ++ drop n (take n p ++ (u ++ drop (length p - n) (drop n p))) → Went (from_step c m a (state_of row)) p q (Some end)
     step_some l e q i =
-        let t = something (found (explicit c) m (state_of row)) w.answer (ap not e) in
+        let t = something (found (explicit c) m (state_of row)) (sym w.answer ∙ e) in
         let v : u ≡ trail_words t.0 ++ drop (length (trail_words t.0)) (drop n p) = w.words ∙ ap (λ (o : Option (Trail Choice State)). laid o part) t.1 ∙ ap (λ (x : List ℤ). trail_words t.0 ++ drop (length (trail_words t.0)) x) part_is in
         let before : length (take n p) ≡ n = length-take-le n p h in
         let past : drop n (take n p ++ u) ≡ u = subst (λ (k : ℕ). drop k (take n p ++ u) ≡ u) before (drop-append_seam (take n p) u) in
@@ -87,7 +98,7 @@ module _ (p : List ℤ) (n : ℕ) (h : n ≤ length p) where
         let long : length (step_words a.edge.no (state_of row)) ≡ n = sym (l ∙ ap (λ (x : List ℤ). suc (length x)) k.words) in
         let sum : n + length (trail_words t.0) ≡ length (step_words a.edge.no (state_of row) ++ trail_words t.0) = omega (arith, long, length-append (step_words a.edge.no (state_of row)) (trail_words t.0)) in
         rw t.1 (record {
-          answer = w.answer ∙ ap answer_of t.1;
+          answer = sym e ∙ w.answer ∙ ap answer_of t.1;
           words =
               words ∙ sym (append_assoc (step_words a.edge.no (state_of row)) (trail_words t.0) _)
               ∙ ap (λ (x : List ℤ). (step_words a.edge.no (state_of row) ++ trail_words t.0) ++ x) (drop-drop (length (trail_words t.0)) n p ∙ ap (λ (j : ℕ). drop j p) sum);

@@ -1,5 +1,5 @@
 -- Starting values in turn; why a branch may be cut; moves of known values; a move of rows; distances by their words; input
--- values by their places; a loop that stops at the first find; what the parts of the search share; the starting states in turn,
+-- values by their range; a loop that stops at the first find; what the parts of the search share; the starting states in turn,
 -- and deepening.
 pub mod StartingValues
 pub mod TurningBack

@@ -149,7 +149,7 @@ over_input : (n : ℤ) (xs : List ℤ) (k : ℕ) (x : Value) (z : ℤ) → with_
 over_input n xs k x z =
     rw (add-one k) (ap (λ (l : List ℤ). n ∷ l) (ap (λ (l : List ℤ). set l k z) (map_set (map known xs) k x ∙ ap (λ (l : List ℤ). set l k (word x)) (words_known xs)) ∙ set-set xs k (word x) z))
 
-module _ (ws : List ℤ) (e : EdgeRow) (z : ℤ) (row out : List ℤ) (h : Movable ws e z row out) where
+module _ (ws : List ℤ) (formed : T (well_formed ws)) (e : EdgeRow) (z : ℤ) (row out : List ℤ) (h : Movable ws e z row out) where
   abbrev c : Chart
   c = decode ws
 
@@ -166,7 +166,7 @@ module _ (ws : List ℤ) (e : EdgeRow) (z : ℤ) (row out : List ℤ) (h : Movab
   transferred : (r : Move) (out' : List ℤ) → step_of r out' ≡ post_at ws e.at row → StepR (Says c) (step_of r out') (post c g.edge (exactly s))
   unfolding post_words
   transferred r out' p =
-      let q = (agree ws h.formed).post (e.id.0 - 1) g row (exactly s) (same_edge ws h.formed e h.edge) (concrete_says c row h.concrete) in
+      let q = (agree ws formed).post (e.id.0 - 1) g row (exactly s) (same_edge ws formed e h.edge) (concrete_says c row h.concrete) in
       subst (λ (o : Step (List ℤ)). StepR (Says c) o (post c g.edge (exactly s))) (ap (λ (i : ℕ). post_at ws i row) (sym h.edge.at) ∙ sym p) q
 
   pub advanced_by : (r : Move) (out' : List ℤ) → (count ws (e.at + operation_place) ≡ in_code → ⊥) → step_of r out' ≡ post_at ws e.at row → Advanced c (move c (choose g z) s) out' r
@@ -181,7 +181,7 @@ module _ (ws : List ℤ) (e : EdgeRow) (z : ℤ) (row out : List ℤ) (h : Movab
       let v = count ws (e.at + target_place) in
       let lo = word_at ws (e.at + first_value_place) in
       let hi = word_at ws (e.at + second_value_place) in
-      let fine : T (op_ok c.vars (input v lo hi)) = subst (λ (x : Op). T (op_ok c.vars x)) o (edge_op_ok ws h.formed e h.edge) in
+      let fine : T (op_ok c.vars (input v lo hi)) = subst (λ (x : Op). T (op_ok c.vars x)) o (edge_op_ok ws formed e h.edge) in
       let w : T (within lo hi z) = interval_in lo hi z (subst (λ (x : Op). In z (inputs x)) o h.input) in
       let inside : T (in_range c.vars v z) = between c.vars v lo z hi (and_left (le_z lo z) (le_z z hi) w) (and_right (le_z lo z) (le_z z hi) w) (search (and_left, and_right) depth 8) (search (and_left, and_right) depth 8) in
       let q : StepR (Says c) (step_of r out') (pick (eqb g.edge.from s.loc) (arrive_at g.edge.to (effect c.vars (input v lo hi) (map known s.vals))) blocked) = rw o at (transferred r out' p) in

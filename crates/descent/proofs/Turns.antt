@@ -6,36 +6,28 @@ use Rattle.semantics.specs.Algorithm.{blocked, fault, to}
 use Rattle.semantics.specs.Search.{Trail, here, overrun, by, or_else, first_of, after_move, found, Choice, choose, inputs, choices, move, explicit}
 use Rattle.semantics.specs.declared.EdgeId.{EdgeId}
 use Rattle.semantics.proofs.Bools.{from_true, from_false}
-use Rattle.descent.specs.declared.Found.{Found}
-use Rattle.descent.specs.declared.Found.TheVariants.{Nothing, Overrun}
-use Rattle.descent.specs.Trails.{end_of, answer_of, laid, Went, is_nothing, last_move, from_step, by_input, by_edge}
+use Rattle.std.specs.Prelude.{Option as Perhaps, Some, None}
+use Rattle.descent.specs.declared.End.{End}
+use Rattle.descent.specs.declared.End.TheVariants.{Overrun}
+use Rattle.descent.specs.Trails.{answer_of, laid, Went, last_move, from_step, by_input, by_edge}
 
 abbrev Route : Type 0
 Route = Trail Choice State
 
 -- ---- what an answer tells
 
-end_found : (r : Route) → is_nothing (end_of r) ≡ true → ⊥
-end_found here e = from_true e
-end_found (overrun a) e = from_true e
-end_found (by a t r) e = end_found r e
+pub nothing : (o : Option Route) → answer_of o ≡ None → o ≡ none
+nothing none e = refl
+nothing (some t) e = absurd (cc)
 
-pub nothing : (o : Option Route) {r : Found} → r ≡ answer_of o → not (is_nothing r) ≡ false → o ≡ none
-nothing none e h = refl
-nothing (some t) {r} e h = absurd (end_found t (ap is_nothing (sym e) ∙ go (is_nothing r) h))
-  where
-    go : (b : Bool) → not b ≡ false → b ≡ true
-    go true h = refl
-    go false h = absurd (from_false h tt)
+pub something : (o : Option Route) {e : End} → answer_of o ≡ Some e → (t : Route) × (o ≡ some t)
+something none e = absurd (cc)
+something (some t) e = (t, refl)
 
-pub something : (o : Option Route) {r : Found} → r ≡ answer_of o → not (is_nothing r) ≡ true → (t : Route) × (o ≡ some t)
-something none {r} e h = absurd (from_true (ap (λ (x : Found). not (is_nothing x)) (sym e) ∙ h))
-something (some t) e h = (t, refl)
-
-pub went_none : {o : Option Route} {p u : List ℤ} → o ≡ none → u ≡ p → Went o p u Nothing
+pub went_none : {o : Option Route} {p u : List ℤ} → o ≡ none → u ≡ p → Went o p u None
 went_none e k = rw e (record { answer = refl; words = k })
 
--- ---- a loop over the list xs, at place i
+-- ---- a loop over a list that has come to x
 
 or_some : (o q : Option Route) (t : Route) → o ≡ some t → or_else o q ≡ o
 or_some none q t e = absurd (from_false (ap is e) tt)
@@ -45,24 +37,27 @@ or_some none q t e = absurd (from_false (ap is e) tt)
     is (some t) = false
 or_some (some u) q t e = refl
 
-module _ {A : Type 0} (f : A → Option Route) (xs : List A) (d : A) (i : ℕ) {whole : Option Route} (inv : whole ≡ first_of f (drop i xs)) where
-  turn : i < length xs → whole ≡ or_else (f (get_or xs i d)) (first_of f (drop (i + 1) xs))
-  turn h = inv ∙ ap (first_of f) (drop-cons xs i d h) ∙ rw (add-one i)
+module _ {A : Type 0} (f : A → Option Route) (x : A) (xs : List A) {whole : Option Route} (inv : whole ≡ first_of f (x ∷ xs)) {p p' u : List ℤ} {r : Perhaps End} (kept : p' ≡ p) (went : Went (f x) p' u r) where
+  -- it ends by x
+  pub turn_found : {e : End} → r ≡ Some e → Went whole p u (Some e)
+  turn_found {e} h =
+      let t = something (f x) (sym went.answer ∙ h) in
+      let q : whole ≡ f x = inv ∙ or_some (f x) _ t.0 t.1 in
+      rw q (record { answer = sym h ∙ went.answer; words = went.words ∙ ap (laid (f x)) kept })
 
-  pub turn_found : {p p' u : List ℤ} {r : Found} → i < length xs → p' ≡ p → Went (f (get_or xs i d)) p' u r → not (is_nothing r) ≡ true → Went whole p u r
-  turn_found {p} h k w e =
-      let t = something (f (get_or xs i d)) w.answer e in
-      let q : whole ≡ f (get_or xs i d) = turn h ∙ or_some (f (get_or xs i d)) _ t.0 t.1 in
-      rw q (record { answer = w.answer; words = w.words ∙ ap (laid (f (get_or xs i d))) k })
+  none_here : r ≡ None → f x ≡ none
+  none_here h = nothing (f x) (sym went.answer ∙ h)
 
-  pub turn_kept : {p u : List ℤ} {r : Found} → Went (f (get_or xs i d)) p u r → not (is_nothing r) ≡ false → u ≡ p
-  turn_kept {p} w e = w.words ∙ ap (λ (o : Option Route). laid o p) (nothing (f (get_or xs i d)) w.answer e)
+  -- or it goes on, with the path as it was
+  pub turn_kept : r ≡ None → u ≡ p
+  turn_kept h = went.words ∙ ap (λ (o : Option Route). laid o p') (none_here h) ∙ kept
 
-  pub turn_next : {p u : List ℤ} {r : Found} → i < length xs → Went (f (get_or xs i d)) p u r → not (is_nothing r) ≡ false → whole ≡ first_of f (drop (i + 1) xs)
-  turn_next h w e = turn h ∙ ap (λ (o : Option Route). or_else o (first_of f (drop (i + 1) xs))) (nothing (f (get_or xs i d)) w.answer e)
+  pub turn_next : r ≡ None → whole ≡ first_of f xs
+  turn_next h = inv ∙ ap (λ (o : Option Route). or_else o (first_of f xs)) (none_here h)
 
-  pub turn_end : {p u : List ℤ} → length xs ≤ i → u ≡ p → Went whole p u Nothing
-  turn_end h k = went_none (inv ∙ ap (first_of f) (drop_of_length-le xs h)) k
+-- nothing is left of the list
+pub turn_end : {A : Type 0} (f : A → Option Route) (xs : List A) {whole : Option Route} {p u : List ℤ} → whole ≡ first_of f xs → xs ≡ [] → u ≡ p → Went whole p u None
+turn_end f xs inv e k = went_none (inv ∙ ap (first_of f) e) k
 
 pub at_get_or : {A : Type 0} (xs : List A) (i : ℕ) (x d : A) → At xs i x → get_or xs i d ≡ x
 at_get_or [] i x d a = absurd a
@@ -116,12 +111,12 @@ module _ (c : Chart) where
 
   -- ---- what a move makes of it
 
-  pub blocked_went : (m : ℕ) (s : State) (g : Numbered) (z : ℤ) {p : List ℤ} → move c (choose g z) s ≡ blocked → Went (by_input c m s g z) p p Nothing
+  pub blocked_went : (m : ℕ) (s : State) (g : Numbered) (z : ℤ) {p : List ℤ} → move c (choose g z) s ≡ blocked → Went (by_input c m s g z) p p None
   blocked_went m s g z e = went_none (ap (after_move m (found (explicit c) m) (choose g z)) e) refl
 
-  pub fault_went : (m : ℕ) (s : State) (g : Numbered) (z : ℤ) {p : List ℤ} {n : EdgeId} {r : Found} → move c (choose g z) s ≡ fault → g.no ≡ n.0 → r ≡ last_move m n → Went (by_input c m s g z) p p r
-  fault_went zero s g z {n = n} e h k = rw e (record { answer = k ∙ ap (λ (x : ℕ). Overrun (record { 0 = x })) (sym h); words = refl })
+  pub fault_went : (m : ℕ) (s : State) (g : Numbered) (z : ℤ) {p : List ℤ} {n : EdgeId} {r : Perhaps End} → move c (choose g z) s ≡ fault → g.no ≡ n.0 → r ≡ last_move m n → Went (by_input c m s g z) p p r
+  fault_went zero s g z {n = n} e h k = rw e (record { answer = k ∙ ap (λ (x : ℕ). Some (Overrun (record { 0 = x }))) (sym h); words = refl })
   fault_went (suc m) s g z e h k = rw e (record { answer = k; words = refl })
 
-  pub step_went : (m : ℕ) (s t : State) (g : Numbered) (z : ℤ) {p u : List ℤ} {r : Found} → move c (choose g z) s ≡ to t → Went (from_step c m (choose g z) t) p u r → Went (by_input c m s g z) p u r
+  pub step_went : (m : ℕ) (s t : State) (g : Numbered) (z : ℤ) {p u : List ℤ} {r : Perhaps End} → move c (choose g z) s ≡ to t → Went (from_step c m (choose g z) t) p u r → Went (by_input c m s g z) p u r
   step_went m s t g z e w = rw e w

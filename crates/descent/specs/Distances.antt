@@ -1,6 +1,8 @@
 -- A lower bound on the moves that are still needed, by location alone: "the least number of edges to a bad location or to an
 -- edge that could overrun by its operands' declared spans". Assumes nothing.
 use Rattle.std.specs.Prelude.{◌≡◌, List, map, ℕ, suc, ◌≤◌, T, ℤ, get_or}
+use Rattle.std.specs.Coded.{Unit-prop, le_prop}
+use Rattle.std.proofs.Math.Nat.{ℕ_set}
 use Rattle.semantics.specs.Lists.{In}
 use Rattle.semantics.specs.Chart.{top, Edge, Chart, Numbered, numbered, error_location}
 use Rattle.semantics.specs.Algorithm.{Step, blocked, fault, to}
@@ -24,6 +26,15 @@ Near d g (to f) = d g.from ≤ suc (d g.to)
 pub record Distances (c : Chart) (d : ℕ → ℕ) : Type 0 where
   pub at_error : (l : ℕ) → T (error_location c.locs l) → d l ≡ 0
   pub at_edge : (g : Numbered) → In g (numbered c) → Near d g.edge (post c g.edge (anywhere c g.edge.from))
+
+-- a bound for an edge holds or does not, in one way alone; so do all of them
+near_prop : (d : ℕ → ℕ) (g : Edge) (z : Step AbstractState) → IsProp (Near d g z)
+near_prop d g blocked = Unit-prop
+near_prop d g fault = le_prop
+near_prop d g (to f) = le_prop
+
+pub Distances-prop : (c : Chart) (d : ℕ → ℕ) → IsProp (Distances c d)
+Distances-prop c d = hlevel (ℕ_set, near_prop)
 
 -- the distance of a location in a table; 0 past its end
 abbrev pub distance_in : List ℕ → ℕ → ℕ

@@ -1,8 +1,8 @@
 -- A state of a chart as a row of words, and an edge as the code has it. Assumes nothing.
-use Rattle.std.specs.Prelude.{◌≡◌, List, ◌-◌, ◌≤◌, ◌<◌, ℤ, T, length, drop}
+use Rattle.std.specs.Prelude.{◌≡◌, List, ◌-◌, ◌≤◌, ◌<◌, ℤ, length, drop}
 use Rattle.semantics.specs.Lists.{In}
 use Rattle.semantics.specs.Algorithm.{Step, blocked, fault, to}
-use Rattle.semantics.specs.Encoding.{decode, well_formed}
+use Rattle.semantics.specs.Encoding.{decode}
 use Rattle.semantics.specs.Search.{inputs}
 use Rattle.semantics.specs.Chart.{Chart, Numbered, State, Ranged}
 use Rattle.semantics.specs.Encoding.{edge_in, edge_count}
@@ -32,10 +32,9 @@ pub record IsEdge (ws : List ℤ) (e : EdgeRow) : Type 0 where
   pub within : e.id.0 ≤ edge_count ws
   pub at : e.at ≡ edge_at ws (e.id.0 - 1)
 
--- what a move asks: a chart in form, one of its edges, an input value of that, a row that is a state, and as much room for the
+-- what a move asks: one of the chart's edges, an input value of that, a row that is a state, and as much room for the
 -- successor
 pub record Movable (ws : List ℤ) (e : EdgeRow) (z : ℤ) (row out : List ℤ) : Type 0 where
-  pub formed : T (well_formed ws)
   pub edge : IsEdge ws e
   pub input : In z (inputs (edge_of ws e).edge.op)
   pub concrete : Concrete (decode ws) row

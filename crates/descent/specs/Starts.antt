@@ -34,11 +34,6 @@ abbrev pub Next : Chart → List ℤ → List ℤ → Bool → Type 0
 Next c e e' true = Starts c e' × (starts_after c.vars (values_of e) ≡ values_of e' ∷ starts_after c.vars (values_of e'))
 Next c e e' false = starts_after c.vars (values_of e) ≡ []
 
--- the starting values that are still to be tried: the row's and those after it, or none
-abbrev pub left_over : Chart → Bool → List ℤ → List (List ℤ)
-left_over c true e = values_of e ∷ starts_after c.vars (values_of e)
-left_over c false e = []
-
 -- ---- one variable
 
 -- variable k of an encoded chart

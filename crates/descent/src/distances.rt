@@ -2,14 +2,14 @@
 // at an error location, 1 where an edge could overrun, else one more than where an edge leads. Passes lower distances until
 // one finds nothing to lower. That such a pass comes is not proved: without it all become 0, which turns nothing back. Nor
 // is anything asked of a location: a distance past the end of the table is 0.
-ghost use Rattle.std.specs.Prelude.{◌≡◌, true, ◌+◌, ◌<◌, ◌≤◌, T, length, replicate};
+ghost use Rattle.std.specs.Prelude.{◌≡◌, true, ◌≤◌, ◌<◌, T, length, replicate};
 ghost use Rattle.semantics.specs.Layout.{index_limit};
 ghost use Rattle.semantics.specs.Chart.{error_location};
-ghost use Rattle.semantics.specs.Encoding.{decode, well_formed};
+ghost use Rattle.semantics.specs.Encoding.{decode};
 ghost use Rattle.descent.specs.Rows.{edge_of, IsEdge};
 ghost use Rattle.descent.specs.Distances.{Distances, distance_in, from_anywhere, move_of, NearBy, KindsAllow, EdgesAllow};
 
-use chart::EdgeRow;
+use chart::{Chart, EdgeRow};
 use semantics::{EdgeId, LocationId};
 use transfer::Move;
 
@@ -22,21 +22,7 @@ const FAR: usize = semantics::MOST_MOVES + 1;
 pub fn distance(dist: &[usize], l: LocationId) -> usize
     ensures { result ≡ distance_in dist.now l.0 }
 {
-    let i = l.0;
-    if i < dist.len() {
-        return dist[i];
-    }
-    0
-}
-
-fn fill(dist: &mut [usize], x: usize)
-    ensures { dist.new ≡ replicate (length dist.old) x }
-{
-    let mut i = 0;
-    while i < dist.len() {
-        dist[i] = x;
-        i += 1;
-    }
+    dist.get(l.0).copied().unwrap_or(0)
 }
 
 // The distance of a location is no more than `most` then. Whether it was not before.
@@ -44,8 +30,7 @@ fn lower(dist: &mut [usize], l: LocationId, most: usize) -> bool
     ensures { result ≡ true → (dist.new ≡ dist.old) × (distance_in dist.old l.0 ≤ most) }
 {
     if most < distance(dist, l) {
-        let i = l.0;
-        dist[i] = most;
+        dist[l.0] = most;
         return false;
     }
     true
@@ -53,11 +38,11 @@ fn lower(dist: &mut [usize], l: LocationId, most: usize) -> bool
 
 // ---- what a kind and an edge allow at most
 
-fn by_kind(chart: &[i32], l: LocationId) -> usize
-    requires { T (well_formed chart.now) × (l.0 < index_limit) }
+fn by_kind(chart: &Chart, l: LocationId) -> usize
+    requires { l.0 < index_limit }
     ensures { T (error_location (decode chart.now).locs l.0) → result ≡ 0 }
 {
-    if chart::is_error_location(chart, l) {
+    if chart::is_error_location(chart.words(), l) {
         return 0;
     }
     FAR
@@ -65,72 +50,58 @@ fn by_kind(chart: &[i32], l: LocationId) -> usize
 
 // The edge's abstract move where nothing is known but its location: a fault where it could overrun by its operands'
 // declared ranges, no successor where it never passes.
-fn from_anywhere(chart: &[i32], edge: EdgeRow) -> Move
-    requires { T (well_formed chart.now) × IsEdge chart.now edge }
+fn from_anywhere(chart: &Chart, edge: EdgeRow) -> Move
+    requires { IsEdge chart.now edge }
     ensures { result ≡ move_of (from_anywhere (decode chart.now) (edge_of chart.now edge).edge) }
 {
-    let layout = state::layout_of(chart);
-    let width = layout.width();
+    let words = chart.words();
+    let width = state::layout_of(words).width();
     let mut row = [words::TOP; state::MOST_WIDTH];
     let mut next = [0i32; state::MOST_WIDTH];
-    state::set_location(&mut row, chart::edge_from(chart, edge));
-    transfer::successor(chart, edge, &row[..width], &mut next[..width])
+    state::set_location(&mut row, chart::edge_from(words, edge));
+    transfer::successor(words, edge, &row[..width], &mut next[..width])
 }
 
-fn one_more(n: usize) -> usize
-    ensures { result ≤ n + 1 }
-{
-    if n < FAR {
-        return n + 1;
-    }
-    FAR
-}
-
-fn by_edge(chart: &[i32], edge: EdgeRow, dist: &[usize]) -> usize
-    requires { T (well_formed chart.now) × IsEdge chart.now edge }
+fn by_edge(chart: &Chart, edge: EdgeRow, dist: &[usize]) -> usize
+    requires { IsEdge chart.now edge }
     ensures { distance_in dist.now (edge_of chart.now edge).edge.from ≤ result → NearBy chart.now dist.now (edge_of chart.now edge).edge }
 {
     match from_anywhere(chart, edge) {
         Move::Blocked => FAR,
         Move::Fault => 1,
-        Move::Successor => one_more(distance(dist, chart::edge_to(chart, edge))),
+        Move::Successor => {
+            let next = distance(dist, chart::edge_to(chart.words(), edge));
+            next.min(semantics::MOST_MOVES) + 1
+        }
     }
 }
 
 // ---- lowering
 
 // Each location by its kind. Whether none was lowered.
-fn lower_by_kinds(chart: &[i32], dist: &mut [usize]) -> bool
-    requires { T (well_formed chart.now) }
+fn lower_by_kinds(chart: &Chart, dist: &mut [usize]) -> bool
     ensures { result ≡ true → KindsAllow chart.now dist.new }
 {
-    let n = chart::location_count(chart);
     let mut still = true;
-    let mut location = 0;
-    while location < n {
+    for location in 0..chart::location_count(chart.words()) {
         let l = LocationId(location);
-        let most = by_kind(chart, l);
-        still = still & lower(dist, l, most);
-        location += 1;
+        still &= lower(dist, l, by_kind(chart, l));
     }
     still
 }
 
 // Each edge's location by the edge, from the last edge to the first: a chart is mostly written from its start on, and
 // distances come from its ends. Whether none was lowered.
-fn lower_by_edges(chart: &[i32], dist: &mut [usize]) -> bool
-    requires { T (well_formed chart.now) }
+fn lower_by_edges(chart: &Chart, dist: &mut [usize]) -> bool
     ensures { result ≡ true → (dist.new ≡ dist.old) × EdgesAllow chart.now dist.new }
 {
-    let first = chart::first_edge(chart);
+    let words = chart.words();
+    let first = chart::first_edge(words);
     let mut still = true;
-    let mut number = chart::edge_count(chart);
-    while 0 < number {
+    for number in (1..=chart::edge_count(words)).rev() {
         let edge = chart::edge_of(first, EdgeId(number));
         let most = by_edge(chart, edge, dist);
-        let l = chart::edge_from(chart, edge);
-        still = still & lower(dist, l, most);
-        number -= 1;
+        still &= lower(dist, chart::edge_from(words, edge), most);
     }
     still
 }
@@ -139,17 +110,14 @@ fn lower_by_edges(chart: &[i32], dist: &mut [usize]) -> bool
 
 // A table of distances that no run undercuts. The first pass settles those up to 1, and each further one those of a move
 // more: of so many passes the last, if not an earlier one, finds nothing to lower.
-pub fn measure(chart: &[i32], dist: &mut [usize])
-    requires { T (well_formed chart.now) }
+pub fn measure(chart: &Chart, dist: &mut [usize])
     ensures { Distances (decode chart.now) (distance_in dist.new) }
 {
-    fill(dist, FAR);
-    let mut left = FAR;
-    while 0 < left {
+    dist.fill(FAR);
+    for _ in 0..FAR {
         if lower_by_kinds(chart, dist) & lower_by_edges(chart, dist) {
             return;
         }
-        left -= 1;
     }
-    fill(dist, 0);
+    dist.fill(0);
 }

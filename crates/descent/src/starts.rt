@@ -3,13 +3,13 @@
 ghost use Rattle.std.specs.Prelude.{◌≡◌, ◌<◌, T, ltb, ◌-ℤ◌, length, drop};
 ghost use Rattle.semantics.specs.Layout.{index_limit, most_starts};
 ghost use Rattle.semantics.specs.Lists.{some_of};
-ghost use Rattle.semantics.specs.Encoding.{edge_in, decode, well_formed};
+ghost use Rattle.semantics.specs.Encoding.{edge_in, decode};
 ghost use Rattle.semantics.specs.Search.{size};
 ghost use Rattle.semantics.specs.RunListing.{wide_input, init_count, start_count, too_wide};
 ghost use Rattle.state.specs.Rows.{layout_of, width_of};
 ghost use Rattle.descent.specs.Starts.{Starts, First, Next, variable_in, first_value, rises, words_limit};
 
-use chart::EdgeRow;
+use chart::{Chart, EdgeRow};
 use semantics::{EdgeId, LocationId, MOST_INPUTS, MOST_STARTS};
 
 // ---- one variable
@@ -19,11 +19,11 @@ fn first_value(chart: &[i32], k: usize) -> i32
     requires { k < index_limit }
     ensures { result ≡ first_value (variable_in chart.now k).lo (variable_in chart.now k).init }
 {
-    let x = chart::variable_init(chart, k);
-    if x == words::TOP {
+    let init = chart::variable_init(chart, k);
+    if init == words::TOP {
         return chart::variable_low(chart, k);
     }
-    x
+    init
 }
 
 // Whether variable k may start with a value after x.
@@ -31,11 +31,7 @@ fn can_rise(chart: &[i32], k: usize, x: i32) -> bool
     requires { k < index_limit }
     ensures { result ≡ rises (variable_in chart.now k).hi (variable_in chart.now k).init x }
 {
-    let init = chart::variable_init(chart, k);
-    if init == words::TOP {
-        return x < chart::variable_high(chart, k);
-    }
-    false
+    chart::variable_init(chart, k) == words::TOP && x < chart::variable_high(chart, k)
 }
 
 // How many numbers p..q has.
@@ -46,7 +42,7 @@ pub fn size(p: i32, q: i32) -> usize
     if q < p {
         return 0;
     }
-    let gap = words::wide(q) - words::wide(p);
+    let gap = i64::from(q) - i64::from(p);
     gap as usize + 1
 }
 
@@ -56,8 +52,7 @@ fn start_values(chart: &[i32], k: usize) -> usize
     ensures count { result ≡ init_count (variable_in chart.now k).lo (variable_in chart.now k).hi (variable_in chart.now k).init }
     ensures small { result < words_limit }
 {
-    let init = chart::variable_init(chart, k);
-    if init != words::TOP {
+    if chart::variable_init(chart, k) != words::TOP {
         return 1;
     }
     size(
@@ -69,36 +64,31 @@ fn start_values(chart: &[i32], k: usize) -> usize
 // ---- one after the other
 
 // The first starting state.
-pub fn first_start(chart: &[i32], row: &mut [i32])
-    requires { T (well_formed chart.now) × (length row.old ≡ width_of (layout_of chart.now)) }
+pub fn first_start(chart: &Chart, row: &mut [i32])
+    requires { length row.old ≡ width_of (layout_of chart.now) }
     ensures { First (decode chart.now) row.new }
 {
-    let n = chart::variable_count(chart);
+    let words = chart.words();
     state::set_location(row, LocationId(0));
-    let mut k = 0;
-    while k < n {
-        let x = first_value(chart, k);
-        state::set_value(row, k, x);
-        k += 1;
+    for k in 0..chart::variable_count(words) {
+        state::set_value(row, k, first_value(words, k));
     }
 }
 
 // The starting state after the row's, if there is one: the last variable that may start with a value after its own goes up
 // by one, and those after it are put back to their first. If there is none, every variable is put back.
-pub fn next_start(chart: &[i32], row: &mut [i32]) -> bool
-    requires { T (well_formed chart.now) × Starts (decode chart.now) row.old }
+pub fn next_start(chart: &Chart, row: &mut [i32]) -> bool
+    requires { Starts (decode chart.now) row.old }
     ensures { Next (decode chart.now) row.old row.new result }
 {
-    let mut k = chart::variable_count(chart);
-    while 0 < k {
-        k -= 1;
+    let words = chart.words();
+    for k in (0..chart::variable_count(words)).rev() {
         let x = state::value_at(row, k);
-        if can_rise(chart, k, x) {
+        if can_rise(words, k, x) {
             state::set_value(row, k, x + 1);
             return true;
         }
-        let first = first_value(chart, k);
-        state::set_value(row, k, first);
+        state::set_value(row, k, first_value(words, k));
     }
     false
 }
@@ -110,27 +100,18 @@ fn is_wide(chart: &[i32], edge: EdgeRow) -> bool
     requires { edge.at < index_limit }
     ensures { result ≡ wide_input (edge_in (drop edge.at chart.now)).op }
 {
-    let n = chart::edge_operation(chart, edge);
-    if n == chart::IN_CODE {
-        let p = chart::first_value(chart, edge);
-        let q = chart::second_value(chart, edge);
-        return MOST_INPUTS < size(p, q);
-    }
-    false
+    chart::edge_operation(chart, edge) == chart::IN_CODE
+        && MOST_INPUTS < size(chart::first_value(chart, edge), chart::second_value(chart, edge))
 }
 
 // Whether some edge is.
-fn has_wide_input(chart: &[i32]) -> bool
-    requires { T (well_formed chart.now) }
+fn has_wide_input(chart: &Chart) -> bool
     ensures { result ≡ some_of (λ g. wide_input g.op) (decode chart.now).edges }
 {
-    let n = chart::edge_count(chart);
-    let first = chart::first_edge(chart);
-    let mut passed = 0;
-    while passed < n {
-        passed += 1;
-        let edge = chart::edge_of(first, EdgeId(passed));
-        if is_wide(chart, edge) {
+    let words = chart.words();
+    let first = chart::first_edge(words);
+    for number in 1..=chart::edge_count(words) {
+        if is_wide(words, chart::edge_of(first, EdgeId(number))) {
             return true;
         }
     }
@@ -138,25 +119,21 @@ fn has_wide_input(chart: &[i32]) -> bool
 }
 
 // Whether there are too many starting states. The count cannot come down again, and so stays small.
-fn has_many_starts(chart: &[i32]) -> bool
-    requires { T (well_formed chart.now) }
+fn has_many_starts(chart: &Chart) -> bool
     ensures { result ≡ ltb most_starts (start_count (decode chart.now).vars) }
 {
-    let n = chart::variable_count(chart);
+    let words = chart.words();
     let mut starts = 1;
-    let mut k = 0;
-    while k < n {
-        starts = starts * start_values(chart, k);
+    for k in 0..chart::variable_count(words) {
+        starts *= start_values(words, k);
         if MOST_STARTS < starts {
             return true;
         }
-        k += 1;
     }
     false
 }
 
-pub fn is_too_wide(chart: &[i32]) -> bool
-    requires { T (well_formed chart.now) }
+pub fn is_too_wide(chart: &Chart) -> bool
     ensures { result ≡ too_wide (decode chart.now) }
 {
     has_wide_input(chart) | has_many_starts(chart)

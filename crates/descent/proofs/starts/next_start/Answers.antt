@@ -13,9 +13,9 @@ pub loop-k-init : goal.loop-k-init
 loop-k-init c =
     let ws = c.args.chart.now in
     let e = c.args.row.now in
-    let n = c.variable_count-k.ensures.count in
-    let l = start_values_length (decode ws) e c.requires.1 in
-    (omega arith, refl, nothing_put (decode ws).vars (values_of e) e c.variable_count-k.result c.requires.1.words (omega (arith, n, l, vars_count ws)) (no_variable ws c.variable_count-k.result (omega (arith, n))))
+    let n = c.variable_count-k.ensures.count ∙ ap variable_count c.words-words.ensures.words in
+    let l = start_values_length (decode ws) e c.requires in
+    nothing_put (decode ws).vars (values_of e) e c.variable_count-k.result c.requires.words (omega (arith, l, vars_count ws)) (no_variable ws c.variable_count-k.result (omega arith))
 
 -- a turn, at variable k: the row was e, and is `row` with the variables after k put back; x is the value of k
 module _ (ws e row : List ℤ) (k : ℕ) (t : T (well_formed ws)) (start : Starts (decode ws) e) (h : k < variable_count ws) (back : PutBack (decode ws).vars (values_of e) row (k + 1)) where
@@ -49,25 +49,28 @@ module _ (ws e row : List ℤ) (k : ℕ) (t : T (well_formed ws)) (start : Start
 pub overflow_add-x : goal.overflow_add-x
 overflow_add-x c =
     let k = c.loop-k.k - 1 in
-    let h : k < variable_count c.args.chart.now = omega (arith, c.variable_count-k.ensures.count) in
+    let n = c.variable_count-k.ensures.count ∙ ap variable_count c.words-words.ensures.words in
+    let h : k < variable_count c.args.chart.now = omega arith in
     let at : c.loop-k.k ≡ k + 1 = omega arith in
-    let back = subst (PutBack (decode c.args.chart.now).vars (values_of c.args.row.now) c.loop-k.row) at c.loop-k.invariant.2 in
-    is_word c.args.chart.now c.args.row.now c.loop-k.row k c.requires.0 c.requires.1 h back c.value_at-x.result (sfits_of c.value_at-x.type_inv) c.value_at-x.ensures (sym c.can_rise.ensures ∙ c.if-can_rise.true)
+    let back = subst (PutBack (decode c.args.chart.now).vars (values_of c.args.row.now) c.loop-k.row) at c.loop-k.invariant in
+    is_word c.args.chart.now c.args.row.now c.loop-k.row k c.words-words.ensures.in_form c.requires h back c.value_at-x.result (sfits_of c.value_at-x.type_inv) c.value_at-x.ensures (rw c.words-words.ensures.words at (sym c.can_rise.ensures ∙ c.if-can_rise.true))
 
 pub returns-then-can_rise : goal.returns-then-can_rise
 returns-then-can_rise c =
     let k = c.loop-k.k - 1 in
-    let h : k < variable_count c.args.chart.now = omega (arith, c.variable_count-k.ensures.count) in
+    let n = c.variable_count-k.ensures.count ∙ ap variable_count c.words-words.ensures.words in
+    let h : k < variable_count c.args.chart.now = omega arith in
     let at : c.loop-k.k ≡ k + 1 = omega arith in
-    let back = subst (PutBack (decode c.args.chart.now).vars (values_of c.args.row.now) c.loop-k.row) at c.loop-k.invariant.2 in
-    gone_up c.args.chart.now c.args.row.now c.loop-k.row k c.requires.0 c.requires.1 h back c.value_at-x.result (sfits_of c.value_at-x.type_inv) c.value_at-x.ensures (sym c.can_rise.ensures ∙ c.if-can_rise.true) c.set_value.new.row c.set_value.ensures
+    let back = subst (PutBack (decode c.args.chart.now).vars (values_of c.args.row.now) c.loop-k.row) at c.loop-k.invariant in
+    gone_up c.args.chart.now c.args.row.now c.loop-k.row k c.words-words.ensures.in_form c.requires h back c.value_at-x.result (sfits_of c.value_at-x.type_inv) c.value_at-x.ensures (rw c.words-words.ensures.words at (sym c.can_rise.ensures ∙ c.if-can_rise.true)) c.set_value.new.row c.set_value.ensures
 
 pub loop-k-preserved : goal.loop-k-preserved
 loop-k-preserved c =
     let k = c.loop-k.k - 1 in
-    let h : k < variable_count c.args.chart.now = omega (arith, c.variable_count-k.ensures.count) in
+    let n = c.variable_count-k.ensures.count ∙ ap variable_count c.words-words.ensures.words in
+    let h : k < variable_count c.args.chart.now = omega arith in
     let at : c.loop-k.k ≡ k + 1 = omega arith in
-    let back = subst (PutBack (decode c.args.chart.now).vars (values_of c.args.row.now) c.loop-k.row) at c.loop-k.invariant.2 in
-    let first = told (sfits_of {z = c.first_value-first.result} c.first_value-first.type_inv) c.first_value-first.ensures in
-    let put_back = put_first c.args.chart.now c.args.row.now c.loop-k.row k c.requires.0 c.requires.1 h back c.value_at-x.result (sfits_of c.value_at-x.type_inv) c.value_at-x.ensures _ (sym c.can_rise.ensures ∙ c.if-can_rise.false) first in
-    (omega arith, c.set_value-in-loop-k.auto.row ∙ c.loop-k.invariant.1, rw c.set_value-in-loop-k.ensures put_back)
+    let back = subst (PutBack (decode c.args.chart.now).vars (values_of c.args.row.now) c.loop-k.row) at c.loop-k.invariant in
+    let first = told (sfits_of {z = c.first_value.result} c.first_value.type_inv) (rw c.words-words.ensures.words at c.first_value.ensures) in
+    let put_back = put_first c.args.chart.now c.args.row.now c.loop-k.row k c.words-words.ensures.in_form c.requires h back c.value_at-x.result (sfits_of c.value_at-x.type_inv) c.value_at-x.ensures _ (rw c.words-words.ensures.words at (sym c.can_rise.ensures ∙ c.if-can_rise.false)) first in
+    rw c.set_value-in-loop-k.ensures put_back
