@@ -32,12 +32,12 @@ edge_here : (ws : List ℤ) → T (well_formed ws) → (e : EdgeRow) → IsEdge 
 edge_here ws f e is = sym (at_get_or (numbered (decode ws)) (e.id.0 - 1) (edge_of ws e) no_edge (edge_numbered ws f e is))
 
 -- the edges that are left where edge n is next, and where none is
-module _ (ws : List ℤ) (f : T (well_formed ws)) (e : EdgeRow) (is : IsEdge ws e) where
-  pub edges_left : drop (e.id.0 - 1) (numbered (decode ws)) ≡ edge_of ws e ∷ drop e.id.0 (numbered (decode ws))
-  edges_left =
-      let inside : e.id.0 - 1 < length (numbered (decode ws)) = omega (arith, is.some, is.within, numbered_length ws) in
-      let next : suc (e.id.0 - 1) ≡ e.id.0 = omega (arith, is.some) in
-      drop-cons (numbered (decode ws)) (e.id.0 - 1) no_edge inside ∙ (λ i. sym (edge_here ws f e is) i ∷ drop (next i) (numbered (decode ws)))
+pub edges_left : (ws : List ℤ) → T (well_formed ws) → (e : EdgeRow) → IsEdge ws e → (n : ℕ) → e.id.0 ≡ n → drop (n - 1) (numbered (decode ws)) ≡ edge_of ws e ∷ drop n (numbered (decode ws))
+edges_left ws f e is n same =
+    let inside : n - 1 < length (numbered (decode ws)) = omega (arith, is.some, is.within, numbered_length ws) in
+    let next : suc (n - 1) ≡ n = omega (arith, is.some) in
+    let here = edge_here ws f e is ∙ ap (λ (k : ℕ). get_or (numbered (decode ws)) (k - 1) no_edge) same in
+    drop-cons (numbered (decode ws)) (n - 1) no_edge inside ∙ (λ i. sym here i ∷ drop (next i) (numbered (decode ws)))
 
 pub no_edges_left : (ws : List ℤ) (n : ℕ) → edge_count ws ≤ n → drop n (numbered (decode ws)) ≡ []
 no_edges_left ws n h = drop_of_length-le (numbered (decode ws)) (omega (arith, numbered_length ws, h))

@@ -41,38 +41,6 @@ module _ (ws : List ℤ) (k : ℕ) where
     pub init_known : (of_z w32 z ≡ of_z w32 top_word → ⊥) → (variable_in ws k).init ≡ known z
     init_known t = init_is ∙ ap (λ (b : Bool). pick b top (known z)) (bits_ne w32 {a = z} {b = top_word} f (sfits_lit tt) t)
 
--- an edge that is no `in` is not wide
-no_input : (n v : ℕ) (a b : Operand) (x y : ℤ) → (n ≡ in_code → ⊥) → wide_input (op_of n v a b x y) ≡ false
-no_input n v a b x y =
-    looked_up (λ (k : ℕ). (k ≡ in_code → ⊥) → wide_input (op_of k v a b x y) ≡ false) 10
-    (λ h. refl, (λ h. refl, (λ h. refl, (λ h. refl, (λ h. absurd (h refl), (λ h. refl, (λ h. refl, (λ h. refl, (λ h. refl, (λ h. refl, tt))))))))))
-    (λ k h. refl)
-    n
-
-module _ (ws : List ℤ) (at : ℕ) where
-  -- a word of the edge at a place
-  word : (i : ℕ) → word_at (drop at ws) i ≡ word_at ws (at + i)
-  word i = get_or-drop at ws i (pos 0)
-
-  pub wide_by_code : count ws (at + operation_place) ≡ in_code
-      → wide_input (edge_in (drop at ws)).op ≡ ltb most_inputs (size (word_at ws (at + second_value_place) -ℤ word_at ws (at + first_value_place)))
-  wide_by_code e =
-      let row = drop at ws in
-      let x = word_at row first_value_place in
-      let y = word_at row second_value_place in
-      let a = operand (word_at row first_tag_place) x in
-      let b = operand (word_at row second_tag_place) y in
-      ap (λ (n : ℕ). wide_input (op_of n (count row target_place) a b x y)) (ap nat_abs (word operation_place) ∙ e)
-      ∙ λ i. ltb most_inputs (size (word second_value_place i -ℤ word first_value_place i))
-
-  pub not_wide : (count ws (at + operation_place) ≡ in_code → ⊥) → wide_input (edge_in (drop at ws)).op ≡ false
-  not_wide h =
-      let row = drop at ws in
-      let x = word_at row first_value_place in
-      let y = word_at row second_value_place in
-      no_input (count row operation_place) (count row target_place) (operand (word_at row first_tag_place) x) (operand (word_at row second_tag_place) y) x y
-      (λ q. h (sym (ap nat_abs (word operation_place)) ∙ q))
-
 -- ---- a turn of a loop over variables or edges
 
 at_drop : {A : Type 0} (l : List A) (k : ℕ) (x : A) → At l k x → drop k l ≡ x ∷ drop (k + 1) l

@@ -3,17 +3,17 @@
 // on known values is a run's own, but for `in`.
 #![tactic(auto)]
 
-ghost use Rattle.std.specs.Prelude.{◌≡◌, ◌∷◌, ◌*◌, ◌≤◌, ◌<◌, suc, pos, length};
+ghost use Rattle.std.specs.Prelude.{◌≡◌, ◌∷◌, ◌*◌, ◌≤◌, ◌<◌, suc, T, pos, length};
 ghost use Rattle.semantics.specs.Layout.{index_limit, most_edges, most_moves};
 ghost use Rattle.semantics.specs.Lists.{In};
-ghost use Rattle.semantics.specs.Encoding.{decode};
+ghost use Rattle.semantics.specs.Encoding.{decode, well_formed};
 ghost use Rattle.semantics.specs.Memory.{width};
 ghost use Rattle.semantics.specs.Search.{found, attempt, first_run, Choice, choose, interval, inputs, move, explicit};
 ghost use Rattle.descent.specs.Distances.{Distances, Distances-prop, distance_in};
 ghost use Rattle.descent.specs.Rows.{state_of, Concrete, edge_of, IsEdge, Movable, Advanced};
 ghost use Rattle.descent.specs.Trails.{last_move, answer_of, Went, by_input, by_edge, from_step, Going, Deepening, Holds};
 
-use chart::{Chart, EdgeRow};
+use chart::{Chart, EdgeRow, Kind, Which};
 use semantics::EdgeId;
 use transfer::Move;
 
@@ -34,11 +34,14 @@ pub struct Run {
     pub end: End,
 }
 
-// What every part of the descent goes by: the chart, and distances that none of its runs undercuts.
+// What every part of the descent goes by: the chart, its words at hand, and distances that none of its runs undercuts.
 #[derive(Clone, Copy)]
 struct Guide<'a> {
     chart: &'a Chart<'a>,
+    words: &'a [i32],
     dist: &'a [usize],
+    ghost same: { words.now ≡ chart.now },
+    ghost formed: { T (well_formed chart.now) },
     ghost near: { Distances (decode chart.now) (distance_in dist.now) } by { Distances-prop (decode chart.now) (distance_in dist.now) },
 }
 
@@ -49,21 +52,23 @@ fn input_range(chart: &[i32], edge: EdgeRow) -> (i32, i32)
     requires { edge.at < index_limit }
     ensures { inputs (edge_of chart.now edge).edge.op ≡ interval result.0 result.1 }
 {
-    if chart::edge_operation(chart, edge) == chart::IN_CODE {
-        return (chart::first_value(chart, edge), chart::second_value(chart, edge));
+    match chart::edge_kind(chart, edge) {
+        Kind::In => (
+            chart::edge_operand(chart, edge, Which::First).value,
+            chart::edge_operand(chart, edge, Which::Second).value,
+        ),
+        _ => (0, 0),
     }
-    (0, 0)
 }
 
 // The move of the row by the edge, z read by an `in`, its successor into `out`.
-fn advance(chart: &Chart, edge: EdgeRow, z: i32, row: &[i32], out: &mut [i32]) -> Move
-    requires { Movable chart.now edge z row.now out.old }
-    ensures { Advanced (decode chart.now) (move (decode chart.now) (choose (edge_of chart.now edge) z) (state_of row.now)) out.new result }
+fn advance(guide: &Guide, edge: EdgeRow, z: i32, row: &[i32], out: &mut [i32]) -> Move
+    requires { Movable guide.now.chart.now edge z row.now out.old }
+    ensures { Advanced (decode guide.now.chart.now) (move (decode guide.now.chart.now) (choose (edge_of guide.now.chart.now edge) z) (state_of row.now)) out.new result }
 {
-    let words = chart.words();
-    let moved = transfer::successor(words, edge, row, out);
-    if chart::edge_operation(words, edge) == chart::IN_CODE {
-        state::set_value(out, chart::edge_target(words, edge), z);
+    let moved = transfer::successor(guide.words, edge, row, out);
+    if let Kind::In = chart::edge_kind(guide.words, edge) {
+        state::set_value(out, chart::edge_target(guide.words, edge), z);
     }
     moved
 }
@@ -71,11 +76,11 @@ fn advance(chart: &Chart, edge: EdgeRow, z: i32, row: &[i32], out: &mut [i32]) -
 // ---- going down
 
 // With no move left: whether the row stands at an error location.
-fn at_end(chart: &Chart, row: &[i32]) -> Option<End>
-    requires { Concrete (decode chart.now) row.now }
-    ensures { result ≡ answer_of (found (explicit (decode chart.now)) 0 (state_of row.now)) }
+fn at_end(guide: &Guide, row: &[i32]) -> Option<End>
+    requires { Concrete (decode guide.now.chart.now) row.now }
+    ensures { result ≡ answer_of (found (explicit (decode guide.now.chart.now)) 0 (state_of row.now)) }
 {
-    if transfer::is_error(chart.words(), row) {
+    if transfer::is_error(guide.words, row) {
         return Some(End::AtError);
     }
     None
@@ -112,11 +117,10 @@ fn go_down(guide: &Guide, row: &[i32], left: usize, path: &mut [i32]) -> Option<
         return None;
     }
     if left == 0 {
-        return at_end(guide.chart, row);
+        return at_end(guide, row);
     }
-    let words = guide.chart.words();
-    let first = chart::first_edge(words);
-    for number in 1..=chart::edge_count(words) {
+    let first = chart::first_edge(guide.words);
+    for number in 1..=chart::edge_count(guide.words) {
         let edge = chart::edge_of(first, EdgeId(number));
         if let Some(end) = by_edge(guide, row, edge, left - 1, path) {
             return Some(end);
@@ -131,11 +135,10 @@ fn by_edge(guide: &Guide, row: &[i32], edge: EdgeRow, left: usize, path: &mut [i
     requires { Going guide.now.chart.now row.now (suc left) path.old × IsEdge guide.now.chart.now edge }
     ensures { Went (by_edge (decode guide.now.chart.now) left (state_of row.now) (edge_of guide.now.chart.now edge)) path.old path.new result }
 {
-    let words = guide.chart.words();
-    if chart::edge_from(words, edge) != state::location_of(row) {
+    if chart::edge_from(guide.words, edge) != state::location_of(row) {
         return None;
     }
-    let (low, high) = input_range(words, edge);
+    let (low, high) = input_range(guide.words, edge);
     for z in low..=high {
         if let Some(end) = by_input(guide, row, edge, z, left, path) {
             return Some(end);
@@ -159,7 +162,7 @@ fn by_input(
 {
     let width = row.len();
     let mut next = [0i32; state::MOST_WIDTH];
-    match advance(guide.chart, edge, z, row, &mut next[..width]) {
+    match advance(guide, edge, z, row, &mut next[..width]) {
         Move::Blocked => None,
         Move::Fault => last_move(left, edge.id),
         Move::Successor => go_on(guide, edge.id, &next[..width], left, path),
@@ -218,6 +221,10 @@ pub fn first_run(chart: &Chart, k: usize, start: &mut [i32], path: &mut [i32]) -
 {
     let mut dist = [0usize; semantics::MOST_LOCATIONS];
     distances::measure(chart, &mut dist);
-    let guide = Guide { chart, dist: &dist };
+    let guide = Guide {
+        chart,
+        words: chart.words(),
+        dist: &dist,
+    };
     deepen(&guide, k, start, path)
 }

@@ -88,20 +88,21 @@ pub fn next_start(chart: &Chart, row: &mut [i32]) -> bool
             state::set_value(row, k, x + 1);
             return true;
         }
-        state::set_value(row, k, first_value(words, k));
+        let first = first_value(words, k);
+        state::set_value(row, k, first);
     }
     false
 }
 
 // ---- refusal 31
 
-// Whether the edge is an `in` of too many values.
+// Whether the edge is an `in` of too many values: one that reads nothing has 0 alone.
 fn is_wide(chart: &[i32], edge: EdgeRow) -> bool
     requires { edge.at < index_limit }
     ensures { result ≡ wide_input (edge_in (drop edge.at chart.now)).op }
 {
-    chart::edge_operation(chart, edge) == chart::IN_CODE
-        && MOST_INPUTS < size(chart::first_value(chart, edge), chart::second_value(chart, edge))
+    let (low, high) = super::input_range(chart, edge);
+    MOST_INPUTS < size(low, high)
 }
 
 // Whether some edge is.

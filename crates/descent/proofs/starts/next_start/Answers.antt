@@ -71,6 +71,6 @@ loop-k-preserved c =
     let h : k < variable_count c.args.chart.now = omega arith in
     let at : c.loop-k.k ≡ k + 1 = omega arith in
     let back = subst (PutBack (decode c.args.chart.now).vars (values_of c.args.row.now) c.loop-k.row) at c.loop-k.invariant in
-    let first = told (sfits_of {z = c.first_value.result} c.first_value.type_inv) (rw c.words-words.ensures.words at c.first_value.ensures) in
+    let first = told (sfits_of {z = c.first_value-first.result} c.first_value-first.type_inv) (rw c.words-words.ensures.words at c.first_value-first.ensures) in
     let put_back = put_first c.args.chart.now c.args.row.now c.loop-k.row k c.words-words.ensures.in_form c.requires h back c.value_at-x.result (sfits_of c.value_at-x.type_inv) c.value_at-x.ensures _ (rw c.words-words.ensures.words at (sym c.can_rise.ensures ∙ c.if-can_rise.false)) first in
     rw c.set_value-in-loop-k.ensures put_back
