@@ -1,14 +1,13 @@
 -- The runs of so many moves, from the starting states in turn, and deepening. Assumes nothing.
 use mathlib.Core.Option.{map}
 use Rattle.std.specs.Prelude.{Option as Perhaps, Some, None}
-use Rattle.semantics.proofs.Prelude.{◌≡◌, refl, sym, ap, ◌∙◌, subst, inl, inr, Bool, true, false, not, List, [], ◌∷◌, ◌++◌, Option, none, some, ℕ, zero, suc, ◌+◌, ◌-◌, ◌≤◌, ◌<◌, add-one, arith, T, leb, le-leb, lt-leb, ltb→lt, ℤ, length, drop, drop-append_seam}
+use Rattle.semantics.proofs.Prelude.{◌≡◌, refl, sym, ap, ◌∙◌, subst, inl, inr, List, [], ◌∷◌, ◌++◌, Option, none, some, ℕ, zero, suc, ◌+◌, ◌-◌, ◌≤◌, ◌<◌, add-one, arith, T, leb, le-leb, lt-leb, ltb→lt, ℤ, length, drop, drop-append_seam}
 use Rattle.semantics.specs.Lists.{pick, In, all}
 use Rattle.semantics.specs.Chart.{Edge, Chart, Numbered, number_from, State, Ranged}
 use Rattle.semantics.specs.Encoding.{edge_ok}
 use Rattle.semantics.specs.Search.{Trail, here, overrun, by, ErrorRun, run_from, or_else, first_of, found, attempt, deepen, first_run, Choice, state, starting_values, explicit}
 use Rattle.semantics.specs.RealRuns.{Follows}
 use Rattle.semantics.proofs.Bools.{and_left, and_right}
-use Rattle.semantics.proofs.AtAndIn.{none_some}
 use Rattle.semantics.proofs.StatesOk.{Bounds}
 use Rattle.semantics.proofs.Searching.{lists, found_sound}
 use Rattle.semantics.proofs.ChartChoices.{choices_in}

@@ -1,7 +1,7 @@
 -- The places of the search that its parts share: the edge of a turn, the last state, and the words of the path. Assumes
 -- nothing.
 use Rattle.std.specs.Prelude.{Option as Perhaps, Some, None}
-use Rattle.semantics.proofs.Prelude.{◌≡◌, refl, sym, ap, ◌∙◌, subst, Bool, true, false, not, List, [], ◌∷◌, ◌++◌, append_assoc, append-nil, Option, none, some, ℕ, zero, suc, ◌+◌, ◌-◌, ◌*◌, ◌≤◌, ◌<◌, suc-mul, arith, T, ℤ, pos, length, get_or, take, drop, length-drop, length-append, length-take-le, drop_of_length-le, drop-cons, drop-drop, take-append-drop, take_all, drop-append_seam, take-append_seam}
+use Rattle.semantics.proofs.Prelude.{◌≡◌, refl, sym, ap, ◌∙◌, subst, Bool, true, false, List, [], ◌∷◌, ◌++◌, append_assoc, append-nil, Option, none, some, ℕ, zero, suc, ◌+◌, ◌-◌, ◌*◌, ◌≤◌, ◌<◌, suc-mul, arith, T, ℤ, pos, length, get_or, take, drop, length-drop, length-append, length-take-le, drop_of_length-le, drop-cons, drop-drop, take-append-drop, take_all, drop-append_seam, take-append_seam}
 use Rattle.semantics.specs.Chart.{Var, Edge, skip, Chart, Numbered, number_from, numbered, State, Ranged, error_location}
 use Rattle.semantics.specs.Lists.{pick}
 use Rattle.semantics.specs.Encoding.{decode, well_formed, edge_count}

@@ -1,5 +1,5 @@
 -- The input values of an edge, by its words: the numbers of a range. Assumes nothing.
-use Rattle.semantics.proofs.Prelude.{◌≡◌, refl, sym, ap, ◌∙◌, List, [], ◌∷◌, ltb, ◌+◌, ℤ, pos, ◌-ℤ◌, length}
+use Rattle.semantics.proofs.Prelude.{◌≡◌, refl, sym, ap, ◌∙◌, List, ltb, ◌+◌, ℤ, pos, ◌-ℤ◌, length}
 use Rattle.semantics.specs.Layout.{most_inputs, operation_place, first_value_place, second_value_place}
 use Rattle.semantics.specs.Chart.{Op, assign, add, sub, input, assume, skip}
 use Rattle.semantics.specs.Encoding.{word_at, count}

@@ -1,12 +1,12 @@
 -- Starting values one after the other, and which charts are too wide to search. Assumes nothing.
 use native.Mathlib.Nat.{mul_assoc, mul-one, le-mul_of_pos_right, mul-pos}
-use Rattle.semantics.proofs.Prelude.{◌≡◌, refl, sym, ap, ◌∙◌, subst, inl, inr, Bool, true, false, List, [], ◌∷◌, ◌++◌, map, ℕ, zero, suc, ◌+◌, ◌*◌, ◌≤◌, ◌<◌, add-one, add-zero, arith, T, ltb, lt-ltb, ℤ, pos, nat_abs, ◌+ℤ◌, ◌-ℤ◌, le_z, length, drop, take, get_or-drop, drop_of_length-le, take-suc, take_all, drop-cons, take-suc-set, append-nil, append_snoc, length-take-le, get_or_at, set_at, w32, SFits, of_z, sfits_lit}
-use Rattle.semantics.specs.Layout.{most_number, top_word, low_place, high_place, init_place, operation_place, target_place, first_tag_place, first_value_place, second_tag_place, second_value_place, in_code, edge_size, variable_at, most_inputs, most_starts}
+use Rattle.semantics.proofs.Prelude.{◌≡◌, refl, sym, ap, ◌∙◌, subst, inl, inr, Bool, true, false, List, [], ◌∷◌, ◌++◌, map, ℕ, zero, suc, ◌+◌, ◌*◌, ◌≤◌, ◌<◌, add-one, add-zero, arith, T, ltb, lt-ltb, ℤ, pos, ◌+ℤ◌, le_z, length, drop, take, get_or-drop, drop_of_length-le, take-suc, take_all, drop-cons, take-suc-set, append-nil, append_snoc, length-take-le, get_or_at, set_at, w32, SFits, of_z, sfits_lit}
+use Rattle.semantics.specs.Layout.{most_number, top_word, low_place, high_place, init_place, edge_size, variable_at, most_starts}
 use Rattle.semantics.specs.Lists.{pick, At, In, all, each, some_of}
-use Rattle.semantics.specs.Chart.{Value, known, top, Var, Operand, Edge, Chart, Ranged, within, small}
-use Rattle.semantics.specs.Search.{size, init_values, starting_values}
+use Rattle.semantics.specs.Chart.{Value, known, top, Var, Edge, Chart, Ranged, within, small}
+use Rattle.semantics.specs.Search.{init_values, starting_values}
 use Rattle.semantics.specs.RunListing.{wide_input, init_count, start_count}
-use Rattle.semantics.specs.Encoding.{word_at, count, val, var_ok, init_ok, operand, op_of, edge_in, decode, variable_count, edge_count}
+use Rattle.semantics.specs.Encoding.{word_at, val, var_ok, init_ok, edge_in, decode, variable_count, edge_count}
 use Rattle.semantics.proofs.Bools.{from_true, to_true, and_left, and_right, both_true}
 use Rattle.semantics.proofs.Integers.{le_z_trans, lt_suc, le_sum}
 use Rattle.semantics.proofs.AtAndIn.{at_get}
@@ -15,7 +15,6 @@ use Rattle.semantics.proofs.ChartChoices.{in_append, in_map, map_in, in_each, ea
 use Rattle.words.proofs.Words.{bits_eq, bits_ne, between_fits}
 use Rattle.semantics.proofs.Decoded.{vars_count, edges_count}
 use Rattle.chart.specs.Encoded.{edges_at}
-use Rattle.chart.proofs.RowTests.{looked_up}
 use Rattle.chart.proofs.Places.{variable_got, edge_got}
 use Rattle.state.specs.Rows.{location_in, values_of, row_at, value_at, with_value}
 use Rattle.descent.specs.Rows.{Concrete}

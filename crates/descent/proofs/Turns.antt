@@ -1,11 +1,11 @@
 -- A loop that stops at the first find, and one move of the search part by part. Assumes nothing.
-use Rattle.semantics.proofs.Prelude.{◌≡◌, refl, sym, ap, ◌∙◌, Bool, true, false, not, List, [], ◌∷◌, ◌++◌, map, Option, none, some, ℕ, zero, suc, ◌+◌, ◌-◌, ◌≤◌, ◌<◌, add-one, arith, eqb, ℤ, length, get_or, drop, drop-cons, drop_of_length-le}
+use Rattle.semantics.proofs.Prelude.{◌≡◌, refl, sym, ap, ◌∙◌, Bool, true, false, List, [], ◌∷◌, ◌++◌, map, Option, none, some, ℕ, zero, suc, ◌-◌, arith, eqb, ℤ, get_or}
 use Rattle.semantics.specs.Lists.{At, each}
 use Rattle.semantics.specs.Chart.{Chart, Numbered, numbered, State}
 use Rattle.semantics.specs.Algorithm.{blocked, fault, to}
-use Rattle.semantics.specs.Search.{Trail, here, overrun, by, or_else, first_of, after_move, found, Choice, choose, inputs, choices, move, explicit}
+use Rattle.semantics.specs.Search.{Trail, or_else, first_of, after_move, found, Choice, choose, inputs, choices, move, explicit}
 use Rattle.semantics.specs.declared.EdgeId.{EdgeId}
-use Rattle.semantics.proofs.Bools.{from_true, from_false}
+use Rattle.semantics.proofs.Bools.{from_false}
 use Rattle.std.specs.Prelude.{Option as Perhaps, Some, None}
 use Rattle.descent.specs.declared.End.{End}
 use Rattle.descent.specs.declared.End.TheVariants.{Overrun}

@@ -1,10 +1,9 @@
-use Rattle.std.specs.Prelude.{Some, None}
 use Rattle.std.proofs.Common.{rules}
-use Rattle.semantics.proofs.Prelude.{◌≡◌, refl, sym, ap, ◌∙◌, subst, inl, inr, Bool, true, false, not, List, [], ◌∷◌, ◌++◌, ℕ, suc, ◌+◌, ◌-◌, ◌*◌, ◌≤◌, arith, eqb, sfits_of, SFits, w32, to_z, of_z, to_z-of_z, le_z, T, ℤ, pos, ◌+ℤ◌, length, take, drop, length-append, length-take-le}
+use Rattle.semantics.proofs.Prelude.{◌≡◌, refl, sym, ap, ◌∙◌, subst, inl, inr, Bool, true, false, not, List, [], ◌∷◌, ℕ, suc, ◌+◌, ◌-◌, ◌*◌, ◌≤◌, arith, eqb, sfits_of, SFits, w32, to_z, of_z, to_z-of_z, le_z, ℤ, pos, ◌+ℤ◌, length, take, drop, length-append, length-take-le}
 use Rattle.semantics.specs.Lists.{In}
 use Rattle.semantics.specs.Chart.{numbered}
 use Rattle.semantics.specs.Encoding.{decode, edge_count}
-use Rattle.semantics.specs.Search.{found, first_of, interval, inputs, choose, explicit}
+use Rattle.semantics.specs.Search.{first_of, interval, inputs, choose}
 use Rattle.semantics.proofs.Bools.{from_true, from_false, to_true, to_false}
 use Rattle.semantics.proofs.Integers.{lt_not_le, lt_suc, le_z_refl}
 use Rattle.semantics.proofs.ChartChoices.{interval_step, interval_stop}

@@ -1,4 +1,4 @@
-use Rattle.semantics.proofs.Prelude.{sym, ap, ◌∙◌, w32, to_z-of_z}
+use Rattle.semantics.proofs.Prelude.{sym, ◌∙◌, w32, to_z-of_z}
 use Rattle.chart.proofs.KindOf.{code_of_in, in_of_code}
 use Rattle.descent.proofs.Moves.{edge_small, row_some, advanced_by, advanced_input}
 use Rattle.descent.proofs.advance.Goals as goal

@@ -1,4 +1,4 @@
-use Rattle.semantics.proofs.Prelude.{◌≡◌, refl, sym, ap, ◌∙◌, subst, ◌∷◌, ℕ, ◌*◌, ◌≤◌, suc, arith, length}
+use Rattle.semantics.proofs.Prelude.{refl, sym, ap, ◌∙◌, subst, ℕ, ◌*◌, ◌≤◌, suc, arith, length}
 use Rattle.semantics.specs.Encoding.{decode}
 use Rattle.semantics.specs.Memory.{width}
 use Rattle.semantics.specs.Search.{first_of}
@@ -6,7 +6,7 @@ use Rattle.semantics.proofs.Decoded.{vars_count}
 use Rattle.semantics.proofs.Encoded.{formed_bounds}
 use Rattle.descent.proofs.StartingValues.{starts_concrete}
 use Rattle.descent.proofs.Descending.{concrete_length}
-use Rattle.descent.proofs.Attempts.{from_values, attempts, start_found, start_kept, start_next, no_start}
+use Rattle.descent.proofs.Attempts.{from_values, attempts, start_found}
 use Rattle.descent.proofs.attempt.Goals as goal
 
 pub first_start-requires : goal.first_start-requires

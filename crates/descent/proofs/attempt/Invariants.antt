@@ -2,7 +2,6 @@
 -- those after it is what is found from all. How many these are falls.
 use Rattle.semantics.proofs.Prelude.{◌≡◌, ◌∷◌, length}
 use Rattle.semantics.specs.Encoding.{decode}
-use Rattle.semantics.specs.Memory.{width}
 use Rattle.semantics.specs.Search.{attempt, first_of, explicit}
 use Rattle.state.specs.Rows.{values_of}
 use Rattle.descent.specs.Starts.{Starts, starts_after}

@@ -1,5 +1,5 @@
 -- `descent::deepen` meets its contract. The invariant: none has fewer moves than are tried next.
-use Rattle.semantics.proofs.Prelude.{◌≡◌, length}
+use Rattle.semantics.proofs.Prelude.{◌≡◌}
 use Rattle.semantics.specs.Encoding.{decode}
 use Rattle.semantics.specs.Search.{first_run, explicit}
 use Rattle.descent.proofs.Attempts.{from_moves}

@@ -27,9 +27,9 @@ loop-number-preserved c =
     let from = rw c.words-words.ensures.words at c.edge_from.ensures.location in
     let same : distance_in ds (edge_of ws e).edge.from ≡ distance_in ds c.edge_from.result.0 = ap (distance_in ds) (leaves ws e ∙ sym from) in
     settled_turn (Asked ws) (λ k. (n < k) × (k ≤ edge_count ws)) (λ k. (n - 1 < k) × (k ≤ edge_count ws)) c.args.dist.now ds c.lower-still.new.dist c.loop-number.still c.lower-still.result n
-        (λ k h. elim (dec_lt n k) [ yes r ↦ inl (r, h.1) | no r ↦ inr (omega (arith, h.0)) ])
-        c.loop-number.invariant
-        (λ q. let w = c.lower-still.ensures q in (w.0, λ z. subst (λ (k : ℕ). NearBy ws ds (edge_in (drop k ws))) at (c.by_edge-most.ensures (omega (arith, same, w.1)))))
+    (λ k h. elim (dec_lt n k) [ yes r ↦ inl (r, h.1) | no r ↦ inr (omega (arith, h.0)) ])
+    c.loop-number.invariant
+    (λ q. let w = c.lower-still.ensures q in (w.0, λ z. subst (λ (k : ℕ). NearBy ws ds (edge_in (drop k ws))) at (c.by_edge-most.ensures (omega (arith, same, w.1)))))
 
 pub returns : goal.returns
 returns c =

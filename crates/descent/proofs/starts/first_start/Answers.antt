@@ -3,7 +3,7 @@ use Rattle.semantics.specs.Encoding.{variable_count, decode}
 use Rattle.semantics.proofs.Encoded.{formed_bounds}
 use Rattle.words.proofs.Words.{told}
 use Rattle.state.specs.Rows.{id_word, with_value}
-use Rattle.descent.specs.Starts.{variable_in, first_value}
+use Rattle.descent.specs.Starts.{variable_in}
 use Rattle.descent.proofs.StartingValues.{next_variable, no_variable, first_row, written_one}
 use Rattle.descent.proofs.starts.first_start.Goals as goal
 

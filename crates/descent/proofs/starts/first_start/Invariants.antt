@@ -1,5 +1,5 @@
 -- `descent::starts::first_start` meets its contract.
-use Rattle.semantics.proofs.Prelude.{◌≡◌, ◌+◌, ◌≤◌, length}
+use Rattle.semantics.proofs.Prelude.{◌≡◌, ◌+◌, length}
 use Rattle.semantics.specs.Encoding.{decode, variable_count}
 use Rattle.descent.proofs.StartingValues.{Written}
 use Rattle.descent.proofs.starts.first_start.Given as goal

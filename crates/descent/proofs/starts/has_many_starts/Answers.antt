@@ -1,6 +1,6 @@
-use Rattle.semantics.proofs.Prelude.{◌≡◌, sym, ap, ◌∙◌, ℕ, ◌+◌, ◌*◌, arith, le-ltb, drop}
+use Rattle.semantics.proofs.Prelude.{sym, ap, ◌∙◌, ℕ, ◌+◌, ◌*◌, arith, le-ltb, drop}
 use Rattle.semantics.specs.Layout.{most_starts}
-use Rattle.semantics.specs.RunListing.{init_count, start_count}
+use Rattle.semantics.specs.RunListing.{start_count}
 use Rattle.semantics.specs.Encoding.{variable_count, decode}
 use Rattle.semantics.proofs.Encoded.{formed_bounds}
 use Rattle.descent.specs.Starts.{variable_in}

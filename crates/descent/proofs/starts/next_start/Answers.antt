@@ -1,4 +1,4 @@
-use Rattle.semantics.proofs.Prelude.{◌≡◌, refl, sym, ap, ◌∙◌, subst, true, false, List, ℕ, ◌∷◌, ◌+◌, ◌-◌, ◌<◌, arith, T, sfits_of, ℤ, pos, ◌+ℤ◌, length, drop, w32, SFits, of_z, to_z, to_z-of_z}
+use Rattle.semantics.proofs.Prelude.{◌≡◌, sym, ap, ◌∙◌, subst, true, false, List, ℕ, ◌∷◌, ◌+◌, ◌-◌, ◌<◌, arith, T, sfits_of, ℤ, pos, ◌+ℤ◌, length, drop, w32, SFits, of_z, to_z, to_z-of_z}
 use Rattle.semantics.specs.Encoding.{word_at, decode}
 use Rattle.semantics.proofs.Encoded.{formed_bounds}
 use Rattle.semantics.proofs.Decoded.{vars_count}

@@ -1,5 +1,4 @@
 -- `descent::starts::next_start` meets its contract.
-use Rattle.semantics.proofs.Prelude.{◌≡◌, length}
 use Rattle.semantics.specs.Encoding.{decode}
 use Rattle.state.specs.Rows.{values_of}
 use Rattle.descent.proofs.StartingValues.{PutBack}
