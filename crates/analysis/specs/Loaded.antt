@@ -15,7 +15,6 @@ use Rattle.transfer.specs.Transfer.{edge_at, post_words, error_row}
 use Rattle.analysis.specs.Chains.{Chained}
 use Rattle.progress.specs.declared.Progress.{Progress}
 use Rattle.progress.specs.Progress.{rows_only, out_of, load_of}
-use Rattle.analysis.specs.declared.Outline.{Outline}
 
 -- the rows as a domain, over an encoded chart
 abbrev pub domain_of : List ℤ → Domain (List ℤ) ℕ
@@ -28,12 +27,12 @@ pub record IsEdge (c : List ℤ) (g : ℕ) (e : EdgeRow) : Type 0 where
   pub id : e.id.0 ≡ g + 1
   pub at : e.at ≡ edge_at c g
 
--- the outline is that of the chart c, in numbers that do not wrap and rows that are not too wide; and the chains are
--- those of its edges
-pub record Outlined (c : List ℤ) (o : Outline) (heads nexts : List ℕ) : Type 0 where
-  pub first : IsEdge c 0 o.first
-  pub small : edge_at c o.edges < index_limit
-  pub narrow : width_of o.layout ≤ most_width
+-- a layout, edge 1 and a count of edges outline the chart c, in numbers that do not wrap and rows that are not too wide;
+-- and the chains are those of its edges
+pub record Outlined (c : List ℤ) (y : Layout) (e : EdgeRow) (n : ℕ) (heads nexts : List ℕ) : Type 0 where
+  pub first : IsEdge c 0 e
+  pub small : edge_at c n < index_limit
+  pub narrow : width_of y ≤ most_width
   pub chained : Chained c 0 heads nexts
 
 -- what an arrival asks: table and waitlist in form by the record's counts, settings that 12 lets pass, a row e, and the

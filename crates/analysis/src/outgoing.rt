@@ -18,15 +18,12 @@ pub fn chain(chart: &[i32], edges: usize, heads: &mut [usize], nexts: &mut [usiz
     ensures { Chained chart.now 0 heads.new nexts.new }
 {
     let first = chart::first_edge(chart);
-    let mut number = edges;
-    while 0 < number {
+    for number in (1..=edges).rev() {
         let edge = chart::edge_of(first, EdgeId(number));
-        let from = chart::edge_from(chart, edge);
-        let l = from.0;
+        let l = chart::edge_from(chart, edge).0;
         let head = numbers::number_in(heads, l);
         numbers::put(nexts, number - 1, head);
         numbers::put(heads, l, number);
-        number -= 1;
     }
 }
 
@@ -43,11 +40,9 @@ pub fn next(chart: &[i32], edge: EdgeRow, nexts: &[usize], l: LocationId) -> Edg
     ensures later { edge.id.0 < result.0 }
     ensures passed { Passed chart.now l.0 edge.id.0 (result.0 - 1) }
 {
-    let id = edge.id;
-    let after = id.after();
-    let from = chart::edge_from(chart, edge);
-    if from != l {
+    let after = edge.id.after();
+    if chart::edge_from(chart, edge) != l {
         return after;
     }
-    after.max(EdgeId(numbers::number_in(nexts, id.0 - 1)))
+    after.max(EdgeId(numbers::number_in(nexts, edge.id.0 - 1)))
 }

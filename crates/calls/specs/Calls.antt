@@ -1,15 +1,10 @@
 -- What a public call owes: its answer, the record and every lent word at exit are those of the outcome. Assumes
 -- nothing.
-use Rattle.std.specs.Prelude.{◌≡◌, Result, Ok, Err, List, ℕ, ◌*◌, ◌≤◌, ℤ, length}
-use Rattle.semantics.specs.Layout.{most_slots}
+use Rattle.std.specs.Prelude.{◌≡◌, Result, Ok, Err, List, ℤ}
 use Rattle.semantics.specs.declared.Analysis.{Analysis}
 use Rattle.semantics.specs.declared.Refusal.{Refusal}
-use Rattle.semantics.specs.declared.Settings.{Settings}
-use Rattle.semantics.specs.Tidy.{Allowed}
 use Rattle.semantics.specs.Outcomes.{Answer, Outcome}
 use Rattle.semantics.specs.Refusals.{answer_of}
-use Rattle.state.specs.declared.Layout.{Layout}
-use Rattle.state.specs.Rows.{layout_of}
 
 -- "determines, from the values at entry alone, the answer and every lent word at exit": these are the outcome's
 -- answer, record, table and waitlist
@@ -27,14 +22,3 @@ record_left before (Err r) = before
 -- the same of such a call, where `before` is the record from before
 abbrev pub EndsCalled : Outcome → Analysis → Result Analysis Refusal → List ℤ → List ℤ → Type 0
 EndsCalled o before r t l = Ends o (answer_of r) (record_left before r) t l
-
--- ---- what the parts of a beginning ask
-
--- the layout of the chart's tables, the words of a capacity that 11 lets pass, and settings that 12 lets pass
-pub record Begins (ws : List ℤ) (y : Layout) (z : Settings) (r : ℕ) (t l : List ℤ) : Type 0 where
-  pub layout : y ≡ layout_of ws
-  pub some : 1 ≤ r
-  pub few : r ≤ most_slots
-  pub table : length t ≡ r * y.stride
-  pub list : length l ≡ r
-  pub allowed : Allowed z

@@ -1,23 +1,19 @@
 // The public calls begin and run. Each judges all it is given in the documents' order; a refused call writes nothing.
 #![tactic(auto)]
 
-ghost use Rattle.std.specs.Prelude.{◌≡◌, ℕ, ◌≤◌, ◌<◌, min, IfOk, T, pos, nat_abs, length};
-ghost use Rattle.semantics.specs.Layout.{most_slots, most_iterations, index_limit};
+ghost use Rattle.std.specs.Prelude.{◌≡◌, ◌≤◌, IfOk, T, pos, nat_abs, length};
+ghost use Rattle.semantics.specs.Layout.{most_slots};
 ghost use Rattle.semantics.specs.declared.Analysis.{Analysis};
-ghost use Rattle.semantics.specs.Algorithm.{start, run, allowed};
+ghost use Rattle.semantics.specs.Algorithm.{allowed};
 ghost use Rattle.semantics.specs.Encoding.{decode};
 ghost use Rattle.semantics.specs.Memory.{load};
 ghost use Rattle.semantics.specs.Refusals.{refusal_of, answer_of};
 ghost use Rattle.semantics.specs.Outcomes.{refusal, size_of, form_of, put_in, begun, resumed, begin_cases, begin_outcome, run_cases, run_outcome};
-ghost use Rattle.state.specs.Rows.{width_of, most_width};
 ghost use Rattle.checks.specs.Form.{lent, Enough, InForm};
-ghost use Rattle.analysis.specs.Loaded.{domain_of, Loaded};
-ghost use Rattle.transfer.specs.Transfer.{initial_row, edge_at, edges_from};
-ghost use Rattle.calls.specs.Calls.{Begins, Ends, EndsCalled};
+ghost use Rattle.calls.specs.Calls.{Ends, EndsCalled};
 
 use chart::Chart;
 use semantics::{Analysis, Refusal, Settings};
-use state::Layout;
 
 // 11, 12, 13, 20, 14: the first that refuses a beginning; else the words are the chart's.
 fn begin_refusal(
@@ -59,67 +55,8 @@ fn run_refusal<'a>(
     Ok(chart)
 }
 
-// The initial state's row is made in the row lent, and put into slot 0.
-fn start_with(
-    chart: &[i32],
-    layout: Layout,
-    settings: Settings,
-    capacity: u32,
-    table: &mut [i32],
-    list: &mut [i32],
-    row: &mut [i32],
-) -> Analysis
-    requires { Begins chart.now layout settings capacity table.old list.old × (length row.old ≡ width_of layout) }
-    ensures { (last : ℕ) → Loaded layout last result table.new list.new (start (domain_of chart.now) settings capacity (initial_row chart.now)) }
-{
-    transfer::initial(chart, row);
-    analysis::start_core(chart, layout, settings, capacity, table, list, row)
-}
-
-// An analysis at its start, in the words of its capacity.
-fn start_in(
-    chart: &[i32],
-    layout: Layout,
-    settings: Settings,
-    capacity: u32,
-    table: &mut [i32],
-    list: &mut [i32],
-) -> Analysis
-    requires { Begins chart.now layout settings capacity table.old list.old × (width_of layout ≤ most_width) }
-    ensures { (last : ℕ) → Loaded layout last result table.new list.new (start (domain_of chart.now) settings capacity (initial_row chart.now)) }
-{
-    let width = layout.width();
-    let mut row = [0i32; state::MOST_WIDTH];
-    start_with(
-        chart,
-        layout,
-        settings,
-        capacity,
-        table,
-        list,
-        &mut row[..width],
-    )
-}
-
-// The start, and the run after it, in the words of the capacity. After a bad start the run plays nothing.
-fn begin_core(
-    chart: &[i32],
-    edges: usize,
-    layout: Layout,
-    settings: Settings,
-    capacity: u32,
-    budget: u32,
-    table: &mut [i32],
-    list: &mut [i32],
-) -> Analysis
-    requires { Begins chart.now layout settings capacity table.old list.old × (width_of layout ≤ most_width) × (edge_at chart.now edges < index_limit) }
-    ensures { Loaded layout edges result table.new list.new (run (domain_of chart.now) (edges_from 0 edges) (min budget most_iterations) (start (domain_of chart.now) settings capacity (initial_row chart.now))) }
-{
-    let a = start_in(chart, layout, settings, capacity, table, list);
-    analysis::run_core(chart, edges, layout, a, budget, table, list)
-}
-
-// A beginning that no refusal stopped.
+// A beginning that no refusal stopped: the start, and the run after it, in the words of the capacity. After a start at an
+// error location the run plays nothing.
 fn begin_through(
     chart: &Chart,
     settings: Settings,
@@ -131,24 +68,15 @@ fn begin_through(
     requires { T (allowed settings.merge settings.stop) × (1 ≤ capacity) × (capacity ≤ most_slots) × Enough chart.now capacity table.old list.old }
     ensures { (a : Analysis) → put_in (decode chart.now) (begun (decode chart.now) settings (pos capacity) (pos budget)) (lent table.old list.old a) ≡ lent table.new list.new result }
 {
-    let words = chart.words();
-    let layout = state::layout_of(words);
-    let edges = chart::edge_count(words);
     let slots = capacity as usize;
-    let size = slots * layout.stride;
-    begin_core(
-        words,
-        edges,
-        layout,
-        settings,
-        capacity,
-        budget,
-        &mut table[..size],
-        &mut list[..slots],
-    )
+    let size = slots * state::layout_of(chart.words()).stride;
+    let table = &mut table[..size];
+    let list = &mut list[..slots];
+    let a = analysis::start_core(chart, settings, capacity, table, list);
+    analysis::run_core(chart, a, budget, table, list)
 }
 
-// A run that no refusal stopped.
+// A run that no refusal stopped, in the words of the capacity.
 fn run_through(
     chart: &Chart,
     budget: u32,
@@ -159,20 +87,9 @@ fn run_through(
     requires { InForm chart.now (lent table.old list.old a) }
     ensures { put_in (decode chart.now) (resumed (decode chart.now) (pos budget) (load (decode chart.now) (lent table.old list.old a))) (lent table.old list.old a) ≡ lent table.new list.new result }
 {
-    let words = chart.words();
-    let layout = state::layout_of(words);
-    let edges = chart::edge_count(words);
     let slots = a.capacity as usize;
-    let size = slots * layout.stride;
-    analysis::run_core(
-        words,
-        edges,
-        layout,
-        a,
-        budget,
-        &mut table[..size],
-        &mut list[..slots],
-    )
+    let size = slots * state::layout_of(chart.words()).stride;
+    analysis::run_core(chart, a, budget, &mut table[..size], &mut list[..slots])
 }
 
 // Begins an analysis, the initial state in slot 0, waiting, and plays iterations until a verdict or until the budget is

@@ -30,11 +30,11 @@ append-more-requires c =
     let m = c.merge_by-count in
     let k = m.ensures.kept in
     let used = c.args.a.used in
-    let u : used < length m.new.list = c.if-used-list.true in
+    let u : used < length m.new.list = c.if-a-list.true in
     (k.slots, omega (arith, queue_few used (waits m.result m.new.list) k.queue, k.slots.count, u), omega (arith, u, k.small))
 
-pub returns-then-used-list : goal.returns-then-used-list
-returns-then-used-list c =
+pub returns-then-a-list : goal.returns-then-a-list
+returns-then-a-list c =
     let s = c.args in
     let m = c.merge_by-count in
     let after = m.ensures in
@@ -43,7 +43,7 @@ returns-then-used-list c =
     let l = m.new.list in
     let e = s.e.now in
     let app = c.append-more in
-    let u : s.a.used < length l = c.if-used-list.true in
+    let u : s.a.used < length l = c.if-a-list.true in
     let size : length l ≡ length s.list.now = m.auto.list in
     let row = c.requires.0.row in
     let linked : Linked (chains_of s.layout s.a.used t) s.links.now = rw after.chains c.requires.0.linked in
@@ -51,7 +51,7 @@ returns-then-used-list c =
     let os = origins_of s.layout s.a.used s.table.now in
     let note = λ (o : Out (List ℤ)). os ++ brought s.parent.0 (taking s.edge.0 s.a.used o (λ en wa. [])) in
     let stored = arrive_store c.requires.0 after (sym c.covered.ensures ∙ c.if-covered.false) (omega (arith, u, size)) in
-    rw (c.went_on-then-used-list.ensures, c.store_slot.ensures) (record {
+    rw (c.went_on-then-a-list.ensures, c.store_slot.ensures) (record {
       progressed = record {
         out = rw (rows_stored s.layout s.a.used t e tail (next_slot_in k u) k.tailed row refl, waits_are app.ensures) stored;
         kept = kept_stored k u e row s.parent.0 s.edge.0 c.requires.1 c.requires.2 app.ensures app.auto.list;
@@ -72,7 +72,7 @@ returns c =
     let size : length m.new.list ≡ length a.list.now = m.auto.list in
     let os = origins_of a.layout a.a.used a.table.now in
     let note = λ (o : Out (List ℤ)). os ++ brought a.parent.0 (taking a.edge.0 a.a.used o (λ en wa. [])) in
-    let out = arrive_full c.requires.0 after (sym c.covered.ensures ∙ c.if-covered.false) (omega (arith, c.if-used-list.false, size)) in
+    let out = arrive_full c.requires.0 after (sym c.covered.ensures ∙ c.if-covered.false) (omega (arith, c.if-a-list.false, size)) in
     rw c.table_full.ensures (record {
       progressed = record { out = out; kept = after.kept; linked = rw after.chains c.requires.0.linked };
       origins = after.origins ∙ noted_full os a.parent.0 a.edge.0 a.a.used (rows_of a.layout a.a.used m.new.table) (waits m.result m.new.list) ∙ ap note out;

@@ -12,6 +12,6 @@ pub returns-in-Blocked : goal.returns-in-Blocked
 returns-in-Blocked c =
     let e = c.args in
     let row = c.successor.new.out in
-    let moved : post_at e.chart.now e.edge.at e.copy.now ≡ step_of Blocked row = sym c.successor.ensures ∙ ap (λ (m : Move). step_of m row) c.in-Blocked.is in
+    let moved : post_at e.outline.now.chart.now e.edge.at e.copy.now ≡ step_of Blocked row = sym c.successor.ensures ∙ ap (λ (m : Move). step_of m row) c.in-Blocked.is in
     rw (c.went_on.ensures, moved)
-    (record { progressed = record { out = refl; kept = c.requires.0.kept; linked = c.requires.0.linked }; origins = noted_none (origins_of e.layout e.a.used e.table.now) e.slot.0 e.edge.id.0 e.layout e.a.used e.table.now (waits e.a.waiting e.list.now) })
+    (record { progressed = record { out = refl; kept = c.requires.0.kept; linked = c.requires.0.linked }; origins = noted_none (origins_of e.outline.now.layout e.a.used e.table.now) e.slot.0 e.edge.id.0 e.outline.now.layout e.a.used e.table.now (waits e.a.waiting e.list.now) })

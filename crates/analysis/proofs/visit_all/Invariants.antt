@@ -9,18 +9,18 @@ use Rattle.analysis.proofs.visit_all.Given as goal
 
 abbrev pub invariant-loop-slot : goal.invariant-loop-slot
 invariant-loop-slot l =
-    Ready l.layout l.at l.table l.list l.copy l.links
+    Ready l.outline.layout l.at l.table l.list l.copy l.links
     × (length l.table ≡ length l.initial.table)
     × (length l.list ≡ length l.initial.list)
     × (length l.next ≡ most_width)
     × (1 ≤ l.id.0)
-    × (visit_all (domain_of l.chart) l.initial.at.settings (length l.initial.list) l.copy (edges_from 0 l.edges) (rows_of l.layout l.initial.at.used l.initial.table) (waits l.initial.at.waiting l.initial.list)
-    ≡ visit_all (domain_of l.chart) l.at.settings (length l.initial.list) l.copy (edges_from (l.id.0 - 1) (l.edges - (l.id.0 - 1))) (rows_of l.layout l.at.used l.table) (waits l.at.waiting l.list))
-    × (origins_of l.layout l.initial.at.used l.initial.table
-    ++ brought l.slot.0 (takers (domain_of l.chart) l.initial.at.settings (length l.initial.list) l.copy (edges_from 0 l.edges) (rows_of l.layout l.initial.at.used l.initial.table) (waits l.initial.at.waiting l.initial.list))
-    ≡ origins_of l.layout l.at.used l.table
-    ++ brought l.slot.0 (takers (domain_of l.chart) l.at.settings (length l.initial.list) l.copy (edges_from (l.id.0 - 1) (l.edges - (l.id.0 - 1))) (rows_of l.layout l.at.used l.table) (waits l.at.waiting l.list)))
+    × (visit_all (domain_of l.outline.chart.now) l.initial.at.settings (length l.initial.list) l.copy (edges_from 0 l.outline.edges) (rows_of l.outline.layout l.initial.at.used l.initial.table) (waits l.initial.at.waiting l.initial.list)
+    ≡ visit_all (domain_of l.outline.chart.now) l.at.settings (length l.initial.list) l.copy (edges_from (l.id.0 - 1) (l.outline.edges - (l.id.0 - 1))) (rows_of l.outline.layout l.at.used l.table) (waits l.at.waiting l.list))
+    × (origins_of l.outline.layout l.initial.at.used l.initial.table
+    ++ brought l.slot.0 (takers (domain_of l.outline.chart.now) l.initial.at.settings (length l.initial.list) l.copy (edges_from 0 l.outline.edges) (rows_of l.outline.layout l.initial.at.used l.initial.table) (waits l.initial.at.waiting l.initial.list))
+    ≡ origins_of l.outline.layout l.at.used l.table
+    ++ brought l.slot.0 (takers (domain_of l.outline.chart.now) l.at.settings (length l.initial.list) l.copy (edges_from (l.id.0 - 1) (l.outline.edges - (l.id.0 - 1))) (rows_of l.outline.layout l.at.used l.table) (waits l.at.waiting l.list)))
     × (length l.links ≡ length l.initial.links)
 
 abbrev pub decreases-loop-slot : goal.decreases-loop-slot
-decreases-loop-slot l = l.edges + 1 - l.id.0
+decreases-loop-slot l = l.outline.edges + 1 - l.id.0
