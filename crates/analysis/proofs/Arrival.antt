@@ -69,31 +69,31 @@ pub post_is : (c : List ℤ) (g : ℕ) (e : List ℤ) → post_words c g e ≡ p
 unfolding post_words
 post_is c g e = refl
 
-module _ (n : ℕ) (en : List (List ℤ)) (wa : List ℕ) (k : List (List ℤ) → List ℕ → Out (List ℤ)) where
-  pub then_on : (x : Exit) → has_ended x ≡ false → then (out_by x n en wa) k ≡ k en wa
+module _ (en : List (List ℤ)) (wa : List ℕ) (k : List (List ℤ) → List ℕ → Out (List ℤ)) where
+  pub then_on : (x : Exit) → has_ended x ≡ false → then (out_by x en wa) k ≡ k en wa
   then_on On h = refl
-  then_on Alarm h = absurd (subst T h tt)
+  then_on (Alarm g) h = absurd (subst T h tt)
   then_on Full h = absurd (subst T h tt)
 
-  pub then_ended : (x : Exit) → has_ended x ≡ true → then (out_by x n en wa) k ≡ out_by x n en wa
+  pub then_ended : (x : Exit) → has_ended x ≡ true → then (out_by x en wa) k ≡ out_by x en wa
   then_ended On h = absurd (subst T (sym h) tt)
-  then_ended Alarm h = refl
+  then_ended (Alarm g) h = refl
   then_ended Full h = refl
 
 -- the same of the origins, os before the edge m and os' after it: what later edges bring is added to those after it
-module _ (n : ℕ) (en : List (List ℤ)) (wa : List ℕ) (os os' : List Origin) (k m u : ℕ) (next : List (List ℤ) → List ℕ → List ℕ) where
+module _ (en : List (List ℤ)) (wa : List ℕ) (os os' : List Origin) (k m u : ℕ) (next : List (List ℤ) → List ℕ → List ℕ) where
   abbrev Noting : Exit → Type 0
-  Noting x = os' ≡ os ++ brought k (taking m u (out_by x n en wa) (λ en wa. []))
+  Noting x = os' ≡ os ++ brought k (taking m u (out_by x en wa) (λ en wa. []))
 
-  pub origins_on : (x : Exit) → has_ended x ≡ false → Noting x → os ++ brought k (taking m u (out_by x n en wa) next) ≡ os' ++ brought k (next en wa)
+  pub origins_on : (x : Exit) → has_ended x ≡ false → Noting x → os ++ brought k (taking m u (out_by x en wa) next) ≡ os' ++ brought k (next en wa)
   origins_on On h e =
       let ns = pick (ltb u (length en)) (m ∷ []) [] in
       ap (λ (l : List Origin). os ++ l) (map-append (λ n. record { parent = k; edge = n }) ns (next en wa)) ∙ sym (append_assoc os (brought k ns) (brought k (next en wa)))
       ∙ ap (λ (l : List Origin). l ++ brought k (next en wa)) (ap (λ (l : List ℕ). os ++ brought k l) (sym (append-nil ns)) ∙ sym e)
-  origins_on Alarm h e = absurd (subst T h tt)
+  origins_on (Alarm g) h e = absurd (subst T h tt)
   origins_on Full h e = absurd (subst T h tt)
 
-  pub origins_ended : (x : Exit) → has_ended x ≡ true → Noting x → os ++ brought k (taking m u (out_by x n en wa) next) ≡ os'
+  pub origins_ended : (x : Exit) → has_ended x ≡ true → Noting x → os ++ brought k (taking m u (out_by x en wa) next) ≡ os'
   origins_ended On h e = absurd (subst T (sym h) tt)
-  origins_ended Alarm h e = sym e
+  origins_ended (Alarm g) h e = sym e
   origins_ended Full h e = sym e

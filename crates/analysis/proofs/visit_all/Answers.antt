@@ -86,7 +86,7 @@ returns-then-has_ended-clause-progressed c =
     let is = out_is s.outline.now.chart.now s.copy.now g b.at.settings (rows_of y b.at.used b.table) wa out _ _ _ _ number at b.invariant.2 v.ensures.progressed.out in
     let over = sym c.has_ended.ensures ∙ c.if-has_ended.true in
     let whole = turn s.outline.now.chart.now b.at.settings (length s.list.now) s.copy.now edges g (omega (arith, b.invariant.4, inside)) y b.at.used b.table wa out is _ b.invariant.5 in
-    record { out = sym (whole ∙ then_ended _ _ _ _ v.result.exit over); kept = v.ensures.progressed.kept; linked = v.ensures.progressed.linked }
+    record { out = sym (whole ∙ then_ended _ _ _ v.result.exit over); kept = v.ensures.progressed.kept; linked = v.ensures.progressed.linked }
 
 pub returns-then-has_ended-clause-origins : goal.returns-then-has_ended-clause-origins
 returns-then-has_ended-clause-origins c =
@@ -109,7 +109,7 @@ returns-then-has_ended-clause-origins c =
     let noted : after-it ≡ before-it ++ brought s.slot.0 (taking (suc g) b.at.used out (λ en wa. [])) =
     v.ensures.origins ∙ (λ i. before-it ++ brought s.slot.0 (taking (number i) b.at.used (sym v.ensures.progressed.out i) (λ en wa. []))) in
     let whole = origins-turn s.outline.now.chart.now b.at.settings (length s.list.now) s.copy.now edges g (omega (arith, b.invariant.4, inside)) y b.at.used b.table wa out is before-it _ s.slot.0 b.invariant.6 in
-    sym (whole ∙ origins_ended _ _ _ before-it after-it _ _ _ (rest-takers s.outline.now.chart.now b.at.settings (length s.list.now) s.copy.now edges g) v.result.exit over noted)
+    sym (whole ∙ origins_ended _ _ before-it after-it _ _ _ (rest-takers s.outline.now.chart.now b.at.settings (length s.list.now) s.copy.now edges g) v.result.exit over noted)
 
 pub loop-slot-preserved : goal.loop-slot-preserved
 loop-slot-preserved c =
@@ -146,10 +146,10 @@ loop-slot-preserved c =
       length_front b.next v.new.next (length s.copy.now) v.auto.next ∙ b.invariant.3,
       omega (arith, c.next-id.ensures.later, k),
       turn s.outline.now.chart.now b.at.settings r s.copy.now edges g inside-g y b.at.used b.table wa out is _ b.invariant.5
-          ∙ then_on _ _ _ _ v.result.exit going
+          ∙ then_on _ _ _ v.result.exit going
           ∙ passed_over s.outline.now.chart.now b.at.settings r s.copy.now edges en' wa' (g + 1) (next - 1) later passed,
       origins-turn s.outline.now.chart.now b.at.settings r s.copy.now edges g inside-g y b.at.used b.table wa out is before-it _ s.slot.0 b.invariant.6
-          ∙ origins_on _ _ _ before-it after-it _ _ _ (rest-takers s.outline.now.chart.now b.at.settings r s.copy.now edges g) v.result.exit going noted
+          ∙ origins_on _ _ before-it after-it _ _ _ (rest-takers s.outline.now.chart.now b.at.settings r s.copy.now edges g) v.result.exit going noted
           ∙ ap (λ (ns : List ℕ). after-it ++ brought s.slot.0 ns) (passed_takers s.outline.now.chart.now b.at.settings r s.copy.now edges en' wa' (g + 1) (next - 1) later passed),
       v.auto.links ∙ b.invariant.7,
     )
