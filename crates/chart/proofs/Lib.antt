@@ -5,7 +5,9 @@ pub mod RowLoops
 pub mod Names
 pub mod Rows
 pub mod KindOf
+pub mod KindTests
 pub mod RowTests
+pub mod RowParts
 pub mod WellFormed
 pub mod NameBytes
 pub mod NameNumbers

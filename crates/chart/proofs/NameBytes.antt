@@ -1,17 +1,24 @@
 -- The name of a location, as its words have it, and that its numbers are bytes where the words are in form.
 -- Assumes nothing.
-use Rattle.semantics.proofs.Prelude.{◌≡◌, refl, ap, ◌∙◌, Bool, true, false, List, [], ◌∷◌, map, ℕ, zero, suc, ◌+◌, ◌*◌, ◌≤◌, ◌<◌, arith, lt-ltb, T, ℤ, pos, nat_abs, length, get_or, take, drop, drop-drop}
-use Rattle.semantics.specs.Layout.{counts_size, variable_size, name_size, location_size, name_place, byte_limit}
+use Rattle.std.specs.Prelude.{Option, Some, None}
+use Rattle.std.specs.Option.{unwrap_or}
+use Rattle.std.specs.List.{position_or_len}
+use Rattle.std.specs.Ordering.{int_eq}
+use Rattle.semantics.proofs.Prelude.{cond, not, ◌&&◌, ◌||◌, ◌-◌, leb, add-one, take_all, length-drop, length-take-le, ltb, ltb-false, ◌≡◌, refl, ap, ◌∙◌, Bool, true, false, List, [], ◌∷◌, map, ℕ, zero, suc, ◌+◌, ◌*◌, ◌≤◌, ◌<◌, arith, lt-ltb, T, ℤ, pos, nat_abs, length, get_or, take, drop, drop-drop}
+use Rattle.semantics.specs.Layout.{kind_place, counts_size, variable_size, name_size, location_size, name_place, byte_limit}
 use Rattle.semantics.specs.Lists.{all, pick}
 use Rattle.semantics.specs.Text.{between, name_byte, name_ok}
 use Rattle.semantics.specs.Chart.{Loc, eq_z}
 use Rattle.semantics.specs.Listing.{loc_text}
-use Rattle.semantics.specs.Encoding.{name_in, loc_in, several, decode, well_formed, variable_count, location_count}
+use Rattle.semantics.specs.Encoding.{word_at, kind_word, name_in, loc_in, several, decode, well_formed, variable_count, location_count}
 use Rattle.semantics.proofs.Bools.{and_left, and_right}
+use Rattle.semantics.proofs.Integers.{eq_z_sym}
+use Rattle.words.proofs.Iterating.{int_eq_is}
 use Rattle.semantics.proofs.Encoded.{formed_bounds}
 use Rattle.semantics.proofs.Texts.{plain_range}
 use Rattle.semantics.proofs.Rendered.{byte_plain}
-use Rattle.chart.specs.Encoded.{locations_at, byte_of}
+use Rattle.semantics.specs.Memory.{zeros}
+use Rattle.chart.specs.Encoded.{locations_at, byte_of, name_word, location_fine}
 use Rattle.chart.proofs.Rows.{past_drop}
 
 -- location k of n
@@ -39,7 +46,7 @@ module _ (ws : List ℤ) (k : ℕ) where
   no_name h = text_past (location_count ws) k _ h
 
 -- a name has a word for each byte
-bytes_in : (n : ℕ) (ws : List ℤ) → (map nat_abs (take (length (name_in n ws)) ws) ≡ name_in n ws) × (length (name_in n ws) ≤ length ws)
+pub bytes_in : (n : ℕ) (ws : List ℤ) → (map nat_abs (take (length (name_in n ws)) ws) ≡ name_in n ws) × (length (name_in n ws) ≤ length ws)
 bytes_in zero ws = (refl, omega arith)
 bytes_in (suc n) [] = (refl, omega arith)
 bytes_in (suc n) (x ∷ xs) = go (eq_z x (pos 0)) (bytes_in n xs) where
@@ -48,13 +55,38 @@ bytes_in (suc n) (x ∷ xs) = go (eq_z x (pos 0)) (bytes_in n xs) where
   go true ih = (refl, omega arith)
   go false ih = (ap (λ (bs : List ℕ). nat_abs x ∷ bs) ih.0, omega (arith, ih.1))
 
-pub name_words : (row : List ℤ) → map nat_abs (take (length (loc_in row).name) (drop name_place row)) ≡ (loc_in row).name
-name_words row = (bytes_in name_size (drop name_place row)).0
+-- it ends before the first 0
+pub name_ends : (n : ℕ) (ws : List ℤ) → length (name_in n ws) ≡ position_or_len (λ w. int_eq w (pos 0)) (take n ws)
+name_ends zero ws = refl
+name_ends (suc n) [] = refl
+name_ends (suc n) (x ∷ xs) = rw (int_eq_is x (pos 0), eq_z_sym (pos 0) x) (go (eq_z x (pos 0)) (name_ends n xs)) where
+  go : (b : Bool) → length (name_in n xs) ≡ position_or_len (λ w. int_eq w (pos 0)) (take n xs) → length (pick b [] (nat_abs x ∷ name_in n xs)) ≡ cond (not b) (1 + position_or_len (λ w. int_eq w (pos 0)) (take n xs)) 0
+  go true e = refl
+  go false e = omega (arith, e)
 
--- they are in the row
-pub name_fits : (row : List ℤ) → 0 < length row → length (loc_in row).name + name_place ≤ length row
-name_fits [] h = absurd (omega arith)
-name_fits (x ∷ xs) h = omega (arith, (bytes_in name_size xs).1)
+-- what `position` answers there
+pub found_or : (k m : ℕ) (r : Option ℕ) (u : ℕ) → k ≤ m → r ≡ cond (ltb k m) (Some k) None → u ≡ unwrap_or r m → u ≡ k
+found_or k m r u h e f = f ∙ ap (λ (o : Option ℕ). unwrap_or o m) e ∙ go (ltb k m) refl where
+  go : (b : Bool) → ltb k m ≡ b → unwrap_or (cond b (Some k) None) m ≡ k
+  go true q = refl
+  go false q = omega (arith, ltb-false k m q)
+
+module _ (ws : List ℤ) (k at : ℕ) (place : at ≡ locations_at ws + location_size * k + name_place) where
+  pub name_from : k < location_count ws → loc_text (decode ws).locs k ≡ name_in name_size (drop at ws)
+  name_from h = name_at ws k h ∙ rw (drop-drop name_place (locations_at ws + location_size * k) ws, place)
+
+-- a location's row, its name parted from the words after it
+pub location_parts : (row : List ℤ) (n : ℕ) → length row ≡ location_size → n ≡ length (name_in name_size (take name_size (drop name_place row)))
+    → (eq_z (word_at row kind_place) (kind_word false) || eq_z (word_at row kind_place) (kind_word true))
+    && leb 1 (length (take n (take name_size (drop name_place row)))) && all name_word (take n (take name_size (drop name_place row))) && zeros (drop n (take name_size (drop name_place row)))
+    ≡ location_fine row
+unfolding location_fine
+location_parts [] n l e = absurd (omega arith)
+location_parts (k ∷ xs) n l e =
+    let w : take name_size xs ≡ xs = take_all name_size xs (omega arith) in
+    let m = length (name_in name_size xs) in
+    let f : n ≡ m = rw w at e in
+    rw (w, f, length-take-le m xs (bytes_in name_size xs).1, add-one m, take_all (name_size - m) (drop m xs) (simp length-drop (omega arith)))
 
 -- ---- in form, the numbers are bytes
 

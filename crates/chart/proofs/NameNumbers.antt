@@ -1,11 +1,16 @@
 -- The numbers of names: names of different numbers differ, a number is small, and the numbers stand beside the rows that
 -- they are of. Assumes nothing.
-use Rattle.semantics.proofs.Prelude.{◌≡◌, refl, sym, ap, ◌∙◌, false, List, [], ◌∷◌, ◌++◌, append_assoc, map, ℕ, zero, suc, ◌+◌, ◌-◌, ◌*◌, ◌<◌, ◌≤◌, add-zero, add-one, arith, T, eqb, eqb→eq, ℤ, pos, length, take, drop, drop-drop, get_or, get_or-drop, set, take-suc-set}
+use Rattle.std.specs.List.{zip}
+use Rattle.semantics.specs.Lists.{all}
+use Rattle.semantics.specs.Chart.{eq_z}
+use Rattle.semantics.proofs.Integers.{eq_z_refl}
+use Rattle.semantics.proofs.Prelude.{◌≡◌, refl, sym, ap, subst, Bool, true, false, not, ◌&&◌, List, [], ◌∷◌, map, ℕ, zero, suc, ◌+◌, ◌-◌, ◌*◌, ◌<◌, ◌≤◌, add-one, arith, T, eqb, eqb→eq, ℤ, pos, length, drop, get_or}
 use Rattle.semantics.specs.Layout.{name_size, location_size, byte_limit}
 use Rattle.semantics.specs.Text.{same_bytes}
-use Rattle.semantics.specs.Encoding.{word_at, loc_in, several}
-use Rattle.semantics.proofs.Bools.{and_left, and_right, to_false}
-use Rattle.chart.specs.Encoded.{number_from, number_of, name_number}
+use Rattle.semantics.specs.Encoding.{loc_in, several, distinct_names}
+use Rattle.semantics.proofs.Bools.{and_left, and_right, and_regroup, from_false, to_false}
+use Rattle.chart.specs.Encoded.{number_from, number_of, name_number, other_row}
+use Rattle.chart.proofs.Names.{other_name}
 
 -- ---- two numbers
 
@@ -59,23 +64,25 @@ pub numbers_of : (n : ℕ) (ws : List ℤ) → several name_number location_size
 numbers_of zero ws = refl
 numbers_of (suc n) ws = ap (λ (l : List ℤ). name_number ws ∷ l) (numbers_of n (drop location_size ws))
 
--- one more is stored
-pub number_stored : (ns ws : List ℤ) (n i at : ℕ) → i < n → i < length ns → (z : ℤ) → z ≡ name_number (drop at ws)
-    → take i ns ++ several name_number location_size (n - i) (drop at ws) ≡ take (i + 1) (set ns i z) ++ several name_number location_size (n - (i + 1)) (drop (at + location_size) ws)
-number_stored ns ws n i at h k z e =
-    let m : n - i ≡ suc (n - (i + 1)) = omega arith in
-    rw (m, add-one i, take-suc-set ns i z k, e, drop-drop location_size at ws) (sym (append_assoc (take i ns) (name_number (drop at ws) ∷ []) _))
+-- a row of another name is known by the number of that name, or else by its words
+pub by_numbers : (row : List ℤ) (rs : List (List ℤ)) → all (other_row row (name_number row)) (zip rs (map name_number rs)) ≡ all (other_name row) (map loc_in rs)
+by_numbers row [] = refl
+by_numbers row (r ∷ rs) = rw (by_numbers row rs) (ap (λ (b : Bool). not b && all (other_name row) (map loc_in rs)) (one (eq_z (name_number row) (name_number r)) refl)) where
+  same : Bool
+  same = same_bytes (loc_in row).name (loc_in r).name
 
--- the numbers from i on are those of the rows from a place on
-abbrev pub Beside : List ℤ → List ℤ → ℕ → ℕ → Type 0
-Beside ns ws i at = drop i ns ≡ several name_number location_size (length ns - i) (drop at ws)
+  one : (b : Bool) → eq_z (name_number row) (name_number r) ≡ b → b && same ≡ same
+  one true e = refl
+  one false e = sym (numbers_apart row r (λ q. absurd (from_false e (subst (λ z. T (eq_z (name_number row) z)) q (eq_z_refl (name_number row))))))
 
-module _ (ns ws : List ℤ) (i at : ℕ) (h : i < length ns) (e : Beside ns ws i at) where
-  parted : drop i ns ≡ name_number (drop at ws) ∷ several name_number location_size (length ns - (i + 1)) (drop (at + location_size) ws)
-  parted = let m : length ns - i ≡ suc (length ns - (i + 1)) = omega arith in e ∙ rw (m, drop-drop location_size at ws)
+-- row i differs from those after it, and these from each other
+abbrev pub Apart : List (List ℤ) → ℕ → ℕ → Bool → Type 0
+Apart rs i j b = b ≡ all (other_row (get_or rs i []) (get_or (map name_number rs) i (pos 0))) (zip (drop j rs) (drop j (map name_number rs)))
 
-  pub number_here : word_at ns i ≡ name_number (drop at ws)
-  number_here = ap (λ (j : ℕ). word_at ns j) (sym (add-zero i)) ∙ sym (get_or-drop i ns 0 (pos 0)) ∙ ap (λ (l : List ℤ). get_or l 0 (pos 0)) parted
+differ_from : (rs : List (List ℤ)) (i : ℕ) → i < length rs → (ok b : Bool) → Apart rs i (suc i) b → ok && distinct_names (map loc_in (drop i rs)) ≡ ok && b && distinct_names (map loc_in (drop (suc i) rs))
+differ_from [] i h ok b e = absurd (omega arith)
+differ_from (r ∷ rs) zero h ok b e = rw (e, by_numbers r rs) (and_regroup ok (all (other_name r) (map loc_in rs)) (distinct_names (map loc_in rs)))
+differ_from (r ∷ rs) (suc i) h ok b e = differ_from rs i (omega arith) ok b e
 
-  pub numbers_after : Beside ns ws (i + 1) (at + location_size)
-  numbers_after = sym (drop-drop 1 i ns) ∙ ap (drop 1) parted
+pub differ_turn : (rs : List (List ℤ)) (i : ℕ) → i < length rs → (ok b : Bool) → Apart rs i (i + 1) b → ok && distinct_names (map loc_in (drop i rs)) ≡ ok && b && distinct_names (map loc_in (drop (i + 1) rs))
+differ_turn rs i h ok b e = rw (add-one i) (differ_from rs i h ok b (rw (add-one i) at e))

@@ -1,11 +1,10 @@
 -- The name in a location's words, byte by byte: the turns of the loops over it. Assumes nothing.
-use Rattle.semantics.proofs.Prelude.{◌≡◌, refl, sym, ap, ◌∙◌, Bool, true, false, ◌&&◌, not, List, [], ◌∷◌, ℕ, zero, suc, ◌+◌, ◌-◌, ◌*◌, ◌<◌, arith, add-one, eq-eqb, ne_eqb, eqb-true, eqb, eqb-suc-zero, ℤ, pos, negsuc, nat_abs, length, drop, drop-nil, drop-cons, drop-drop}
-use Rattle.semantics.specs.Layout.{name_size, location_size, name_place}
-use Rattle.semantics.specs.Lists.{all, pick}
+use Rattle.semantics.proofs.Prelude.{◌≡◌, refl, sym, ◌∙◌, Bool, true, false, not, List, [], ◌∷◌, ℕ, zero, suc, ◌+◌, ◌-◌, ◌*◌, ◌<◌, arith, add-one, eq-eqb, ne_eqb, eqb-true, eqb, eqb-suc-zero, ℤ, pos, negsuc, nat_abs, length, drop, drop-nil}
+use Rattle.semantics.specs.Layout.{name_size, name_place}
+use Rattle.semantics.specs.Lists.{pick}
 use Rattle.semantics.specs.Text.{same_bytes}
 use Rattle.semantics.specs.Chart.{Loc, eq_z}
-use Rattle.semantics.specs.Encoding.{word_at, name_in, loc_in, several, distinct_names, count}
-use Rattle.semantics.proofs.Bools.{and_regroup}
+use Rattle.semantics.specs.Encoding.{word_at, name_in, loc_in, count}
 use Rattle.chart.specs.Encoded.{byte_of, number_from}
 
 -- the first word left, and the words after it; past the end there is no byte more
@@ -75,19 +74,6 @@ module _ (us vs : List ℤ) (i : ℕ) (more : i < name_size) (x y : ℕ) (ex : x
       let s : eqb (count us (i + name_place)) (count vs (i + name_place)) ≡ true = eq-eqb _ _ (sym ex ∙ h ∙ ey) in
       rw (name_left us i more, name_left vs i more, p, q, s)
 
--- the words of a name, each tested
-module _ (p : ℤ → Bool) (ws : List ℤ) (ok : Bool) (i : ℕ) where
-  pub words_turn : (b : Bool) → i < length ws → b ≡ p (word_at ws i) → ok && all p (drop i ws) ≡ ok && b && all p (drop (i + 1) ws)
-  words_turn b h e = rw (add-one i, drop-cons ws i (pos 0) h, e) (and_regroup ok (p (word_at ws i)) (all p (drop (suc i) ws)))
-
 -- the name is not that of the location given
 abbrev pub other_name : List ℤ → Loc → Bool
 other_name row m = not (same_bytes (loc_in row).name m.name)
-
-module _ (ws : List ℤ) (ok : Bool) (left at : ℕ) where
-  pub differ_turn : (b : Bool) → 0 < left → b ≡ all (other_name (drop at ws)) (several loc_in location_size (left - 1) (drop (at + location_size) ws))
-      → ok && distinct_names (several loc_in location_size left (drop at ws)) ≡ ok && b && distinct_names (several loc_in location_size (left - 1) (drop (at + location_size) ws))
-  differ_turn b h e =
-      let m : left ≡ suc (left - 1) = omega arith in
-      ap (λ (n : ℕ). ok && distinct_names (several loc_in location_size n (drop at ws))) m
-      ∙ rw (drop-drop location_size at ws, e) (and_regroup ok (all (other_name (drop at ws)) (several loc_in location_size (left - 1) (drop (at + location_size) ws))) (distinct_names (several loc_in location_size (left - 1) (drop (at + location_size) ws))))

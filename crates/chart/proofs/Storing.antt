@@ -1,7 +1,6 @@
 -- What is left where a row was stored, and a name's bytes stored one by one. Assumes nothing.
-use Rattle.semantics.proofs.Prelude.{◌≡◌, refl, sym, ◌∙◌, List, ◌++◌, append_assoc, map, ℕ, suc, ◌+◌, ◌-◌, ◌≤◌, ◌<◌, arith, add-one, length, get_or, take, drop, set, replicate, length-append, length-map, ℤ, pos, drop-cons, drop-drop, take-suc-set, append_snoc}
-use Rattle.semantics.specs.Encoding.{padded}
-use Rattle.words.proofs.Rows.{drop_zeros, take_put, drop_put}
+use Rattle.semantics.proofs.Prelude.{◌≡◌, refl, sym, ap, ◌∙◌, List, [], ◌∷◌, ◌++◌, append_assoc, map, ℕ, suc, ◌+◌, ◌-◌, ◌≤◌, ◌<◌, arith, add-one, add_comm, sub-zero, suc-sub-suc, zero, length, get_or, take, drop, set, replicate, length-append, ℤ, pos, drop-drop}
+use Rattle.words.proofs.Rows.{take_put, drop_put}
 use Rattle.chart.specs.Rows.{stored}
 
 stored_is : (at : ℕ) (row ws : List ℤ) → stored at row ws ≡ take at ws ++ (row ++ drop (length row) (drop at ws))
@@ -31,11 +30,12 @@ module _ (at : ℕ) (row ws : List ℤ) (fits : at + length row ≤ length ws) w
       = rw (stored_take, stored_drop, drop-drop (length more) (length row) (drop at ws), length-append row more, append_assoc row more, append_assoc (take at ws) row) in
       stored_is (at + length row) more (stored at row ws) ∙ e ∙ sym (stored_is at (row ++ more) ws)
 
--- one byte more is stored
-pub bytes_turn : (i : ℕ) (row : List ℤ) (name : List ℕ) → i < length row → i < length name → take (i + 1) (set row i (pos (get_or name i 0))) ++ map pos (drop (i + 1) name) ≡ take i row ++ map pos (drop i name)
-bytes_turn i row name r n =
-    rw (add-one i, drop-cons name i 0 n, take-suc-set row i (pos (get_or name i 0)) r) (append_snoc (take i row) (pos (get_or name i 0)) (map pos (drop (suc i) name)))
+-- one byte more is stored, over a 0
+bytes_turn : (name : List ℕ) (i n : ℕ) → i < length name → i < n → set (map pos (take i name) ++ replicate (n - i) (pos 0)) i (pos (get_or name i 0)) ≡ map pos (take (suc i) name) ++ replicate (n - suc i) (pos 0)
+bytes_turn [] i n h k = absurd (omega arith)
+bytes_turn (b ∷ bs) i zero h k = absurd (omega arith)
+bytes_turn (b ∷ bs) zero (suc n) h k = let m : suc n - 1 ≡ n = omega arith in rw (sub-zero (suc n), m)
+bytes_turn (b ∷ bs) (suc i) (suc n) h k = rw (suc-sub-suc n i, suc-sub-suc n (suc i), bytes_turn bs i n (omega arith) (omega arith))
 
--- a name's words over zeros
-pub name_over : (n : ℕ) (name : List ℕ) → map pos name ++ drop (length name) (replicate n (pos 0)) ≡ padded n (map pos name)
-name_over n name = rw (drop_zeros (length name) n, length-map name pos)
+pub byte_stored : (k z : ℤ) (name : List ℕ) (i n : ℕ) → i < length name → i < n → z ≡ pos (get_or name i 0) → set (k ∷ map pos (take i name) ++ replicate (n - i) (pos 0)) (1 + i) z ≡ k ∷ map pos (take (i + 1) name) ++ replicate (n - (i + 1)) (pos 0)
+byte_stored k z name i n h l e = rw (add_comm 1 i, add-one i, e) (ap (λ (l : List ℤ). k ∷ l) (bytes_turn name i n h l))

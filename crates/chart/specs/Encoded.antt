@@ -1,12 +1,13 @@
 -- The check of an encoded chart said of its words, in the order of the code's tests. A row is handed on with all
 -- words after it. `..-fine` tests words; `..-ok` (semantics, Encoding) tests the chart that they decode to. Assumes
 -- nothing.
-use Rattle.std.specs.Prelude.{Bool, true, false, ◌&&◌, ◌||◌, List, [], ◌∷◌, ℕ, ◌+◌, ◌-◌, ◌*◌, leb, ltb, eqb, length, take, drop, ℤ, pos, nat_abs}
+use Rattle.std.specs.Prelude.{Bool, true, false, not, ◌&&◌, ◌||◌, List, [], ◌∷◌, ℕ, ◌+◌, ◌-◌, ◌*◌, leb, ltb, eqb, length, take, drop, ℤ, pos, nat_abs}
 use Rattle.std.specs.Int.Signed.{non_neg, le_z}
 use Rattle.semantics.specs.Lists.{pick, all}
 use Rattle.semantics.specs.Chart.{Loc, eq_z, within, small}
 use Rattle.semantics.specs.Layout.{most_variables, most_locations, most_edges, counts_size, variable_size, name_size, location_size, edge_size, variables_place, locations_place, edges_place, variable_at, high_place, kind_place, name_place, from_place, to_place, operation_place, target_place, first_tag_place, first_value_place, second_tag_place, second_value_place, skip_code, add_code, sub_code, in_code, ge_code, number_tag, variable_tag, byte_limit}
 use Rattle.semantics.specs.Encoding.{word_at, count, kind_word, var_in, var_ok, loc_in, distinct_names, several, variable_count, location_count, edge_count}
+use Rattle.semantics.specs.Text.{same_bytes}
 use Rattle.semantics.specs.Memory.{below, zeros}
 
 -- n rows of k words, each with the words after it
@@ -118,3 +119,8 @@ number_of l = pos (number_from 0 l.name)
 -- that of the location in the first words
 abbrev pub name_number : List ℤ → ℤ
 name_number ws = number_of (loc_in ws)
+
+-- the name of a row is not that of another, which stands there with the number of its name: only where this is k is it
+-- looked at
+abbrev pub other_row : List ℤ → ℤ → List ℤ × ℤ → Bool
+other_row row k p = not (eq_z k p.1 && same_bytes (loc_in row).name (loc_in p.0).name)

@@ -5,6 +5,8 @@ use Rattle.semantics.specs.Layout.{skip_code, set_code, add_code, sub_code, in_c
 use Rattle.semantics.specs.declared.Arithmetic.TheVariants.{Add, Sub}
 use Rattle.semantics.specs.declared.Relation.{Relation}
 use Rattle.semantics.specs.declared.Relation.TheVariants.{Eq, Ne, Lt, Le, Gt, Ge}
+use Rattle.semantics.specs.Encoding.{rel_code}
+use Rattle.semantics.specs.Operations.{the_relation}
 use Rattle.chart.specs.declared.Kind.{Kind}
 use Rattle.chart.specs.declared.Kind.TheVariants.{Skip, Set, Compute, In, If}
 use Rattle.chart.specs.declared.Which.{Which}
@@ -17,6 +19,15 @@ relation_of n = pick (eqb n eq_code) Eq (pick (eqb n ne_code) Ne (pick (eqb n lt
 -- what code n does; past the last code, as `op_of` has it, it is the last
 unfoldable pub kind_of : ℕ → Kind
 kind_of n = pick (eqb n skip_code) Skip (pick (eqb n set_code) Set (pick (eqb n add_code) (Compute Add) (pick (eqb n sub_code) (Compute Sub) (pick (eqb n in_code) In (If (relation_of n))))))
+
+-- the code that is written for it
+abbrev pub code_of : Kind → ℕ
+code_of Skip = skip_code
+code_of Set = set_code
+code_of (Compute Add) = add_code
+code_of (Compute Sub) = sub_code
+code_of In = in_code
+code_of (If r) = rel_code (the_relation r)
 
 -- the places of an operand's words in an edge's row
 abbrev pub tag_place : Which → ℕ

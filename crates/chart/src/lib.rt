@@ -3,17 +3,18 @@
 #![tactic(auto)]
 
 ghost use Rattle.semantics.specs.declared.Refusal.TheVariants.{BadChart};
-ghost use Rattle.std.specs.Prelude.{List, ℤ, IsOk, IfOk, IfErr, ◌↔◌, T, ◌≡◌, true, not, ◌∷◌, map, ◌+◌, ◌-◌, ◌*◌, ◌<◌, ◌≤◌, pos, nat_abs, length, drop};
+ghost use Rattle.std.specs.Prelude.{List, ℤ, IsOk, IfOk, IfErr, ◌↔◌, T, ◌≡◌, true, not, ◌∷◌, map, ◌+◌, ◌-◌, ◌*◌, ◌<◌, ◌≤◌, pos, nat_abs, length, take, drop, ◌&&◌};
+ghost use Rattle.std.specs.List.{zip};
 ghost use Rattle.semantics.specs.Lists.{all};
 ghost use Rattle.semantics.specs.Text.{same_bytes};
 ghost use Rattle.semantics.specs.Chart.{eq_z};
 ghost use Rattle.semantics.specs.Layout.{counts_size, variable_size, name_size, location_size, edge_size, variable_at, high_place, init_place, to_place, operation_place, target_place, first_tag_place, first_value_place, second_tag_place, second_value_place, ge_code, number_tag, index_limit, most_variables, most_locations, most_edges};
-ghost use Rattle.semantics.specs.Encoding.{word_at, count, val, kind_word, rel_code, tag, operand_word, var_words, loc_words, op_words, edge_words, init_ok, var_in, var_ok, loc_in, several, distinct_names, decode, well_formed, variable_count, location_count, edge_count};
+ghost use Rattle.semantics.specs.Encoding.{word_at, count, val, kind_word, rel_code, tag, operand_word, var_words, loc_words, op_words, edge_words, init_ok, var_in, var_ok, name_in, loc_in, several, distinct_names, decode, well_formed, variable_count, location_count, edge_count};
 ghost use Rattle.semantics.specs.Operations.{the_operand, the_relation, the_operation};
 ghost use Rattle.semantics.specs.Listing.{loc_text};
-ghost use Rattle.chart.specs.Encoded.{rows, is_at_most, name_word, counts_fine, locations_at, edges_at, location_fine, operand_fine, ranged, two_fine, one_fine, input_fine, operands_fine, operation_fine, edge_fine, rows_fine, byte_of, name_number};
-ghost use Rattle.chart.specs.Kinds.{relation_of, kind_of, tag_place, value_place};
-ghost use Rattle.chart.specs.Rows.{stored, rows_size, the_variable, the_location, the_edge, sum_code, split_words};
+ghost use Rattle.chart.specs.Encoded.{rows, is_at_most, name_word, counts_fine, locations_at, edges_at, location_fine, operand_fine, ranged, two_fine, one_fine, input_fine, operands_fine, operation_fine, edge_fine, rows_fine, byte_of, name_number, other_row};
+ghost use Rattle.chart.specs.Kinds.{relation_of, kind_of, code_of, tag_place, value_place};
+ghost use Rattle.chart.specs.Rows.{stored, rows_size, the_variable, the_location, the_edge};
 
 use semantics::{
     Arithmetic, EdgeId, LocationId, MOST_EDGES, MOST_LOCATIONS, MOST_VARIABLES, Operand, Operation,
@@ -34,6 +35,9 @@ const NAME_SIZE: usize = 16;
 pub const LOCATION_SIZE: usize = 1 + NAME_SIZE;
 
 const EDGE_SIZE: usize = 8;
+
+// Of an edge's words those of its operation.
+const OPERATION_SIZE: usize = 6;
 
 // The rows of the largest chart, 3,160 words, and with the counts before them.
 pub const ROWS_SIZE: usize = VARIABLE_SIZE * MOST_VARIABLES
@@ -120,13 +124,24 @@ fn is_at_most(n: usize, w: i32) -> bool
     (0 <= w) & (words::magnitude(w) <= n)
 }
 
+// ---- rows
+
 // The row's words from a place on.
 fn store_words(rows: &mut [i32], at: usize, row: &[i32])
     requires { at + length row.now ≤ length rows.old }
     ensures { rows.new ≡ stored at row.now rows.old }
 {
     let end = at + row.len();
-    words::copy_words(&mut rows[at..end], row);
+    rows[at..end].copy_from_slice(row);
+}
+
+// The first n rows, of N words each.
+fn rows_of<const N: usize>(words: &[i32], n: usize) -> &[[i32; N]]
+    requires { (0 < N) × (N * n ≤ length words.now) }
+    ensures rows { result.now ≡ several (take N) N n words.now }
+    ensures len { length result.now ≡ n }
+{
+    &words.as_chunks::<N>().0[..n]
 }
 
 // ---- the counts, and where the rows stand
@@ -193,6 +208,7 @@ fn chart_size(chart: &[i32]) -> usize
 }
 
 // Whether there are 0 to 8 variables, 1 to 64 locations and 0 to 256 edges.
+#[tactic(auto, unfolding(crate::specs::Encoded::counts_fine))]
 fn counts_fine(chart: &[i32]) -> bool
     ensures { result ≡ counts_fine chart.now }
 {
@@ -244,6 +260,7 @@ pub fn variable_init(chart: &[i32], k: usize) -> i32
 }
 
 // Whether a number lies in the range of a variable.
+#[tactic(auto, unfolding(crate::specs::Encoded::ranged))]
 pub fn in_var_range(vars: &[i32], k: usize, w: i32) -> bool
     requires { k < index_limit }
     ensures { result ≡ ranged vars.now k w }
@@ -260,19 +277,14 @@ pub fn in_var_range(vars: &[i32], k: usize, w: i32) -> bool
 fn init_word_ok(lo: i32, hi: i32, init: i32) -> bool
     ensures { result ≡ init_ok lo hi (val init) }
 {
-    if init == words::TOP {
-        return true;
-    }
-    words::is_small(init) & words::lies_within(lo, hi, init)
+    init == words::TOP || (words::is_small(init) & words::lies_within(lo, hi, init))
 }
 
 // A variable's words: its range, and its initial value.
-fn var_row_ok(row: &[i32]) -> bool
+fn var_row_ok(row: &[i32; VARIABLE_SIZE]) -> bool
     ensures { result ≡ var_ok (var_in row.now) }
 {
-    let lo = words::word_at(row, LOW_PLACE);
-    let hi = words::word_at(row, HIGH_PLACE);
-    let init = words::word_at(row, INIT_PLACE);
+    let [lo, hi, init] = *row;
     words::is_small(lo) & words::is_small(hi) & (lo <= hi) & init_word_ok(lo, hi, init)
 }
 
@@ -281,57 +293,23 @@ fn vars_ok(vars: &[i32], n: usize) -> bool
     requires { variable_size * n ≤ length vars.now }
     ensures { result ≡ all var_ok (several var_in variable_size n vars.now) }
 {
-    let mut ok = true;
-    let mut i = 0;
-    let mut at = 0;
-    while i < n {
-        ok = ok & var_row_ok(&vars[at..]);
-        at += VARIABLE_SIZE;
-        i += 1;
-    }
-    ok
+    rows_of::<VARIABLE_SIZE>(vars, n)
+        .iter()
+        .fold(true, |ok, row| ok & var_row_ok(row))
 }
 
 // ---- locations
-
-// A location's kind.
-fn kind_word(error: bool) -> i32
-    ensures { result ≡ kind_word error }
-{
-    if error {
-        return ERROR_KIND;
-    }
-    ORDINARY_KIND
-}
-
-// The bytes of a name, one a word.
-fn bytes_as_words(row: &mut [i32], name: &[u8])
-    requires { length row.old ≡ length name.now }
-    ensures { row.new ≡ map pos name.now }
-{
-    let mut i = 0;
-    while i < name.len() {
-        row[i] = byte_word(name[i]);
-        i += 1;
-    }
-}
-
-// A byte in a word.
-fn byte_word(b: u8) -> i32
-    ensures { result ≡ pos b }
-{
-    b as i32
-}
 
 // A location's row: its kind, and its name with 0 after it.
 pub fn put_location(rows: &mut [i32], at: usize, error: bool, name: &[u8])
     requires { (length name.now ≤ name_size) × (at + location_size ≤ length rows.old) }
     ensures { rows.new ≡ stored at (loc_words (the_location error name.now)) rows.old }
 {
-    let mut row = [0i32; LOCATION_SIZE];
-    row[KIND_PLACE] = kind_word(error);
-    let end = name.len() + NAME_PLACE;
-    bytes_as_words(&mut row[NAME_PLACE..end], name);
+    let mut row = [0; LOCATION_SIZE];
+    row[KIND_PLACE] = i32::from(error);
+    for (i, byte) in name.iter().enumerate() {
+        row[NAME_PLACE + i] = i32::from(*byte);
+    }
     store_words(rows, at, &row);
 }
 
@@ -345,52 +323,39 @@ pub fn is_error_location(chart: &[i32], l: LocationId) -> bool
     kind == ERROR_KIND
 }
 
-// The length of the name in a location's words.
-fn row_name_length(row: &[i32]) -> usize
-    ensures count { result ≡ length (loc_in row.now).name }
-    ensures small { result ≤ name_size }
+// The length of a name, whose words begin those given: it ends before a 0, and after 16 bytes at the latest.
+fn name_length(words: &[i32]) -> usize
+    ensures { result ≡ length (name_in name_size words.now) }
 {
-    let mut i = 0;
-    while i < NAME_SIZE {
-        let w = words::word_at(row, i + NAME_PLACE);
-        if w == 0 {
-            return i;
-        }
-        i += 1;
-    }
-    i
+    words
+        .iter()
+        .take(NAME_SIZE)
+        .position(|w| *w == 0)
+        .unwrap_or(words.len().min(NAME_SIZE))
 }
 
 // The words of a location's name, a byte each; none where there is no such location.
 pub fn name(chart: &[i32], l: LocationId) -> &[i32]
     ensures { map nat_abs result.now ≡ loc_text (decode chart.now).locs l.0 }
 {
-    let k = l.0;
-    if k < location_count(chart) {
-        let at = locations_at(chart) + LOCATION_SIZE * k;
-        if at < chart.len() {
-            let row = &chart[at..];
-            let end = row_name_length(row) + NAME_PLACE;
-            return &row[NAME_PLACE..end];
-        }
+    if location_count(chart) <= l.0 {
+        return &[];
     }
-    &chart[0..0]
+    let at = locations_at(chart) + LOCATION_SIZE * l.0 + NAME_PLACE;
+    match chart.get(at..) {
+        Some(words) => &words[..name_length(words)],
+        None => &[],
+    }
 }
-
-// The least number that no byte holds.
-const BYTE_LIMIT: usize = 256;
 
 // The byte in a word of a name; 0 where the word is no byte.
 pub fn byte_of(w: i32) -> u8
     ensures { result ≡ byte_of (nat_abs w) }
 {
-    let n = words::magnitude(w);
-    if n < BYTE_LIMIT {
-        return n as u8;
-    }
-    0
+    u8::try_from(words::magnitude(w)).unwrap_or(0)
 }
 
+#[tactic(auto, unfolding(crate::specs::Encoded::name_word))]
 fn is_name_word(w: i32) -> bool
     ensures { result ≡ name_word w }
 {
@@ -400,31 +365,17 @@ fn is_name_word(w: i32) -> bool
         | (w == 45)
 }
 
-fn name_words_ok(name: &[i32]) -> bool
-    ensures { result ≡ all name_word name.now }
-{
-    let mut ok = true;
-    let mut i = 0;
-    while i < name.len() {
-        let w = name[i];
-        ok = ok & is_name_word(w);
-        i += 1;
-    }
-    ok
-}
-
 // A location's words: its kind, the bytes of its name, and 0 after them.
-fn location_fine(row: &[i32]) -> bool
-    requires { location_size ≤ length row.now }
+fn location_fine(row: &[i32; LOCATION_SIZE]) -> bool
     ensures { result ≡ location_fine row.now }
 {
-    let kind = words::word_at(row, KIND_PLACE);
-    let n = row_name_length(row);
-    let end = n + NAME_PLACE;
+    let kind = row[KIND_PLACE];
+    let words = &row[NAME_PLACE..];
+    let (name, after) = words.split_at(name_length(words));
     ((kind == ORDINARY_KIND) | (kind == ERROR_KIND))
-        & (1 <= n)
-        & name_words_ok(&row[NAME_PLACE..end])
-        & words::all_zero(&row[end..LOCATION_SIZE])
+        & (1 <= name.len())
+        & name.iter().fold(true, |ok, w| ok & is_name_word(*w))
+        & words::all_zero(after)
 }
 
 // The words of n locations.
@@ -432,23 +383,16 @@ fn locations_fine(locations: &[i32], n: usize) -> bool
     requires { location_size * n ≤ length locations.now }
     ensures { result ≡ all location_fine (rows location_size n locations.now) }
 {
-    let mut ok = true;
-    let mut i = 0;
-    let mut at = 0;
-    while i < n {
-        ok = ok & location_fine(&locations[at..]);
-        at += LOCATION_SIZE;
-        i += 1;
-    }
-    ok
+    rows_of::<LOCATION_SIZE>(locations, n)
+        .iter()
+        .fold(true, |ok, row| ok & location_fine(row))
 }
 
 // Whether two locations have one name.
 fn same_name(a: &[i32], b: &[i32]) -> bool
     ensures { result ≡ same_bytes (loc_in a.now).name (loc_in b.now).name }
 {
-    let mut i = 0;
-    while i < NAME_SIZE {
+    for i in 0..NAME_SIZE {
         let x = words::number_at(a, i + NAME_PLACE);
         let y = words::number_at(b, i + NAME_PLACE);
         if x != y {
@@ -457,7 +401,6 @@ fn same_name(a: &[i32], b: &[i32]) -> bool
         if x == 0 {
             return true;
         }
-        i += 1;
     }
     true
 }
@@ -468,15 +411,9 @@ pub fn name_is_new(row: &[i32], locations: &[i32], n: usize) -> bool
     requires { location_size * n ≤ length locations.now }
     ensures { result ≡ all (λ m. not (same_bytes (loc_in row.now).name m.name)) (several loc_in location_size n locations.now) }
 {
-    let mut ok = true;
-    let mut i = 0;
-    let mut at = 0;
-    while i < n {
-        ok = ok & !same_name(row, &locations[at..]);
-        at += LOCATION_SIZE;
-        i += 1;
-    }
-    ok
+    rows_of::<LOCATION_SIZE>(locations, n)
+        .iter()
+        .fold(true, |ok, other| ok & !same_name(row, other))
 }
 
 // A number for the name in a location's words. Equal names have equal numbers: where two numbers differ, no word of the
@@ -485,43 +422,32 @@ pub fn name_number(row: &[i32]) -> i32
     ensures { result ≡ name_number row.now }
 {
     let mut n = 0;
-    let mut i = 0;
-    while i < NAME_SIZE {
+    for i in 0..NAME_SIZE {
         let w = words::word_at(row, i + NAME_PLACE);
         if w == 0 {
             return n as i32;
         }
-        n = 2 * n + byte_of(w) as usize;
-        i += 1;
+        n = 2 * n + usize::from(byte_of(w));
     }
     n as i32
 }
 
-// The numbers of as many locations' names.
-fn number_names(numbers: &mut [i32], locations: &[i32])
-    requires { location_size * length numbers.old ≤ length locations.now }
-    ensures { numbers.new ≡ several name_number location_size (length numbers.old) locations.now }
+// Whether the other row has the name of the one given: only where the numbers of the two names are equal are the words
+// looked at.
+fn has_name(row: &[i32], number: i32, other: &[i32], other_number: i32) -> bool
+    ensures { result ≡ eq_z number other_number && same_bytes (loc_in row.now).name (loc_in other.now).name }
 {
-    let mut i = 0;
-    let mut at = 0;
-    while i < numbers.len() {
-        numbers[i] = name_number(&locations[at..]);
-        at += LOCATION_SIZE;
-        i += 1;
-    }
+    number == other_number && same_name(row, other)
 }
 
-// Whether the location whose words begin at a place has the name of the one given, by the numbers of the two names: only
-// where these are equal are the words looked at.
-fn has_name(row: &[i32], number: i32, locations: &[i32], at: usize, other: i32) -> bool
-    requires { at ≤ length locations.now }
-    ensures { number ≡ name_number row.now → other ≡ name_number (drop at locations.now) → result ≡ same_bytes (loc_in row.now).name (loc_in (drop at locations.now)).name }
+// Whether none of the rows has the name of the one given, by the number of that name and those of their names.
+fn differs(row: &[i32], number: i32, rows: &[[i32; LOCATION_SIZE]], numbers: &[i32]) -> bool
+    ensures { result ≡ all (other_row row.now number) (zip rows.now numbers.now) }
 {
-    if number != other {
-        return false;
-    }
-    let there = &locations[at..];
-    same_name(row, there)
+    rows.iter().zip(numbers).fold(
+        true,
+        |ok, (other, n)| ok & !has_name(row, number, other, *n),
+    )
 }
 
 // Whether none of the locations has the name of the one given, by the number of that name and those of their names.
@@ -529,235 +455,34 @@ pub fn name_differs(row: &[i32], number: i32, locations: &[i32], numbers: &[i32]
     requires { location_size * length numbers.now ≤ length locations.now }
     ensures { number ≡ name_number row.now → numbers.now ≡ several name_number location_size (length numbers.now) locations.now → result ≡ all (λ m. not (same_bytes (loc_in row.now).name m.name)) (several loc_in location_size (length numbers.now) locations.now) }
 {
+    differs(row, number, rows_of(locations, numbers.len()), numbers)
+}
+
+// Whether no two of the rows have one name, by the numbers of their names.
+fn all_differ(rows: &[[i32; LOCATION_SIZE]], numbers: &[i32]) -> bool
+    requires { numbers.now ≡ map name_number rows.now }
+    ensures { result ≡ distinct_names (map loc_in rows.now) }
+{
     let mut ok = true;
-    let mut i = 0;
-    let mut at = 0;
-    while i < numbers.len() {
-        let other = numbers[i];
-        ok = ok & !has_name(row, number, locations, at, other);
-        at += LOCATION_SIZE;
-        i += 1;
+    for i in 0..rows.len() {
+        ok = ok & differs(&rows[i], numbers[i], &rows[i + 1..], &numbers[i + 1..]);
     }
     ok
 }
 
-// Whether no two of the locations have one name, by the numbers of their names.
-fn all_differ(locations: &[i32], numbers: &[i32]) -> bool
-    requires { (location_size * length numbers.now ≤ length locations.now) × (numbers.now ≡ several name_number location_size (length numbers.now) locations.now) }
-    ensures { result ≡ distinct_names (several loc_in location_size (length numbers.now) locations.now) }
+// Whether no two of the rows have one name.
+fn names_differ(rows: &[[i32; LOCATION_SIZE]]) -> bool
+    requires { length rows.now ≤ most_locations }
+    ensures { result ≡ distinct_names (map loc_in rows.now) }
 {
-    let mut ok = true;
-    let mut i = 0;
-    let mut at = 0;
-    while i < numbers.len() {
-        let number = numbers[i];
-        let next = at + LOCATION_SIZE;
-        i += 1;
-        ok = ok & name_differs(&locations[at..], number, &locations[next..], &numbers[i..]);
-        at = next;
+    let mut numbers = [0; MOST_LOCATIONS];
+    for (i, row) in rows.iter().enumerate() {
+        numbers[i] = name_number(row);
     }
-    ok
-}
-
-// Whether no two of n locations have one name.
-fn names_differ(locations: &[i32], n: usize) -> bool
-    requires { (location_size * n ≤ length locations.now) × (n ≤ most_locations) }
-    ensures { result ≡ distinct_names (several loc_in location_size n locations.now) }
-{
-    let mut numbers = [0i32; MOST_LOCATIONS];
-    number_names(&mut numbers[..n], locations);
-    all_differ(locations, &numbers[..n])
+    all_differ(rows, &numbers[..rows.len()])
 }
 
 // ---- edges
-
-// The two words of an operand: what it is, and its number, or k of `$k`.
-#[derive(Clone, Copy)]
-pub struct OperandWords {
-    pub tag: i32,
-    pub value: i32,
-}
-
-impl OperandWords {
-    pub fn is_number(self) -> bool
-        ensures { result ≡ eq_z self.tag number_tag }
-    {
-        self.tag == NUMBER_TAG
-    }
-
-    // The variable that it names, if it names one.
-    pub fn variable(self) -> usize
-        ensures number { result ≡ nat_abs self.value }
-        ensures small { result < index_limit }
-    {
-        words::magnitude(self.value)
-    }
-}
-
-fn operand_words(a: Operand) -> OperandWords
-    ensures tag { result.tag ≡ tag (the_operand a) }
-    ensures value { result.value ≡ operand_word (the_operand a) }
-{
-    match a {
-        Operand::Number(z) => OperandWords {
-            tag: NUMBER_TAG,
-            value: z,
-        },
-        Operand::Variable(k) => OperandWords {
-            tag: VARIABLE_TAG,
-            value: k as i32,
-        },
-    }
-}
-
-// An operation by its code, its target and its operands; where it has none, 0.
-#[derive(Clone, Copy)]
-struct Split {
-    code: usize,
-    target: u8,
-    first: Operand,
-    second: Operand,
-}
-
-fn arithmetic_code(s: Arithmetic) -> usize
-    ensures code { result ≡ sum_code s }
-    ensures small { result ≤ ge_code }
-{
-    match s {
-        Arithmetic::Add => ADD_CODE,
-        Arithmetic::Sub => SUB_CODE,
-    }
-}
-
-fn relation_code(r: Relation) -> usize
-    ensures code { result ≡ rel_code (the_relation r) }
-    ensures small { result ≤ ge_code }
-{
-    match r {
-        Relation::Eq => EQ_CODE,
-        Relation::Ne => NE_CODE,
-        Relation::Lt => LT_CODE,
-        Relation::Le => LE_CODE,
-        Relation::Gt => GT_CODE,
-        Relation::Ge => GE_CODE,
-    }
-}
-
-fn split_of(op: Operation) -> Split
-    ensures row { split_words result ≡ op_words (the_operation op) }
-    ensures small { result.code ≤ ge_code }
-{
-    match op {
-        Operation::Skip => Split {
-            code: SKIP_CODE,
-            target: 0,
-            first: Operand::Number(0),
-            second: Operand::Number(0),
-        },
-        Operation::Set(v, a) => Split {
-            code: SET_CODE,
-            target: v,
-            first: a,
-            second: Operand::Number(0),
-        },
-        Operation::Compute(s, v, a, b) => Split {
-            code: arithmetic_code(s),
-            target: v,
-            first: a,
-            second: b,
-        },
-        Operation::In(v, p, q) => Split {
-            code: IN_CODE,
-            target: v,
-            first: Operand::Number(p),
-            second: Operand::Number(q),
-        },
-        Operation::If(v, r, a) => Split {
-            code: relation_code(r),
-            target: v,
-            first: a,
-            second: Operand::Number(0),
-        },
-    }
-}
-
-// An edge's row: from, to, and the operation's six words.
-pub fn put_edge(rows: &mut [i32], at: usize, from: LocationId, to: LocationId, op: Operation)
-    requires { (from.0 < most_locations) × (to.0 < most_locations) × (at + edge_size ≤ length rows.old) }
-    ensures { rows.new ≡ stored at (edge_words (the_edge from.0 to.0 op)) rows.old }
-{
-    let o = split_of(op);
-    let first = o.first;
-    let second = o.second;
-    let a = operand_words(first);
-    let b = operand_words(second);
-    let row = [
-        from.0 as i32,
-        to.0 as i32,
-        o.code as i32,
-        o.target as i32,
-        a.tag,
-        a.value,
-        b.tag,
-        b.value,
-    ];
-    store_words(rows, at, &row);
-}
-
-// An edge: its number, and where its words stand. The two are carried along together, so that no accessor has to count.
-#[derive(Clone, Copy)]
-pub struct EdgeRow {
-    pub id: EdgeId,
-    pub at: usize,
-}
-
-// Edge 1, whether there is one or not.
-pub fn first_edge(chart: &[i32]) -> EdgeRow
-    ensures id { result.id.0 ≡ 1 }
-    ensures place { result.at ≡ edges_at chart.now }
-{
-    EdgeRow {
-        id: EdgeId(1),
-        at: edges_at(chart),
-    }
-}
-
-// An edge by its number, from the first.
-pub fn edge_of(first: EdgeRow, id: EdgeId) -> EdgeRow
-    requires { (first.at < index_limit) × (1 ≤ id.0) × (id.0 ≤ index_limit) }
-    ensures id { result.id.0 ≡ id.0 }
-    ensures place { result.at ≡ first.at + edge_size * (id.0 - 1) }
-{
-    let before = id.0 - 1;
-    EdgeRow {
-        id,
-        at: first.at + EDGE_SIZE * before,
-    }
-}
-
-// The locations that it leaves and goes to, its operation's code, and the variable that it sets or tests.
-pub fn edge_from(chart: &[i32], edge: EdgeRow) -> LocationId
-    ensures location { result.0 ≡ count chart.now edge.at }
-    ensures small { result.0 < index_limit }
-{
-    LocationId(words::number_at(chart, edge.at))
-}
-
-pub fn edge_to(chart: &[i32], edge: EdgeRow) -> LocationId
-    requires { edge.at < index_limit }
-    ensures location { result.0 ≡ count chart.now (edge.at + to_place) }
-    ensures small { result.0 < index_limit }
-{
-    LocationId(words::number_at(chart, edge.at + TO_PLACE))
-}
-
-pub fn edge_operation(chart: &[i32], edge: EdgeRow) -> usize
-    requires { edge.at < index_limit }
-    ensures code { result ≡ count chart.now (edge.at + operation_place) }
-    ensures small { result < index_limit }
-{
-    words::number_at(chart, edge.at + OPERATION_PLACE)
-}
 
 // What an edge's operation does, without its target and its operands.
 #[derive(Clone, Copy, PartialEq, Eq)]
@@ -797,6 +522,217 @@ fn kind_of(code: usize) -> Kind
     }
 }
 
+// The word of its code.
+impl From<Kind> for i32 {
+    ghost from_gives = { λ kind word. word ≡ pos (code_of kind) };
+
+    fn from(kind: Kind) -> i32 {
+        let code = match kind {
+            Kind::Skip => SKIP_CODE,
+            Kind::Set => SET_CODE,
+            Kind::Compute(Arithmetic::Add) => ADD_CODE,
+            Kind::Compute(Arithmetic::Sub) => SUB_CODE,
+            Kind::In => IN_CODE,
+            Kind::If(Relation::Eq) => EQ_CODE,
+            Kind::If(Relation::Ne) => NE_CODE,
+            Kind::If(Relation::Lt) => LT_CODE,
+            Kind::If(Relation::Le) => LE_CODE,
+            Kind::If(Relation::Gt) => GT_CODE,
+            Kind::If(Relation::Ge) => GE_CODE,
+        };
+        code as i32
+    }
+}
+
+// Which of an edge's two operands.
+#[derive(Clone, Copy, PartialEq, Eq)]
+pub enum Which {
+    First,
+    Second,
+}
+
+impl Which {
+    // Where its two words stand in the row.
+    fn tag_place(self) -> usize
+        ensures place { result ≡ tag_place self }
+        ensures within { result < edge_size }
+    {
+        match self {
+            Which::First => FIRST_TAG_PLACE,
+            Which::Second => SECOND_TAG_PLACE,
+        }
+    }
+
+    fn value_place(self) -> usize
+        ensures place { result ≡ value_place self }
+        ensures within { result < edge_size }
+    {
+        match self {
+            Which::First => FIRST_VALUE_PLACE,
+            Which::Second => SECOND_VALUE_PLACE,
+        }
+    }
+}
+
+// The two words of an operand: what it is, and its number, or k of `$k`.
+#[derive(Clone, Copy)]
+pub struct OperandWords {
+    pub tag: i32,
+    pub value: i32,
+}
+
+impl OperandWords {
+    pub fn is_number(self) -> bool
+        ensures { result ≡ eq_z self.tag number_tag }
+    {
+        self.tag == NUMBER_TAG
+    }
+
+    // The variable that it names, if it names one.
+    pub fn variable(self) -> usize
+        ensures number { result ≡ nat_abs self.value }
+        ensures small { result < index_limit }
+    {
+        words::magnitude(self.value)
+    }
+}
+
+impl From<Operand> for OperandWords {
+    ghost from_gives = { λ a words. (words.tag ≡ tag (the_operand a)) × (words.value ≡ operand_word (the_operand a)) };
+
+    fn from(a: Operand) -> OperandWords {
+        match a {
+            Operand::Number(z) => OperandWords {
+                tag: NUMBER_TAG,
+                value: z,
+            },
+            Operand::Variable(k) => OperandWords {
+                tag: VARIABLE_TAG,
+                value: i32::from(k),
+            },
+        }
+    }
+}
+
+// An operation's words: its code, its target and its two operands; 0 where it has none.
+fn op_words(op: Operation) -> [i32; OPERATION_SIZE]
+    ensures { result ≡ op_words (the_operation op) }
+{
+    match op {
+        Operation::Skip => [i32::from(Kind::Skip), 0, 0, 0, 0, 0],
+        Operation::Set(v, a) => {
+            let a = OperandWords::from(a);
+            [i32::from(Kind::Set), i32::from(v), a.tag, a.value, 0, 0]
+        }
+        Operation::Compute(s, v, a, b) => {
+            let a = OperandWords::from(a);
+            let b = OperandWords::from(b);
+            [
+                i32::from(Kind::Compute(s)),
+                i32::from(v),
+                a.tag,
+                a.value,
+                b.tag,
+                b.value,
+            ]
+        }
+        Operation::In(v, p, q) => {
+            [
+                i32::from(Kind::In),
+                i32::from(v),
+                NUMBER_TAG,
+                p,
+                NUMBER_TAG,
+                q,
+            ]
+        }
+        Operation::If(v, r, a) => {
+            let a = OperandWords::from(a);
+            [i32::from(Kind::If(r)), i32::from(v), a.tag, a.value, 0, 0]
+        }
+    }
+}
+
+// An edge's row: from, to, and the operation's words.
+pub fn put_edge(rows: &mut [i32], at: usize, from: LocationId, to: LocationId, op: Operation)
+    requires { (from.0 < most_locations) × (to.0 < most_locations) × (at + edge_size ≤ length rows.old) }
+    ensures { rows.new ≡ stored at (edge_words (the_edge from.0 to.0 op)) rows.old }
+{
+    let [
+        code,
+        target,
+        first_tag,
+        first_value,
+        second_tag,
+        second_value,
+    ] = op_words(op);
+    let row = [
+        from.0 as i32,
+        to.0 as i32,
+        code,
+        target,
+        first_tag,
+        first_value,
+        second_tag,
+        second_value,
+    ];
+    store_words(rows, at, &row);
+}
+
+// An edge: its number, and where its words stand. The two are carried along together, so that no accessor has to count.
+#[derive(Clone, Copy)]
+pub struct EdgeRow {
+    pub id: EdgeId,
+    pub at: usize,
+}
+
+// Edge 1, whether there is one or not.
+pub fn first_edge(chart: &[i32]) -> EdgeRow
+    ensures id { result.id.0 ≡ 1 }
+    ensures place { result.at ≡ edges_at chart.now }
+{
+    EdgeRow {
+        id: EdgeId(1),
+        at: edges_at(chart),
+    }
+}
+
+// An edge by its number, from the first.
+pub fn edge_of(first: EdgeRow, id: EdgeId) -> EdgeRow
+    requires { (first.at < index_limit) × (1 ≤ id.0) × (id.0 ≤ index_limit) }
+    ensures id { result.id.0 ≡ id.0 }
+    ensures place { result.at ≡ first.at + edge_size * (id.0 - 1) }
+{
+    EdgeRow {
+        id,
+        at: first.at + EDGE_SIZE * (id.0 - 1),
+    }
+}
+
+// The locations that it leaves and goes to, its operation's code, and the variable that it sets or tests.
+pub fn edge_from(chart: &[i32], edge: EdgeRow) -> LocationId
+    ensures location { result.0 ≡ count chart.now edge.at }
+    ensures small { result.0 < index_limit }
+{
+    LocationId(words::number_at(chart, edge.at))
+}
+
+pub fn edge_to(chart: &[i32], edge: EdgeRow) -> LocationId
+    requires { edge.at < index_limit }
+    ensures location { result.0 ≡ count chart.now (edge.at + to_place) }
+    ensures small { result.0 < index_limit }
+{
+    LocationId(words::number_at(chart, edge.at + TO_PLACE))
+}
+
+pub fn edge_operation(chart: &[i32], edge: EdgeRow) -> usize
+    requires { edge.at < index_limit }
+    ensures code { result ≡ count chart.now (edge.at + operation_place) }
+    ensures small { result < index_limit }
+{
+    words::number_at(chart, edge.at + OPERATION_PLACE)
+}
+
 pub fn edge_kind(chart: &[i32], edge: EdgeRow) -> Kind
     requires { edge.at < index_limit }
     ensures { result ≡ kind_of (count chart.now (edge.at + operation_place)) }
@@ -810,34 +746,6 @@ pub fn edge_target(chart: &[i32], edge: EdgeRow) -> usize
     ensures small { result < index_limit }
 {
     words::number_at(chart, edge.at + TARGET_PLACE)
-}
-
-// Which of an edge's two operands.
-#[derive(Clone, Copy, PartialEq, Eq)]
-pub enum Which {
-    First,
-    Second,
-}
-
-impl Which {
-    // Where its two words stand in the row.
-    fn tag_place(self) -> usize
-        ensures { result ≡ tag_place self }
-    {
-        match self {
-            Which::First => FIRST_TAG_PLACE,
-            Which::Second => SECOND_TAG_PLACE,
-        }
-    }
-
-    fn value_place(self) -> usize
-        ensures { result ≡ value_place self }
-    {
-        match self {
-            Which::First => FIRST_VALUE_PLACE,
-            Which::Second => SECOND_VALUE_PLACE,
-        }
-    }
 }
 
 pub fn edge_operand(chart: &[i32], edge: EdgeRow, which: Which) -> OperandWords
@@ -896,52 +804,56 @@ pub fn second_variable(chart: &[i32], edge: EdgeRow) -> usize
     words::number_at(chart, edge.at + SECOND_VALUE_PLACE)
 }
 
-// An operand: a number, or one of v variables.
-fn operand_fine(v: usize, tag: i32, w: i32) -> bool
-    ensures { result ≡ operand_fine v tag w }
+// One of the two operands in a row.
+fn operand_of(row: &[i32; EDGE_SIZE], which: Which) -> OperandWords
+    ensures tag { result.tag ≡ word_at row.now (tag_place which) }
+    ensures value { result.value ≡ word_at row.now (value_place which) }
 {
-    if tag == NUMBER_TAG {
-        return words::is_small(w);
+    OperandWords {
+        tag: row[which.tag_place()],
+        value: row[which.value_place()],
     }
-    (tag == VARIABLE_TAG) & words::is_below(v, w)
+}
+
+// An operand: a number, or one of v variables.
+#[tactic(auto, unfolding(crate::specs::Encoded::operand_fine))]
+fn operand_fine(v: usize, operand: OperandWords) -> bool
+    ensures { result ≡ operand_fine v operand.tag operand.value }
+{
+    if operand.is_number() {
+        return words::is_small(operand.value);
+    }
+    (operand.tag == VARIABLE_TAG) & words::is_below(v, operand.value)
 }
 
 // The operands of `add` and `sub`.
-fn two_fine(v: usize, row: &[i32]) -> bool
+#[tactic(auto, unfolding(crate::specs::Encoded::two_fine))]
+fn two_fine(v: usize, row: &[i32; EDGE_SIZE]) -> bool
     ensures { result ≡ two_fine v row.now }
 {
-    operand_fine(
-        v,
-        words::word_at(row, FIRST_TAG_PLACE),
-        words::word_at(row, FIRST_VALUE_PLACE),
-    ) & operand_fine(
-        v,
-        words::word_at(row, SECOND_TAG_PLACE),
-        words::word_at(row, SECOND_VALUE_PLACE),
-    )
+    operand_fine(v, operand_of(row, Which::First)) & operand_fine(v, operand_of(row, Which::Second))
 }
 
 // The operand of an assignment or a test; the second's words are 0.
-fn one_fine(v: usize, row: &[i32]) -> bool
+#[tactic(auto, unfolding(crate::specs::Encoded::one_fine))]
+fn one_fine(v: usize, row: &[i32; EDGE_SIZE]) -> bool
     ensures { result ≡ one_fine v row.now }
 {
-    operand_fine(
-        v,
-        words::word_at(row, FIRST_TAG_PLACE),
-        words::word_at(row, FIRST_VALUE_PLACE),
-    ) & (words::word_at(row, SECOND_TAG_PLACE) == 0)
-        & (words::word_at(row, SECOND_VALUE_PLACE) == 0)
+    operand_fine(v, operand_of(row, Which::First))
+        & (row[SECOND_TAG_PLACE] == 0)
+        & (row[SECOND_VALUE_PLACE] == 0)
 }
 
 // The two numbers of `in`; the operands' tags are 0.
-fn input_fine(vars: &[i32], row: &[i32]) -> bool
+#[tactic(auto, unfolding(crate::specs::Encoded::input_fine))]
+fn input_fine(vars: &[i32], row: &[i32; EDGE_SIZE]) -> bool
     ensures { result ≡ input_fine vars.now row.now }
 {
-    let k = words::number_at(row, TARGET_PLACE);
-    let p = words::word_at(row, FIRST_VALUE_PLACE);
-    let q = words::word_at(row, SECOND_VALUE_PLACE);
-    (words::word_at(row, FIRST_TAG_PLACE) == NUMBER_TAG)
-        & (words::word_at(row, SECOND_TAG_PLACE) == NUMBER_TAG)
+    let k = words::magnitude(row[TARGET_PLACE]);
+    let p = row[FIRST_VALUE_PLACE];
+    let q = row[SECOND_VALUE_PLACE];
+    (row[FIRST_TAG_PLACE] == NUMBER_TAG)
+        & (row[SECOND_TAG_PLACE] == NUMBER_TAG)
         & words::is_small(p)
         & in_var_range(vars, k, p)
         & words::is_small(q)
@@ -949,38 +861,27 @@ fn input_fine(vars: &[i32], row: &[i32]) -> bool
         & (p <= q)
 }
 
-// The operands, by the operation's code n.
-fn operands_fine(n: usize, vars: &[i32], v: usize, row: &[i32]) -> bool
-    ensures { result ≡ operands_fine n vars.now v row.now }
-{
-    match n {
-        ADD_CODE => two_fine(v, row),
-        SUB_CODE => two_fine(v, row),
-        IN_CODE => input_fine(vars, row),
-        _ => one_fine(v, row),
-    }
-}
-
 // An edge's operation: its target and its operands; for `skip` all 0.
-fn operation_fine(vars: &[i32], v: usize, row: &[i32]) -> bool
-    requires { edge_size ≤ length row.now }
+fn operation_fine(vars: &[i32], v: usize, row: &[i32; EDGE_SIZE]) -> bool
     ensures { result ≡ operation_fine vars.now v row.now }
 {
-    let n = words::number_at(row, OPERATION_PLACE);
-    if n == SKIP_CODE {
-        return words::all_zero(&row[TARGET_PLACE..EDGE_SIZE]);
+    let target = words::is_below(v, row[TARGET_PLACE]);
+    match kind_of(words::magnitude(row[OPERATION_PLACE])) {
+        Kind::Skip => words::all_zero(&row[TARGET_PLACE..]),
+        Kind::Compute(_) => target & two_fine(v, row),
+        Kind::In => target & input_fine(vars, row),
+        Kind::Set | Kind::If(_) => target & one_fine(v, row),
     }
-    words::is_below(v, words::word_at(row, TARGET_PLACE)) & operands_fine(n, vars, v, row)
 }
 
 // An edge's words, where there are v variables and l locations.
-fn edge_fine(vars: &[i32], v: usize, l: usize, row: &[i32]) -> bool
-    requires { edge_size ≤ length row.now }
+#[tactic(auto, unfolding(crate::specs::Encoded::edge_fine))]
+fn edge_fine(vars: &[i32], v: usize, l: usize, row: &[i32; EDGE_SIZE]) -> bool
     ensures { result ≡ edge_fine vars.now v l row.now }
 {
-    words::is_below(l, words::word_at(row, FROM_PLACE))
-        & words::is_below(l, words::word_at(row, TO_PLACE))
-        & is_at_most(GE_CODE, words::word_at(row, OPERATION_PLACE))
+    words::is_below(l, row[FROM_PLACE])
+        & words::is_below(l, row[TO_PLACE])
+        & is_at_most(GE_CODE, row[OPERATION_PLACE])
         & operation_fine(vars, v, row)
 }
 
@@ -989,15 +890,9 @@ fn edges_fine(vars: &[i32], v: usize, l: usize, edges: &[i32], n: usize) -> bool
     requires { edge_size * n ≤ length edges.now }
     ensures { result ≡ all (edge_fine vars.now v l) (rows edge_size n edges.now) }
 {
-    let mut ok = true;
-    let mut i = 0;
-    let mut at = 0;
-    while i < n {
-        ok = ok & edge_fine(vars, v, l, &edges[at..]);
-        at += EDGE_SIZE;
-        i += 1;
-    }
-    ok
+    rows_of::<EDGE_SIZE>(edges, n)
+        .iter()
+        .fold(true, |ok, row| ok & edge_fine(vars, v, l, row))
 }
 
 // ---- the check
@@ -1009,28 +904,23 @@ fn rows_fine(chart: &[i32]) -> bool
 {
     let v = variable_count(chart);
     let l = location_count(chart);
-    let e = edge_count(chart);
-    let at = locations_at(chart);
-    let from = edges_at(chart);
     let vars = &chart[COUNTS_SIZE..];
-    let locations = &chart[at..];
+    let locations = &chart[locations_at(chart)..];
+    let edges = &chart[edges_at(chart)..];
     vars_ok(vars, v)
         & locations_fine(locations, l)
-        & names_differ(locations, l)
-        & edges_fine(vars, v, l, &chart[from..], e)
+        & names_differ(rows_of(locations, l))
+        & edges_fine(vars, v, l, edges, edge_count(chart))
 }
 
 // Whether the words begin with the encoding of a chart that reading can produce: else the refusal is 20.
 pub fn well_formed(chart: &[i32]) -> bool
     ensures { result ≡ well_formed chart.now }
 {
-    if counts_fine(chart) {
-        let end = chart_size(chart);
-        if end <= chart.len() {
-            return rows_fine(chart);
-        }
+    if !counts_fine(chart) {
+        return false;
     }
-    false
+    chart_size(chart) <= chart.len() && rows_fine(chart)
 }
 
 // The words of a chart in form, which only `Chart::new` makes: who is given one need not ask again. A clause sees the words.

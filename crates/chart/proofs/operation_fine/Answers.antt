@@ -1,27 +1,27 @@
 -- `chart::operation_fine` meets its contract.
-use Rattle.semantics.proofs.Prelude.{sym, ◌∙◌, sfits_of, eq-eqb, ne_eqb}
-use Rattle.semantics.specs.Encoding.{count}
-use Rattle.semantics.specs.Layout.{operation_place}
-use Rattle.chart.specs.Encoded.{operation_fine}
-use Rattle.words.proofs.Words.{told}
+use Rattle.semantics.proofs.Prelude.{◌∙◌, sym, ap, rules, ⊎_elim}
+use Rattle.chart.specs.declared.Kind.TheVariants.{Skip, Set, Compute, In, If}
+use Rattle.chart.specs.Kinds.{kind_of}
+use Rattle.chart.proofs.KindTests.{tested_by}
 use Rattle.chart.proofs.operation_fine.Goals as goal
 
-pub returns-then-n-eq-SKIP_CODE : goal.returns-then-n-eq-SKIP_CODE
-unfolding operation_fine
-returns-then-n-eq-SKIP_CODE c =
-    let n = c in
-    rw (eq-eqb (count n.args.row.now operation_place) 0 (sym n.number_at-n.ensures.number ∙ c.if-n-eq-SKIP_CODE.true)) c.all_zero.ensures
+pub returns-in-Skip : goal.returns-in-Skip
+returns-in-Skip c =
+    let told = ap kind_of (sym c.magnitude.ensures.number) ∙ sym c.kind_of.ensures in
+    c.all_zero.ensures ∙ tested_by c.args.vars.now c.args.v c.args.row.now (search rules) (search rules) Skip (told ∙ c.in-Skip.is)
 
-pub returns : goal.returns
-unfolding operation_fine
-returns c =
-    let w = c in
-    let n = w in
-    let t = w.word_at in
-    rw (
-      c.operands_fine.ensures,
-      c.is_below.ensures,
-      told (sfits_of {z = t.result} t.type_inv) t.ensures,
-      ← n.number_at-n.ensures.number,
-      ne_eqb n.number_at-n.result 0 w.if-n-eq-SKIP_CODE.false,
-    )
+pub returns-in-Compute : goal.returns-in-Compute
+returns-in-Compute c =
+    let told = ap kind_of (sym c.magnitude.ensures.number) ∙ sym c.kind_of.ensures in
+    rw (c.is_below-target.ensures, c.two_fine.ensures) (tested_by c.args.vars.now c.args.v c.args.row.now (search rules) (search rules) (Compute c.in-Compute.field-0) (told ∙ c.in-Compute.is))
+
+pub returns-in-In : goal.returns-in-In
+returns-in-In c =
+    let told = ap kind_of (sym c.magnitude.ensures.number) ∙ sym c.kind_of.ensures in
+    rw (c.is_below-target.ensures, c.input_fine.ensures) (tested_by c.args.vars.now c.args.v c.args.row.now (search rules) (search rules) In (told ∙ c.in-In.is))
+
+pub returns-in-Set : goal.returns-in-Set
+returns-in-Set c =
+    let told = ap kind_of (sym c.magnitude.ensures.number) ∙ sym c.kind_of.ensures in
+    let by = tested_by c.args.vars.now c.args.v c.args.row.now (search rules) (search rules) in
+    rw (c.is_below-target.ensures, c.one_fine.ensures) (⊎_elim (λ e. by Set (told ∙ e)) (λ e. by (If e.0) (told ∙ e.1)) c.in-Set.is)

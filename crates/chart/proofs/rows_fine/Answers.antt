@@ -1,31 +1,29 @@
 -- `chart::rows_fine` meets its contract.
-use Rattle.semantics.proofs.Prelude.{}
-use Rattle.semantics.specs.Layout.{counts_size}
-use Rattle.chart.specs.Encoded.{rows_fine}
+use Rattle.semantics.proofs.Prelude.{◌∙◌, ap, map, rules}
+use Rattle.semantics.specs.Layout.{counts_size, location_size}
+use Rattle.semantics.specs.Encoding.{loc_in, distinct_names}
 use Rattle.words.proofs.Rows.{tail}
+use Rattle.chart.specs.Encoded.{rows_fine}
+use Rattle.chart.proofs.RowLoops.{rows_read}
+use Rattle.chart.proofs.RowParts.{loc_part}
 use Rattle.chart.proofs.rows_fine.Goals as goal
 
 pub returns : goal.returns
 unfolding rows_fine
 returns c =
-    let d = c in
-    let v = d in
-    let f = v in
-    let a = f in
-    let e = a in
-    let l = e in
-    let ws = l.args.chart.now in
+    let ws = c.args.chart.now in
+    let names = c.names_differ.ensures ∙ ap (λ rs. distinct_names (map loc_in rs)) c.rows_of.ensures.rows ∙ ap distinct_names (rows_read location_size loc_in loc_part c.location_count-l.result _ (search rules)) in
     rw (
       c.edges_fine.ensures,
-      d.names_differ.ensures,
-      d.locations_fine.ensures,
-      v.vars_ok.ensures,
+      names,
+      c.locations_fine.ensures,
+      c.vars_ok.ensures,
       tail ws counts_size,
-      tail ws a.locations_at-at.result,
-      tail ws f.edges_at-from.result,
-      a.locations_at-at.ensures.place,
-      f.edges_at-from.ensures.place,
-      e.edge_count-e.ensures.count,
-      l.location_count-l.ensures.count,
-      l.variable_count-v.ensures.count,
+      tail ws c.locations_at.result,
+      tail ws c.edges_at.result,
+      c.locations_at.ensures.place,
+      c.edges_at.ensures.place,
+      c.edge_count.ensures.count,
+      c.location_count-l.ensures.count,
+      c.variable_count-v.ensures.count,
     )

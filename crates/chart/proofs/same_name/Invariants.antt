@@ -1,5 +1,5 @@
 -- `chart::same_name` meets its contract.
-use Rattle.semantics.proofs.Prelude.{◌≡◌, ◌+◌, ◌-◌, ◌≤◌, drop}
+use Rattle.semantics.proofs.Prelude.{◌≡◌, ◌+◌, ◌-◌, drop}
 use Rattle.semantics.specs.Layout.{name_size, name_place}
 use Rattle.semantics.specs.Text.{same_bytes}
 use Rattle.semantics.specs.Encoding.{name_in, loc_in}
@@ -7,7 +7,4 @@ use Rattle.chart.proofs.same_name.Given as goal
 
 abbrev pub invariant-loop-i : goal.invariant-loop-i
 invariant-loop-i l =
-    (l.i ≤ name_size) × (same_bytes (loc_in l.a).name (loc_in l.b).name ≡ same_bytes (name_in (name_size - l.i) (drop (l.i + name_place) l.a)) (name_in (name_size - l.i) (drop (l.i + name_place) l.b)))
-
-abbrev pub decreases-loop-i : goal.decreases-loop-i
-decreases-loop-i l = name_size - l.i
+    (same_bytes (loc_in l.a).name (loc_in l.b).name ≡ same_bytes (name_in (name_size - l.i) (drop (l.i + name_place) l.a)) (name_in (name_size - l.i) (drop (l.i + name_place) l.b)))

@@ -6,4 +6,4 @@ use Rattle.chart.proofs.store_words.Goals as goal
 
 pub returns : goal.returns
 unfolding stored
-returns c = rw (span, c.copy_words.ensures)
+returns c = rw (span, c.copy_from_slice.ensures.after)
