@@ -4,3 +4,4 @@ pub mod Places
 pub mod Effects
 pub mod Agree
 pub mod RowsSayStates
+pub mod KindSteps

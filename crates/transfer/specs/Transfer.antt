@@ -14,6 +14,9 @@ use Rattle.semantics.specs.Constants.{only, sums, differences, turned, satisfyin
 use Rattle.semantics.specs.Layout.{top_word, variable_size, location_size, edge_size, variable_at, high_place, init_place, to_place, operation_place, target_place, first_tag_place, first_value_place, second_tag_place, second_value_place, skip_code, set_code, add_code, sub_code, in_code, eq_code, ne_code, lt_code, le_code, gt_code, number_tag}
 use Rattle.semantics.specs.Encoding.{word_at, count, kind_word, variable_count}
 use Rattle.state.specs.Rows.{location_in, row_at, value_at, with_location, with_value, word_join}
+use Rattle.semantics.specs.Operations.{the_relation}
+use Rattle.chart.specs.declared.Kind.{Kind}
+use Rattle.chart.specs.declared.Kind.TheVariants.{Skip, Set, Compute, In, If}
 use Rattle.chart.specs.Encoded.{locations_at, edges_at}
 use Rattle.transfer.specs.declared.Move.{Move}
 use Rattle.transfer.specs.declared.Move.TheVariants.{Blocked, Fault, Successor}
@@ -131,6 +134,14 @@ assume_at c r i e = tested_by c r (target_at c i) (first_variable_at c i) (value
 unfoldable pub op_by : ℕ → List ℤ → ℕ → List ℤ → Step (List ℤ)
 op_by n c i e =
     pick (eqb n skip_code) (to e) (pick (eqb n set_code) (assign_at c i e) (pick (eqb n add_code) (compute_at Add c i e) (pick (eqb n sub_code) (compute_at Sub c i e) (pick (eqb n in_code) (input_at c i e) (assume_at c (rel_by n) i e)))))
+
+-- the operation of a kind
+abbrev pub op_of_kind : Kind → List ℤ → ℕ → List ℤ → Step (List ℤ)
+op_of_kind Skip c i e = to e
+op_of_kind Set c i e = assign_at c i e
+op_of_kind (Compute s) c i e = compute_at s c i e
+op_of_kind In c i e = input_at c i e
+op_of_kind (If rel) c i e = assume_at c (the_relation rel) i e
 
 -- ---- the transfer
 

@@ -10,14 +10,14 @@ ghost use Rattle.semantics.specs.Operations.{the_relation};
 ghost use Rattle.semantics.specs.Constants.{turned, at_least, at_most, other_than, satisfying};
 ghost use Rattle.semantics.specs.Encoding.{count};
 ghost use Rattle.state.specs.Rows.{layout_of, width_of};
-ghost use Rattle.transfer.specs.Transfer.{step_of, Narrow, range_at, in_range_at, results_by, operand_by, first_at, second_at, span_at, assign_result, assign_at, compute_at, input_at, rel_by, refine_by, assume_at, op_by, post_at, error_row, initial_row};
+ghost use Rattle.transfer.specs.Transfer.{step_of, Narrow, range_at, in_range_at, results_by, operand_by, span_at, assign_result, assign_at, compute_at, input_at, refine_by, assume_at, op_by, post_at, error_row, initial_row};
 
-use chart::EdgeRow;
+use chart::{EdgeRow, Kind, OperandWords, Which};
 use semantics::{Arithmetic, LocationId, Relation, Span};
 
 // What a transfer answers, as the rules' `Step`: no successor; a fault, which is an overrun (request 2.1); or a successor,
 // which stands in the row lent.
-#[derive(Clone, Copy)]
+#[derive(Clone, Copy, PartialEq, Eq)]
 pub enum Move {
     Blocked,
     Fault,
@@ -32,11 +32,9 @@ fn range_of(chart: &[i32], k: usize) -> Span
     ensures range { result ≡ range_at chart.now k }
     ensures narrow { Narrow result }
 {
-    let lo = chart::variable_low(chart, k);
-    let hi = chart::variable_high(chart, k);
     Span {
-        low: words::wide(lo),
-        high: words::wide(hi),
+        low: i64::from(chart::variable_low(chart, k)),
+        high: i64::from(chart::variable_high(chart, k)),
     }
 }
 
@@ -52,34 +50,14 @@ fn in_range(chart: &[i32], k: usize, z: i64) -> bool
 
 // ---- operands
 
-// The word of an operand by its tag and its own word: a number, or a variable's word.
-fn operand(tag: i32, w: i32, row: &[i32]) -> i32
-    ensures { result ≡ operand_by tag w row.now }
+// The word of an operand: a number, or a variable's word.
+fn operand(operand: OperandWords, row: &[i32]) -> i32
+    ensures { result ≡ operand_by operand.tag operand.value row.now }
 {
-    if tag == chart::NUMBER_TAG {
-        return w;
+    if operand.is_number() {
+        return operand.value;
     }
-    let k = words::magnitude(w);
-    state::value_at(row, k)
-}
-
-// The words of the two operands of an edge.
-fn first_operand(chart: &[i32], edge: EdgeRow, row: &[i32]) -> i32
-    requires { edge.at < index_limit }
-    ensures { result ≡ first_at chart.now edge.at row.now }
-{
-    let tag = chart::first_tag(chart, edge);
-    let w = chart::first_value(chart, edge);
-    operand(tag, w, row)
-}
-
-fn second_operand(chart: &[i32], edge: EdgeRow, row: &[i32]) -> i32
-    requires { edge.at < index_limit }
-    ensures { result ≡ second_at chart.now edge.at row.now }
-{
-    let tag = chart::second_tag(chart, edge);
-    let w = chart::second_value(chart, edge);
-    operand(tag, w, row)
+    state::value_at(row, operand.variable())
 }
 
 // What variable k may be where its word is x: that number, or at top any number of its range. Of an operand that is a
@@ -93,8 +71,8 @@ fn span_of(chart: &[i32], k: usize, x: i32) -> Span
         return range_of(chart, k);
     }
     Span {
-        low: words::wide(x),
-        high: words::wide(x),
+        low: i64::from(x),
+        high: i64::from(x),
     }
 }
 
@@ -142,9 +120,9 @@ fn assign(chart: &[i32], edge: EdgeRow, row: &mut [i32]) -> Move
     ensures { step_of result row.new ≡ assign_at chart.now edge.at row.old }
 {
     let k = chart::edge_target(chart, edge);
-    let a = first_operand(chart, edge, row);
-    let i = chart::first_variable(chart, edge);
-    let span = span_of(chart, i, a);
+    let first = chart::edge_operand(chart, edge, Which::First);
+    let a = operand(first, row);
+    let span = span_of(chart, first.variable(), a);
     assign_result(chart, k, a == words::TOP, span, row)
 }
 
@@ -154,11 +132,15 @@ fn compute(chart: &[i32], edge: EdgeRow, s: Arithmetic, row: &mut [i32]) -> Move
     ensures { step_of result row.new ≡ compute_at s chart.now edge.at row.old }
 {
     let k = chart::edge_target(chart, edge);
-    let a = first_operand(chart, edge, row);
-    let b = second_operand(chart, edge, row);
-    let i = chart::first_variable(chart, edge);
-    let j = chart::second_variable(chart, edge);
-    let span = results(s, span_of(chart, i, a), span_of(chart, j, b));
+    let first = chart::edge_operand(chart, edge, Which::First);
+    let second = chart::edge_operand(chart, edge, Which::Second);
+    let a = operand(first, row);
+    let b = operand(second, row);
+    let span = results(
+        s,
+        span_of(chart, first.variable(), a),
+        span_of(chart, second.variable(), b),
+    );
     assign_result(chart, k, (a == words::TOP) | (b == words::TOP), span, row)
 }
 
@@ -169,28 +151,14 @@ fn input(chart: &[i32], edge: EdgeRow, row: &mut [i32]) -> Move
     ensures { step_of result row.new ≡ input_at chart.now edge.at row.old }
 {
     let k = chart::edge_target(chart, edge);
-    let p = chart::first_value(chart, edge);
-    let q = chart::second_value(chart, edge);
+    let p = chart::edge_operand(chart, edge, Which::First).value;
+    let q = chart::edge_operand(chart, edge, Which::Second).value;
     let x = state::join_word(p, q);
     state::set_value(row, k, x);
     Move::Successor
 }
 
 // ---- `if`
-
-// The relation of a code (docs/memory.md); of any other code it is `ge`.
-fn relation(n: usize) -> Relation
-    ensures { the_relation result ≡ rel_by n }
-{
-    match n {
-        chart::EQ_CODE => Relation::Eq,
-        chart::NE_CODE => Relation::Ne,
-        chart::LT_CODE => Relation::Lt,
-        chart::LE_CODE => Relation::Le,
-        chart::GT_CODE => Relation::Gt,
-        _ => Relation::Ge,
-    }
-}
 
 // Whether the relation holds.
 fn holds(rel: Relation, a: i32, b: i32) -> bool
@@ -224,26 +192,20 @@ fn turned(rel: Relation) -> Relation
 fn at_least(z: i64, range: Span) -> Span
     ensures { result ≡ at_least z range }
 {
-    if range.low < z {
-        return Span {
-            low: z,
-            high: range.high,
-        };
+    Span {
+        low: range.low.max(z),
+        ..range
     }
-    range
 }
 
 // And those up to z.
 fn at_most(z: i64, range: Span) -> Span
     ensures { result ≡ at_most z range }
 {
-    if z < range.high {
-        return Span {
-            low: range.low,
-            high: z,
-        };
+    Span {
+        high: range.high.min(z),
+        ..range
     }
-    range
 }
 
 // From the first to the last number of the range other than z.
@@ -282,7 +244,7 @@ fn refine(chart: &[i32], rel: Relation, k: usize, x: i32, row: &mut [i32]) -> Mo
     requires { k < index_limit }
     ensures { step_of result row.new ≡ refine_by chart.now (the_relation rel) k x row.old }
 {
-    let left = satisfying(rel, words::wide(x), range_of(chart, k));
+    let left = satisfying(rel, i64::from(x), range_of(chart, k));
     if left.high < left.low {
         return Move::Blocked;
     }
@@ -302,7 +264,8 @@ fn assume(chart: &[i32], rel: Relation, edge: EdgeRow, row: &mut [i32]) -> Move
 {
     let k = chart::edge_target(chart, edge);
     let x = state::value_at(row, k);
-    let y = first_operand(chart, edge, row);
+    let other = chart::edge_operand(chart, edge, Which::First);
+    let y = operand(other, row);
     if (x == words::TOP) & (y == words::TOP) {
         return Move::Successor;
     }
@@ -310,8 +273,7 @@ fn assume(chart: &[i32], rel: Relation, edge: EdgeRow, row: &mut [i32]) -> Move
         return refine(chart, rel, k, y, row);
     }
     if y == words::TOP {
-        let j = chart::first_variable(chart, edge);
-        return refine(chart, turned(rel), j, x, row);
+        return refine(chart, turned(rel), other.variable(), x, row);
     }
     if holds(rel, x, y) {
         return Move::Successor;
@@ -321,20 +283,17 @@ fn assume(chart: &[i32], rel: Relation, edge: EdgeRow, row: &mut [i32]) -> Move
 
 // ---- every operation
 
-// The operation of the edge, by its code.
-#[tactic(auto, unfolding(crate::specs::Transfer::op_by))]
+// The operation of the edge.
 fn apply(chart: &[i32], edge: EdgeRow, row: &mut [i32]) -> Move
     requires { edge.at < index_limit }
     ensures { step_of result row.new ≡ op_by (count chart.now (edge.at + operation_place)) chart.now edge.at row.old }
 {
-    let n = chart::edge_operation(chart, edge);
-    match n {
-        chart::SKIP_CODE => Move::Successor,
-        chart::SET_CODE => assign(chart, edge, row),
-        chart::ADD_CODE => compute(chart, edge, Arithmetic::Add, row),
-        chart::SUB_CODE => compute(chart, edge, Arithmetic::Sub, row),
-        chart::IN_CODE => input(chart, edge, row),
-        _ => assume(chart, relation(n), edge, row),
+    match chart::edge_kind(chart, edge) {
+        Kind::Skip => Move::Successor,
+        Kind::Set => assign(chart, edge, row),
+        Kind::Compute(s) => compute(chart, edge, s, row),
+        Kind::In => input(chart, edge, row),
+        Kind::If(rel) => assume(chart, rel, edge, row),
     }
 }
 
@@ -348,7 +307,7 @@ pub fn successor(chart: &[i32], edge: EdgeRow, row: &[i32], out: &mut [i32]) -> 
 {
     let from = chart::edge_from(chart, edge);
     if from == state::location_of(row) {
-        words::copy_words(out, row);
+        out.copy_from_slice(row);
         let to = chart::edge_to(chart, edge);
         state::set_location(out, to);
         return apply(chart, edge, out);
@@ -372,10 +331,7 @@ pub fn initial(chart: &[i32], out: &mut [i32])
 {
     let n = chart::variable_count(chart);
     state::set_location(out, LocationId(0));
-    let mut k = 0;
-    while k < n {
-        let x = chart::variable_init(chart, k);
-        state::set_value(out, k, x);
-        k += 1;
+    for k in 0..n {
+        state::set_value(out, k, chart::variable_init(chart, k));
     }
 }

@@ -1,12 +1,9 @@
 -- `transfer::initial` meets its contract.
-use Rattle.semantics.proofs.Prelude.{◌≡◌, ◌++◌, ◌+◌, ◌-◌, ◌≤◌, length, take}
+use Rattle.semantics.proofs.Prelude.{◌≡◌, ◌++◌, ◌+◌, ◌-◌, length, take}
 use Rattle.semantics.specs.Layout.{variable_at, init_place}
 use Rattle.transfer.specs.Transfer.{initial_row, initial_words}
 use Rattle.transfer.proofs.initial.Given as goal
 
 abbrev pub invariant-loop-k : goal.invariant-loop-k
 invariant-loop-k l =
-    (l.k ≤ l.n) × (length l.out ≡ l.n + 1) × (initial_row l.chart ≡ take (l.k + 1) l.out ++ initial_words l.chart (variable_at l.k + init_place) (l.n + 1 - (l.k + 1)))
-
-abbrev pub decreases-loop-k : goal.decreases-loop-k
-decreases-loop-k l = l.n - l.k
+    (length l.out ≡ l.n + 1) × (initial_row l.chart ≡ take (l.k + 1) l.out ++ initial_words l.chart (variable_at l.k + init_place) (l.n + 1 - (l.k + 1)))
