@@ -131,8 +131,7 @@ fn store_words(rows: &mut [i32], at: usize, row: &[i32])
     requires { at + length row.now ≤ length rows.old }
     ensures { rows.new ≡ stored at row.now rows.old }
 {
-    let end = at + row.len();
-    rows[at..end].copy_from_slice(row);
+    rows[at..at + row.len()].copy_from_slice(row);
 }
 
 // The first n rows, of N words each.
@@ -151,8 +150,7 @@ pub fn put_chart(chart: &mut [i32], vars: usize, locations: usize, edges: usize,
     requires { (vars ≤ most_variables) × (locations ≤ most_locations) × (edges ≤ most_edges) × (counts_size + length rows.now ≤ length chart.old) }
     ensures { chart.new ≡ stored 0 (pos vars ∷ pos locations ∷ pos edges ∷ rows.now) chart.old }
 {
-    let counts = [vars as i32, locations as i32, edges as i32];
-    store_words(chart, 0, &counts);
+    store_words(chart, 0, &[vars as i32, locations as i32, edges as i32]);
     store_words(chart, COUNTS_SIZE, rows);
 }
 
@@ -228,8 +226,7 @@ pub fn put_variable(rows: &mut [i32], at: usize, lo: i32, hi: i32, init: i32)
     requires { at + variable_size ≤ length rows.old }
     ensures { rows.new ≡ stored at (var_words (the_variable lo hi init)) rows.old }
 {
-    let row = [lo, hi, init];
-    store_words(rows, at, &row);
+    store_words(rows, at, &[lo, hi, init]);
 }
 
 // The accessors are total on the words. They ask for a bound on a number or a place only to keep a sum from wrapping.
@@ -239,24 +236,21 @@ pub fn variable_low(chart: &[i32], k: usize) -> i32
     requires { k < index_limit }
     ensures { result ≡ word_at chart.now (variable_at k) }
 {
-    let at = COUNTS_SIZE + VARIABLE_SIZE * k;
-    words::word_at(chart, at)
+    words::word_at(chart, COUNTS_SIZE + VARIABLE_SIZE * k)
 }
 
 pub fn variable_high(chart: &[i32], k: usize) -> i32
     requires { k < index_limit }
     ensures { result ≡ word_at chart.now (variable_at k + high_place) }
 {
-    let at = COUNTS_SIZE + VARIABLE_SIZE * k;
-    words::word_at(chart, at + HIGH_PLACE)
+    words::word_at(chart, COUNTS_SIZE + VARIABLE_SIZE * k + HIGH_PLACE)
 }
 
 pub fn variable_init(chart: &[i32], k: usize) -> i32
     requires { k < index_limit }
     ensures { result ≡ word_at chart.now (variable_at k + init_place) }
 {
-    let at = COUNTS_SIZE + VARIABLE_SIZE * k;
-    words::word_at(chart, at + INIT_PLACE)
+    words::word_at(chart, COUNTS_SIZE + VARIABLE_SIZE * k + INIT_PLACE)
 }
 
 // Whether a number lies in the range of a variable.
@@ -318,9 +312,7 @@ pub fn is_error_location(chart: &[i32], l: LocationId) -> bool
     requires { l.0 < index_limit }
     ensures { result ≡ eq_z (word_at chart.now (locations_at chart.now + location_size * l.0)) (kind_word true) }
 {
-    let k = l.0;
-    let kind = words::word_at(chart, locations_at(chart) + LOCATION_SIZE * k);
-    kind == ERROR_KIND
+    words::word_at(chart, locations_at(chart) + LOCATION_SIZE * l.0) == ERROR_KIND
 }
 
 // The length of a name, whose words begin those given: it ends before a 0, and after 16 bytes at the latest.
@@ -355,6 +347,8 @@ pub fn byte_of(w: i32) -> u8
     u8::try_from(words::magnitude(w)).unwrap_or(0)
 }
 
+// A letter, a digit or `-`. By `|` alone, so that a name is looked at without a branch; `is_ascii_alphanumeric` asks for a
+// byte, which a word need not be.
 #[tactic(auto, unfolding(crate::specs::Encoded::name_word))]
 fn is_name_word(w: i32) -> bool
     ensures { result ≡ name_word w }
@@ -388,7 +382,8 @@ fn locations_fine(locations: &[i32], n: usize) -> bool
         .fold(true, |ok, row| ok & location_fine(row))
 }
 
-// Whether two locations have one name.
+// Whether two locations have one name. By place, as in `name_number`, and not by an iterator: what is past the end of a
+// row is read as 0.
 fn same_name(a: &[i32], b: &[i32]) -> bool
     ensures { result ≡ same_bytes (loc_in a.now).name (loc_in b.now).name }
 {

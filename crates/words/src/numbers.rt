@@ -8,7 +8,8 @@ pub fn number_in(s: &[usize], i: usize) -> usize
     s.get(i).copied().unwrap_or(0)
 }
 
-// A number is put at a place; past the end nothing is.
+// A number is put at a place; past the end nothing is. By a test and not by `get_mut`, which was tried: nothing told that
+// the numbers are as they were where it answers `None`.
 pub fn put(s: &mut [usize], i: usize, x: usize)
     ensures { s.new ≡ set s.old i x }
 {
