@@ -1,5 +1,7 @@
 // The algorithm over lent words: a successor's arrival, the edges of an iteration in file order, the iteration, the run
-// of iterations and the start. Record and counts go by value.
+// of iterations and the start. Record and counts go by value. Table, list and links stay arguments of their own: the
+// borrow checker covers no call that lends two fields of a struct behind a `&mut`, so that with such a struct (tried in
+// merge_by and arrive) each function would first take the three out, and promise that they stay the same three.
 #![tactic(auto)]
 
 ghost use Rattle.std.specs.Prelude.{◌≡◌, ℕ, ◌+◌, ◌-◌, ◌*◌, ◌<◌, ◌≤◌, min, ◌++◌, length};

@@ -11,7 +11,7 @@ returns-then-has_verdict c =
     let o = c.args.outline.now in
     let b = c.loop in
     let given = sym c.has_verdict.ensures ∙ c.if-has_verdict.true in
-    record { load = sym (b.invariant.4 ∙ run_closed (domain_of o.chart.now) (edges_from 0 o.edges) (c.args.most - b.counter) (load_of o.layout b.at b.table b.list) given); form = b.invariant.0 }
+    record { load = sym (b.invariant.2 ∙ run_closed (domain_of o.chart.now) (edges_from 0 o.edges) (c.args.most - b.counter) (load_of o.layout b.at b.table b.list) given); form = b.invariant.0 }
 
 pub loop-preserved : goal.loop-preserved
 loop-preserved c =
@@ -24,16 +24,13 @@ loop-preserved c =
     let lt = c.loop-test.true in
     let m : rest ≡ suc (c.args.most - (b.counter + 1)) = omega (arith, lt) in (
       i.ensures.loaded.form,
-      i.auto.table ∙ b.invariant.1,
-      i.auto.list ∙ b.invariant.2,
-      omega (arith, i.ensures.iterations, b.invariant.3, lt),
-      b.invariant.4 ∙ run_open (domain_of o.chart.now) (edges_from 0 o.edges) rest (c.args.most - (b.counter + 1)) loaded none m ∙ rw i.ensures.loaded.load,
+      omega (arith, i.ensures.iterations, b.invariant.1, lt),
+      b.invariant.2 ∙ run_open (domain_of o.chart.now) (edges_from 0 o.edges) rest (c.args.most - (b.counter + 1)) loaded none m ∙ rw i.ensures.loaded.load,
       i.ensures.linked,
-      i.auto.links ∙ b.invariant.6,
     )
 
 pub returns : goal.returns
 returns c =
     let o = c.args.outline.now in
     let b = c.loop in
-    record { load = sym (b.invariant.4 ∙ run_none (domain_of o.chart.now) (edges_from 0 o.edges) (c.args.most - b.counter) (load_of o.layout b.at b.table b.list) (omega (arith, c.loop-test.false))); form = b.invariant.0 }
+    record { load = sym (b.invariant.2 ∙ run_none (domain_of o.chart.now) (edges_from 0 o.edges) (c.args.most - b.counter) (load_of o.layout b.at b.table b.list) (omega (arith, c.loop-test.false))); form = b.invariant.0 }

@@ -1,5 +1,5 @@
 -- `analysis::play` meets its contract.
-use Rattle.semantics.proofs.Prelude.{◌≡◌, ◌+◌, ◌-◌, ◌≤◌, length}
+use Rattle.semantics.proofs.Prelude.{◌≡◌, ◌+◌, ◌-◌, ◌≤◌}
 use Rattle.semantics.specs.Layout.{most_iterations}
 use Rattle.semantics.specs.Algorithm.{run}
 use Rattle.reached.specs.Links.{chains_of, Linked}
@@ -12,10 +12,7 @@ abbrev pub invariant-loop : goal.invariant-loop
 invariant-loop l =
     let o = l.outline in
     Resumable o.layout o.edges l.at l.table l.list
-    × (length l.table ≡ length l.initial.table)
-    × (length l.list ≡ length l.initial.list)
     × (l.at.iterations + (l.most - l.counter) ≤ most_iterations)
     × (run (domain_of o.chart.now) (edges_from 0 o.edges) l.most (load_of o.layout l.initial.at l.initial.table l.initial.list)
     ≡ run (domain_of o.chart.now) (edges_from 0 o.edges) (l.most - l.counter) (load_of o.layout l.at l.table l.list))
     × Linked (chains_of o.layout l.at.used l.table) l.links
-    × (length l.links ≡ length l.initial.links)

@@ -1,5 +1,5 @@
 -- `analysis::visit_all` meets its contract.
-use Rattle.semantics.proofs.Prelude.{◌≡◌, refl, sym, ap, ◌∙◌, List, [], ◌++◌, ℕ, suc, ◌+◌, ◌-◌, ◌≤◌, ◌<◌, max, arith, leb-true, ℤ, length, get_or, length_front}
+use Rattle.semantics.proofs.Prelude.{◌≡◌, sym, ap, ◌∙◌, List, [], ◌++◌, ℕ, suc, ◌+◌, ◌-◌, ◌≤◌, ◌<◌, max, arith, leb-true, ℤ, length, get_or}
 use Rattle.semantics.specs.declared.Settings.{Settings}
 use Rattle.semantics.specs.Algorithm.{Origin, Out, then, taking, brought, visit, visit_all, takers}
 use Rattle.state.specs.declared.Layout.{Layout}
@@ -57,16 +57,12 @@ loop-slot-init c =
     let n : o.edges ≡ o.edges - 0 = omega arith in
     let m : id ≡ max 1 (get_or s.outline.now.heads.now (location_in e) 0) = c.first-id.ensures ∙ ap (λ (k : ℕ). max 1 (get_or s.outline.now.heads.now k 0)) c.location_of-location.ensures.location in (
       c.requires.0,
-      refl,
-      refl,
-      refl,
       omega (arith, m),
       ap (λ (k : ℕ). visit_all (domain_of s.outline.now.chart.now) s.a.settings (length l) e (edges_from 0 k) en wa) n
           ∙ passed_over s.outline.now.chart.now s.a.settings (length l) e o.edges en wa 0 (id - 1) (omega arith) (λ j lo hi q. c.args.outline.now.outlined.chained.head (location_in e) j lo (omega (arith, m)) q),
       ap (λ (ns : List ℕ). origins_of o.layout s.a.used s.table.now ++ brought s.slot.0 ns)
           (ap (λ (k : ℕ). takers (domain_of s.outline.now.chart.now) s.a.settings (length l) e (edges_from 0 k) en wa) n
           ∙ passed_takers s.outline.now.chart.now s.a.settings (length l) e o.edges en wa 0 (id - 1) (omega arith) (λ j lo hi q. c.args.outline.now.outlined.chained.head (location_in e) j lo (omega (arith, m)) q)),
-      refl,
     )
 
 pub returns-then-has_ended-clause-progressed : goal.returns-then-has_ended-clause-progressed
@@ -81,11 +77,11 @@ returns-then-has_ended-clause-progressed c =
     let wa = waits b.at.waiting b.list in
     let out = out_of y v.new.table v.new.list v.result in
     let inside : b.id.0 ≤ edges = leb-true _ _ (sym c.is_within.ensures ∙ c.loop-slot-test.true) in
-    let number : edge.result.id.0 ≡ suc g = omega (arith, b.invariant.4, edge.ensures.id) in
+    let number : edge.result.id.0 ≡ suc g = omega (arith, b.invariant.1, edge.ensures.id) in
     let at : edge.result.at ≡ edge_at s.outline.now.chart.now g = omega (arith, c.args.outline.now.outlined.first.at, edge.ensures.place) in
-    let is = out_is s.outline.now.chart.now s.copy.now g b.at.settings (rows_of y b.at.used b.table) wa out _ _ _ _ number at b.invariant.2 v.ensures.progressed.out in
+    let is = out_is s.outline.now.chart.now s.copy.now g b.at.settings (rows_of y b.at.used b.table) wa out _ _ _ _ number at b.auto.list v.ensures.progressed.out in
     let over = sym c.has_ended.ensures ∙ c.if-has_ended.true in
-    let whole = turn s.outline.now.chart.now b.at.settings (length s.list.now) s.copy.now edges g (omega (arith, b.invariant.4, inside)) y b.at.used b.table wa out is _ b.invariant.5 in
+    let whole = turn s.outline.now.chart.now b.at.settings (length s.list.now) s.copy.now edges g (omega (arith, b.invariant.1, inside)) y b.at.used b.table wa out is _ b.invariant.2 in
     record { out = sym (whole ∙ then_ended _ _ _ v.result.exit over); kept = v.ensures.progressed.kept; linked = v.ensures.progressed.linked }
 
 pub returns-then-has_ended-clause-origins : goal.returns-then-has_ended-clause-origins
@@ -100,15 +96,15 @@ returns-then-has_ended-clause-origins c =
     let wa = waits b.at.waiting b.list in
     let out = out_of y v.new.table v.new.list v.result in
     let inside : b.id.0 ≤ edges = leb-true _ _ (sym c.is_within.ensures ∙ c.loop-slot-test.true) in
-    let number : edge.result.id.0 ≡ suc g = omega (arith, b.invariant.4, edge.ensures.id) in
+    let number : edge.result.id.0 ≡ suc g = omega (arith, b.invariant.1, edge.ensures.id) in
     let at : edge.result.at ≡ edge_at s.outline.now.chart.now g = omega (arith, c.args.outline.now.outlined.first.at, edge.ensures.place) in
-    let is = out_is s.outline.now.chart.now s.copy.now g b.at.settings (rows_of y b.at.used b.table) wa out _ _ _ _ number at b.invariant.2 v.ensures.progressed.out in
+    let is = out_is s.outline.now.chart.now s.copy.now g b.at.settings (rows_of y b.at.used b.table) wa out _ _ _ _ number at b.auto.list v.ensures.progressed.out in
     let over = sym c.has_ended.ensures ∙ c.if-has_ended.true in
     let before-it = origins_of y b.at.used b.table in
     let after-it = origins_of y v.result.used v.new.table in
     let noted : after-it ≡ before-it ++ brought s.slot.0 (taking (suc g) b.at.used out (λ en wa. [])) =
     v.ensures.origins ∙ (λ i. before-it ++ brought s.slot.0 (taking (number i) b.at.used (sym v.ensures.progressed.out i) (λ en wa. []))) in
-    let whole = origins-turn s.outline.now.chart.now b.at.settings (length s.list.now) s.copy.now edges g (omega (arith, b.invariant.4, inside)) y b.at.used b.table wa out is before-it _ s.slot.0 b.invariant.6 in
+    let whole = origins-turn s.outline.now.chart.now b.at.settings (length s.list.now) s.copy.now edges g (omega (arith, b.invariant.1, inside)) y b.at.used b.table wa out is before-it _ s.slot.0 b.invariant.3 in
     sym (whole ∙ origins_ended _ _ before-it after-it _ _ _ (rest-takers s.outline.now.chart.now b.at.settings (length s.list.now) s.copy.now edges g) v.result.exit over noted)
 
 pub loop-slot-preserved : goal.loop-slot-preserved
@@ -124,32 +120,28 @@ loop-slot-preserved c =
     let wa = waits b.at.waiting b.list in
     let out = out_of y v.new.table v.new.list v.result in
     let inside : b.id.0 ≤ edges = leb-true _ _ (sym c.is_within.ensures ∙ c.loop-slot-test.true) in
-    let number : edge.result.id.0 ≡ suc g = omega (arith, b.invariant.4, edge.ensures.id) in
+    let number : edge.result.id.0 ≡ suc g = omega (arith, b.invariant.1, edge.ensures.id) in
     let at : edge.result.at ≡ edge_at s.outline.now.chart.now g = omega (arith, c.args.outline.now.outlined.first.at, edge.ensures.place) in
-    let is = out_is s.outline.now.chart.now s.copy.now g b.at.settings (rows_of y b.at.used b.table) wa out _ _ _ _ number at b.invariant.2 v.ensures.progressed.out in
+    let is = out_is s.outline.now.chart.now s.copy.now g b.at.settings (rows_of y b.at.used b.table) wa out _ _ _ _ number at b.auto.list v.ensures.progressed.out in
     let going = sym c.has_ended.ensures ∙ c.if-has_ended.false in
     let before-it = origins_of y b.at.used b.table in
     let after-it = origins_of y v.result.used v.new.table in
     let noted : after-it ≡ before-it ++ brought s.slot.0 (taking (suc g) b.at.used out (λ en wa. [])) =
     v.ensures.origins ∙ (λ i. before-it ++ brought s.slot.0 (taking (number i) b.at.used (sym v.ensures.progressed.out i) (λ en wa. []))) in
-    let inside-g : g < edges = omega (arith, b.invariant.4, inside) in
+    let inside-g : g < edges = omega (arith, b.invariant.1, inside) in
     let k : edge.result.id.0 ≡ b.id.0 = edge.ensures.id in
     let en' = rows_of y v.result.used v.new.table in
     let wa' = waits v.result.waiting v.new.list in
     let next = c.next-id.result.0 in
-    let later : g + 1 ≤ next - 1 = omega (arith, c.next-id.ensures.later, k, b.invariant.4) in
-    let passed = λ (j : ℕ) (lo : g + 1 ≤ j) (hi : j < next - 1) (q : from_at s.outline.now.chart.now j ≡ location_in s.copy.now). c.next-id.ensures.passed j (omega (arith, k, b.invariant.4)) hi (q ∙ sym c.location_of-location.ensures.location) in
+    let later : g + 1 ≤ next - 1 = omega (arith, c.next-id.ensures.later, k, b.invariant.1) in
+    let passed = λ (j : ℕ) (lo : g + 1 ≤ j) (hi : j < next - 1) (q : from_at s.outline.now.chart.now j ≡ location_in s.copy.now). c.next-id.ensures.passed j (omega (arith, k, b.invariant.1)) hi (q ∙ sym c.location_of-location.ensures.location) in
     rw c.with_counts-at.ensures (
       record { kept = v.ensures.progressed.kept; allowed = b.invariant.0.allowed; row = b.invariant.0.row; linked = v.ensures.progressed.linked },
-      v.auto.table ∙ b.invariant.1,
-      v.auto.list ∙ b.invariant.2,
-      length_front b.next v.new.next (length s.copy.now) v.auto.next ∙ b.invariant.3,
       omega (arith, c.next-id.ensures.later, k),
-      turn s.outline.now.chart.now b.at.settings r s.copy.now edges g inside-g y b.at.used b.table wa out is _ b.invariant.5
+      turn s.outline.now.chart.now b.at.settings r s.copy.now edges g inside-g y b.at.used b.table wa out is _ b.invariant.2
           ∙ then_on _ _ _ v.result.exit going
           ∙ passed_over s.outline.now.chart.now b.at.settings r s.copy.now edges en' wa' (g + 1) (next - 1) later passed,
-      origins-turn s.outline.now.chart.now b.at.settings r s.copy.now edges g inside-g y b.at.used b.table wa out is before-it _ s.slot.0 b.invariant.6
+      origins-turn s.outline.now.chart.now b.at.settings r s.copy.now edges g inside-g y b.at.used b.table wa out is before-it _ s.slot.0 b.invariant.3
           ∙ origins_on _ _ before-it after-it _ _ _ (rest-takers s.outline.now.chart.now b.at.settings r s.copy.now edges g) v.result.exit going noted
           ∙ ap (λ (ns : List ℕ). after-it ++ brought s.slot.0 ns) (passed_takers s.outline.now.chart.now b.at.settings r s.copy.now edges en' wa' (g + 1) (next - 1) later passed),
-      v.auto.links ∙ b.invariant.7,
     )
