@@ -47,7 +47,7 @@ fn judged(
 {
     let from = text::location_field(draft.tally.locs, from)?;
     let to = text::location_field(draft.tally.locs, to)?;
-    let op = operation::read(action, draft.tally.vars, &draft.rows, line, word)?;
+    let op = operation::read(action, draft, line, word)?;
     Ok(Edge { from, to, op })
 }
 

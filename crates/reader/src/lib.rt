@@ -34,7 +34,7 @@ fn no_line(refusal: Refusal) -> RefusedAt
     RefusedAt { refusal, line: 0 }
 }
 
-// One line, by its kind.
+// One line, by its kind. By tests: of a match on byte strings the check learns no more than their lengths.
 fn judge_line(draft: &mut Draft, line: &Line) -> Result<(), Refusal>
     ensures { (s : SoFar) → Holds draft.old s → LineJudged result (judge s (fields line.now.bytes.now)) draft.new }
 {

@@ -1,12 +1,11 @@
-// The operation of an E line: what follows the two locations. `rows` are the chart's, which begin with the variables'
-// ranges.
-ghost use Rattle.std.specs.Prelude.{◌≡◌, ◌≤◌};
-ghost use Rattle.semantics.specs.Layout.{most_variables};
+// The operation of an E line: what follows the two locations. A draft's rows begin with the variables' ranges.
+ghost use Rattle.std.specs.Prelude.{◌≡◌};
 ghost use Rattle.semantics.specs.Operations.{the_operation};
 ghost use Rattle.semantics.specs.Text.{fields};
 ghost use Rattle.text.specs.Fields.{field_at, res_by};
 ghost use Rattle.reader.specs.Lines.{input_fields, op_fields, op_read};
 
+use super::draft::Draft;
 use semantics::{Operation, Refusal};
 use text::line::Line;
 use text::{Action, Field};
@@ -31,14 +30,13 @@ fn input(rows: &[i32], v: u8, p: &[u8], q: &[u8]) -> Result<Operation, Refusal>
 fn after_target(
     action: Action,
     v: u8,
-    vars: usize,
-    rows: &[i32],
+    draft: &Draft,
     f: &[u8],
     g: &[u8],
 ) -> Result<Operation, Refusal>
-    requires { vars ≤ most_variables }
-    ensures { res_by the_operation result ≡ op_fields rows.now vars action v f.now g.now }
+    ensures { res_by the_operation result ≡ op_fields draft.now.rows draft.now.tally.vars action v f.now g.now }
 {
+    let vars = draft.tally.vars;
     match action {
         Action::Set => {
             let a = text::operand_field(vars, f)?;
@@ -49,7 +47,7 @@ fn after_target(
             let b = text::operand_field(vars, g)?;
             Ok(Operation::Compute(s, v, a, b))
         }
-        Action::In => input(rows, v, f, g),
+        Action::In => input(&draft.rows, v, f, g),
         Action::If => {
             let relation = text::rel_field(f)?;
             let a = text::operand_field(vars, g)?;
@@ -61,26 +59,24 @@ fn after_target(
 // The fields after the operation's word.
 pub fn read(
     action: Option<Action>,
-    vars: usize,
-    rows: &[i32],
+    draft: &Draft,
     line: &Line,
     word: Field,
 ) -> Result<Operation, Refusal>
-    requires { (vars ≤ most_variables) × (word ≡ field_at line.now.bytes.now 3) }
-    ensures { res_by the_operation result ≡ op_read rows.now vars action (fields line.now.bytes.now) }
+    requires { word ≡ field_at line.now.bytes.now 3 }
+    ensures { res_by the_operation result ≡ op_read draft.now.rows draft.now.tally.vars action (fields line.now.bytes.now) }
 {
     let Some(action) = action else {
         return Ok(Operation::Skip);
     };
     let target = text::field_after(line.bytes, word);
-    let v = text::target_field(vars, text::field_bytes(line.bytes, target))?;
+    let v = text::target_field(draft.tally.vars, text::field_bytes(line.bytes, target))?;
     let first = text::field_after(line.bytes, target);
     let second = text::field_after(line.bytes, first);
     after_target(
         action,
         v,
-        vars,
-        rows,
+        draft,
         text::field_bytes(line.bytes, first),
         text::field_bytes(line.bytes, second),
     )

@@ -15,6 +15,7 @@ use semantics::{Arithmetic, LocationId, Operand, Refusal, Relation};
 pub mod line;
 pub mod lines;
 
+// `==` under the clause that callers cite: the definitions' own test.
 pub fn same_bytes(a: &[u8], b: &[u8]) -> bool
     ensures { result ≡ same_bytes a.now b.now }
 {
@@ -225,7 +226,7 @@ pub fn init_field(lo: i32, hi: i32, f: &[u8]) -> Result<i32, Refusal>
     Ok(z)
 }
 
-// What the word that the field is stands for.
+// What the word that the field is stands for. By a table: of a match on byte strings the check learns their lengths alone.
 fn word<T: Copy>(words: &[(&[u8], T)], f: &[u8]) -> Result<T, Refusal>
     ensures { result ≡ word_of words.now f.now }
 {
