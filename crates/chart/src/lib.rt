@@ -87,33 +87,33 @@ const ORDINARY_KIND: i32 = 0;
 
 const ERROR_KIND: i32 = 1;
 
-// The codes of operations; an `if` has one for each relation.
-pub const SKIP_CODE: usize = 0;
+// The codes of operations; an `if` has one for each relation. Above this crate they are a `Kind`.
+const SKIP_CODE: usize = 0;
 
-pub const SET_CODE: usize = 1;
+const SET_CODE: usize = 1;
 
-pub const ADD_CODE: usize = 2;
+const ADD_CODE: usize = 2;
 
-pub const SUB_CODE: usize = 3;
+const SUB_CODE: usize = 3;
 
-pub const IN_CODE: usize = 4;
+const IN_CODE: usize = 4;
 
-pub const EQ_CODE: usize = 5;
+const EQ_CODE: usize = 5;
 
-pub const NE_CODE: usize = 6;
+const NE_CODE: usize = 6;
 
-pub const LT_CODE: usize = 7;
+const LT_CODE: usize = 7;
 
-pub const LE_CODE: usize = 8;
+const LE_CODE: usize = 8;
 
-pub const GT_CODE: usize = 9;
+const GT_CODE: usize = 9;
 
-pub const GE_CODE: usize = 10;
+const GE_CODE: usize = 10;
 
 // The tags of an operand.
-pub const NUMBER_TAG: i32 = 0;
+const NUMBER_TAG: i32 = 0;
 
-pub const VARIABLE_TAG: i32 = 1;
+const VARIABLE_TAG: i32 = 1;
 
 // ---- one word
 
@@ -704,7 +704,7 @@ pub fn edge_of(first: EdgeRow, id: EdgeId) -> EdgeRow
     }
 }
 
-// The locations that it leaves and goes to, its operation's code, and the variable that it sets or tests.
+// The locations that it leaves and goes to, what its operation does, the variable that it sets or tests, and its operands.
 pub fn edge_from(chart: &[i32], edge: EdgeRow) -> LocationId
     ensures location { result.0 ≡ count chart.now edge.at }
     ensures small { result.0 < index_limit }
@@ -718,14 +718,6 @@ pub fn edge_to(chart: &[i32], edge: EdgeRow) -> LocationId
     ensures small { result.0 < index_limit }
 {
     LocationId(words::number_at(chart, edge.at + TO_PLACE))
-}
-
-pub fn edge_operation(chart: &[i32], edge: EdgeRow) -> usize
-    requires { edge.at < index_limit }
-    ensures code { result ≡ count chart.now (edge.at + operation_place) }
-    ensures small { result < index_limit }
-{
-    words::number_at(chart, edge.at + OPERATION_PLACE)
 }
 
 pub fn edge_kind(chart: &[i32], edge: EdgeRow) -> Kind
@@ -752,51 +744,6 @@ pub fn edge_operand(chart: &[i32], edge: EdgeRow, which: Which) -> OperandWords
         tag: words::word_at(chart, edge.at + which.tag_place()),
         value: words::word_at(chart, edge.at + which.value_place()),
     }
-}
-
-// Its two operands: what each is, and the word that it holds; the first as the number of a variable.
-pub fn first_tag(chart: &[i32], edge: EdgeRow) -> i32
-    requires { edge.at < index_limit }
-    ensures { result ≡ word_at chart.now (edge.at + first_tag_place) }
-{
-    words::word_at(chart, edge.at + FIRST_TAG_PLACE)
-}
-
-pub fn first_value(chart: &[i32], edge: EdgeRow) -> i32
-    requires { edge.at < index_limit }
-    ensures { result ≡ word_at chart.now (edge.at + first_value_place) }
-{
-    words::word_at(chart, edge.at + FIRST_VALUE_PLACE)
-}
-
-pub fn first_variable(chart: &[i32], edge: EdgeRow) -> usize
-    requires { edge.at < index_limit }
-    ensures number { result ≡ count chart.now (edge.at + first_value_place) }
-    ensures small { result < index_limit }
-{
-    words::number_at(chart, edge.at + FIRST_VALUE_PLACE)
-}
-
-pub fn second_tag(chart: &[i32], edge: EdgeRow) -> i32
-    requires { edge.at < index_limit }
-    ensures { result ≡ word_at chart.now (edge.at + second_tag_place) }
-{
-    words::word_at(chart, edge.at + SECOND_TAG_PLACE)
-}
-
-pub fn second_value(chart: &[i32], edge: EdgeRow) -> i32
-    requires { edge.at < index_limit }
-    ensures { result ≡ word_at chart.now (edge.at + second_value_place) }
-{
-    words::word_at(chart, edge.at + SECOND_VALUE_PLACE)
-}
-
-pub fn second_variable(chart: &[i32], edge: EdgeRow) -> usize
-    requires { edge.at < index_limit }
-    ensures number { result ≡ count chart.now (edge.at + second_value_place) }
-    ensures small { result < index_limit }
-{
-    words::number_at(chart, edge.at + SECOND_VALUE_PLACE)
 }
 
 // One of the two operands in a row.
