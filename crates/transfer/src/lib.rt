@@ -160,7 +160,7 @@ fn input(chart: &[i32], edge: EdgeRow, row: &mut [i32]) -> Move
 
 // ---- `if`
 
-// Whether the relation holds.
+// Whether the relation holds. Each relation is one comparison, so a table or an `Ordering` between would be no plainer.
 fn holds(rel: Relation, a: i32, b: i32) -> bool
     ensures { result ≡ holds (the_relation rel) a b }
 {

@@ -2,6 +2,8 @@
 // slots that wait. A function that puts a slot on the list or takes a named one off returns the count after it; the
 // take of the next slot returns that slot, and leaves one fewer.
 // The bounds only keep a slot's number in a word: a list of fewer than `index_limit` words names none that does not fit.
+// List and count stay two parameters: a struct that held the lent list would need a clause on its reference's ghost name in
+// each function that is lent one, here, in `reached`, `progress` and `analysis`, and would read no plainer.
 #![tactic(auto)]
 
 ghost use Rattle.std.specs.Prelude.{◌≡◌, ◌∷◌, [], ◌++◌, map, ◌+◌, ◌-◌, ◌<◌, ◌≤◌, eqb, pos, nat_abs, length, take, drop, replicate};
