@@ -89,9 +89,6 @@ put_then {at} {r} {r'} {bs} {cs} {out} {out'} {out''} p q =
         written_past r cs (written at bs out) (omega (arith, p.place, p.small, l))
         ∙ sym (written_past (at + length bs) cs (written at bs out) (omega (arith, p.small, l)))
 
-pub put_same : {at r : ℕ} {bs cs out out' : List ℕ} → bs ≡ cs → Put at bs out out' r → Put at cs out out' r
-put_same {at} {r} {out = out} {out' = out'} e p = subst (λ (l : List ℕ). Put at l out out' r) e p
-
 -- where it fits: the bytes before, what was put, the bytes after
 pub put_fits : {at r : ℕ} {bs out out' : List ℕ} → Put at bs out out' r → at + length bs ≤ length out
     → (out' ≡ take at out ++ (bs ++ drop (at + length bs) out)) × (r ≡ at + length bs)
