@@ -217,7 +217,8 @@ fn deepen(guide: &Guide, k: usize, start: &mut [i32], path: &mut [i32]) -> Optio
 // the edge that brought it.
 pub fn first_run(chart: &Chart, k: usize, start: &mut [i32], path: &mut [i32]) -> Option<Run>
     requires { (k ≤ most_moves) × (length start.old ≡ width (decode chart.now)) × (k * suc (width (decode chart.now)) ≤ length path.old) }
-    ensures { Holds (decode chart.now) (first_run (explicit (decode chart.now)) k) start.new path.new result }
+    ensures in_form { T (well_formed chart.now) }
+    ensures found { Holds (decode chart.now) (first_run (explicit (decode chart.now)) k) start.new path.new result }
 {
     let mut dist = [0usize; semantics::MOST_LOCATIONS];
     distances::measure(chart, &mut dist);

@@ -8,8 +8,10 @@ use Rattle.semantics.specs.Search.{Trail, here, overrun, by, ErrorRun, moves, Ch
 use Rattle.semantics.specs.RunListing.{state_text, trail_text, found_text}
 use Rattle.semantics.specs.RealRuns.{states_of}
 use Rattle.state.specs.Rows.{row_at}
-use Rattle.descent.specs.declared.Found.{Found}
-use Rattle.descent.specs.declared.Found.TheVariants.{Nothing, AtError, Overrun}
+use Rattle.std.specs.Prelude.{Some, None}
+use Rattle.descent.specs.declared.End.{End}
+use Rattle.descent.specs.declared.End.TheVariants.{AtError, Overrun}
+use Rattle.descent.specs.declared.Run.{Run}
 use Rattle.descent.specs.Rows.{state_of, Concrete}
 use Rattle.descent.specs.Trails.{trail_words, end_of, Within, Holds}
 use Rattle.search.specs.RunLines.{row_in, rows_after, Rows, rows_text, states_text}
@@ -17,37 +19,22 @@ use Rattle.search.proofs.RunPieces.{concrete_long}
 
 -- ---- by how a run ends
 
--- there is one
-abbrev pub is_found : Found → Bool
-is_found Nothing = false
-is_found AtError = true
-is_found (Overrun e) = true
-
 -- its moves that lead to no state
-abbrev pub stateless : Found → ℕ
-stateless Nothing = 0
+abbrev pub stateless : End → ℕ
 stateless AtError = 0
 stateless (Overrun e) = 1
 
 -- of n moves, those that lead to one
-abbrev pub rows_of : Found → ℕ → ℕ
-rows_of Nothing n = n
+abbrev pub rows_of : End → ℕ → ℕ
 rows_of AtError n = n
 rows_of (Overrun e) n = n - 1
 
 -- the line after those of its states
-abbrev pub end_text : Found → List ℕ
-end_text Nothing = []
+abbrev pub end_text : End → List ℕ
 end_text AtError = []
 end_text (Overrun e) = line_of (decimal e.0) []
 
-trail_found : (t : Trail Choice State) → T (is_found (end_of t))
-trail_found here = tt
-trail_found (overrun a) = tt
-trail_found (by a s t) = trail_found t
-
-rows_rest : (r : Found) (m n : ℕ) → n ≡ m + stateless r → m ≡ rows_of r n
-rows_rest Nothing m n e = omega (arith, e)
+rows_rest : (r : End) (m n : ℕ) → n ≡ m + stateless r → m ≡ rows_of r n
 rows_rest AtError m n e = omega (arith, e)
 rows_rest (Overrun x) m n e = omega (arith, e)
 
@@ -104,36 +91,39 @@ module _ (c : Chart) where
 
 -- ---- the whole
 
-module _ (c : Chart) (k : ℕ) (start path : List ℤ) (n : ℕ) where
-  pub none_is : (o : Option (ErrorRun Choice State)) (r : Found) → Holds c o start path n r → r ≡ Nothing → line_of (bytes "none") (decimal k ∷ []) ≡ found_text c k o
-  none_is none r h e = refl
-  none_is (some q) r h e = absurd (subst (λ (f : Found). T (is_found f)) (sym h.answer ∙ e) (trail_found q.trail))
+module _ (c : Chart) (k : ℕ) (start path : List ℤ) where
+  pub none_is : (o : Option (ErrorRun Choice State)) → Holds c o start path None → line_of (bytes "none") (decimal k ∷ []) ≡ found_text c k o
+  none_is none h = refl
+  none_is (some q) h = absurd h
 
-  -- what a run that was found has in its words
-  pub record Shown (o : Option (ErrorRun Choice State)) (r : Found) : Type 0 where
-    pub first : Concrete c start
-    pub counted : stateless r ≤ n
-    pub rows : Rows c (rows_of r n) path
-    pub text : states_text c n (rows_of r n) start path ++ end_text r ≡ found_text c k o
+  module _ (run : Run) where
+    -- what a run that was found has in its words
+    pub record Shown (o : Option (ErrorRun Choice State)) : Type 0 where
+      pub first : Concrete c start
+      pub counted : stateless run.end ≤ run.moves
+      pub rows : Rows c (rows_of run.end run.moves) path
+      pub text : states_text c run.moves (rows_of run.end run.moves) start path ++ end_text run.end ≡ found_text c k o
 
-  pub shown : (o : Option (ErrorRun Choice State)) (r : Found) → Holds c o start path n r → T (is_found r) → Shown o r
-  unfolding states_text
-  shown none r h t = absurd (subst (λ (f : Found). T (is_found f)) h t)
-  shown (some q) r h t =
-      let tr = q.trail in
-      let rest = drop (length (trail_words tr)) path in
-      let count : n ≡ length (states_of tr) + stateless r = h.count ∙ rows_count tr ∙ ap (λ (f : Found). length (states_of tr) + stateless f) (sym h.answer) in
-      let rows = rows_rest r (length (states_of tr)) n count in
-      let header = line_of (bytes "run") (decimal n ∷ []) in
-      let line = state_text c 0 (state_of start) in
-      let lines = rows_text c (rows_of r n) path in
-      let trail : lines ++ end_text r ≡ trail_text c tr = (λ i. rows_text c (sym rows i) (h.words i) ++ end_text (h.answer i)) ∙ text_is c tr rest h.within in
-      record {
-        first = h.concrete;
-        counted = omega (arith, count);
-        rows = rw (← rows, h.words) (rows_are c tr rest h.within);
-        text =
-            append_assoc header (line ++ lines) (end_text r)
-            ∙ ap (λ (l : List ℕ). header ++ l) (append_assoc line lines (end_text r))
-            ∙ (λ i. line_of (bytes "run") (decimal (h.count i) ∷ []) ++ (state_text c 0 (h.first i) ++ trail i));
-      }
+    pub shown : (o : Option (ErrorRun Choice State)) → Holds c o start path (Some run) → Shown o
+    unfolding states_text
+    shown none h = absurd h
+    shown (some q) h =
+        let n = run.moves in
+        let r = run.end in
+        let tr = q.trail in
+        let rest = drop (length (trail_words tr)) path in
+        let count : n ≡ length (states_of tr) + stateless r = h.count ∙ rows_count tr ∙ ap (λ (f : End). length (states_of tr) + stateless f) (sym h.answer) in
+        let rows = rows_rest r (length (states_of tr)) n count in
+        let header = line_of (bytes "run") (decimal n ∷ []) in
+        let line = state_text c 0 (state_of start) in
+        let lines = rows_text c (rows_of r n) path in
+        let trail : lines ++ end_text r ≡ trail_text c tr = (λ i. rows_text c (sym rows i) (h.words i) ++ end_text (h.answer i)) ∙ text_is c tr rest h.within in
+        record {
+          first = h.concrete;
+          counted = omega (arith, count);
+          rows = rw (← rows, h.words) (rows_are c tr rest h.within);
+          text =
+              append_assoc header (line ++ lines) (end_text r)
+              ∙ ap (λ (l : List ℕ). header ++ l) (append_assoc line lines (end_text r))
+              ∙ (λ i. line_of (bytes "run") (decimal (h.count i) ∷ []) ++ (state_text c 0 (h.first i) ++ trail i));
+        }

@@ -1,6 +1,9 @@
 -- What a search that nothing refuses may rely on, and what the call leaves. Assumes nothing.
-use Rattle.semantics.proofs.Prelude.{◌≡◌, refl, sym, ap, List, ℕ, zero, suc, ◌≤◌, T, ℤ, nat_abs, length}
+use Rattle.semantics.proofs.Prelude.{◌≡◌, refl, sym, ap, List, ℕ, zero, suc, ◌≤◌, T, ℤ, nat_abs, length, arith}
 use Rattle.semantics.specs.Layout.{most_moves}
+use Rattle.semantics.specs.declared.Refusal.{Refusal}
+use Rattle.semantics.specs.declared.Refusal.TheVariants as refusal
+use Rattle.semantics.specs.Refusals.{number_of}
 use Rattle.semantics.specs.Encoding.{decode, well_formed}
 use Rattle.semantics.specs.RunListing.{run_text, moves_ok}
 use Rattle.semantics.specs.Outcomes.{refusal, refused_by, searched, search_outcome}
@@ -8,6 +11,31 @@ use Rattle.semantics.proofs.Bools.{passed}
 use Rattle.semantics.proofs.RunShort.{moves_few}
 use Rattle.semantics.proofs.FirstCase.{none_met, refusal_later, sooner}
 use Rattle.search.specs.Refusals.{early_cases, late_cases, shown}
+
+-- no refusal has the number 0
+numbered : (r : Refusal) → number_of r ≡ 0 → ⊥
+numbered refusal.TooLong e = absurd (omega (arith, e))
+numbered refusal.BadByte e = absurd (omega (arith, e))
+numbered refusal.OpenLine e = absurd (omega (arith, e))
+numbered refusal.WrongKind e = absurd (omega (arith, e))
+numbered refusal.WrongFields e = absurd (omega (arith, e))
+numbered refusal.Malformed e = absurd (omega (arith, e))
+numbered refusal.OutOfRange e = absurd (omega (arith, e))
+numbered refusal.WrongCount e = absurd (omega (arith, e))
+numbered refusal.NamedTwice e = absurd (omega (arith, e))
+numbered refusal.NotThere e = absurd (omega (arith, e))
+numbered refusal.BadCapacity e = absurd (omega (arith, e))
+numbered refusal.BadSettings e = absurd (omega (arith, e))
+numbered refusal.BadBudget e = absurd (omega (arith, e))
+numbered refusal.FewWords e = absurd (omega (arith, e))
+numbered refusal.FewBytes e = absurd (omega (arith, e))
+numbered refusal.BadChart e = absurd (omega (arith, e))
+numbered refusal.BadAnalysis e = absurd (omega (arith, e))
+numbered refusal.HasVerdict e = absurd (omega (arith, e))
+numbered refusal.Spent e = absurd (omega (arith, e))
+numbered refusal.NoAlarm e = absurd (omega (arith, e))
+numbered refusal.BadMoves e = absurd (omega (arith, e))
+numbered refusal.TooWide e = absurd (omega (arith, e))
 
 refused_stays : {n : ℕ} (text space : List ℕ) (r : ℕ) → r ≡ n → (r ≡ 0 → ⊥) → record { answer = refused_by r 0; space = space } ≡ searched n text space
 refused_stays text space zero e h = absurd (h refl)
@@ -28,9 +56,9 @@ module _ (words : List ℤ) (k : ℤ) (space : List ℕ) where
       record { moves = moves_few k (passed (moves_ok k) p.0); chart = passed (well_formed words) p.1.0 }
 
   -- one does
-  pub search_refused : (r : ℕ) → r ≡ refusal (early_cases k words) → (r ≡ 0 → ⊥) → record { answer = refused_by r 0; space = space } ≡ search_outcome words k space
+  pub search_refused : (r : Refusal) → number_of r ≡ refusal (early_cases k words) → record { answer = refused_by (number_of r) 0; space = space } ≡ search_outcome words k space
   unfolding search_outcome
-  search_refused r e h = refused_stays text space r (sooner (early_cases k words) (late_cases (length space) text) r e h) h
+  search_refused r e = refused_stays text space (number_of r) (sooner (early_cases k words) (late_cases (length space) text) (number_of r) e (numbered r)) (numbered r)
 
   -- 15 is left
   pub search_through : refusal (early_cases k words) ≡ 0 → shown text space ≡ search_outcome words k space

@@ -1,6 +1,6 @@
 -- The lines of a run piece by piece: a state's line as its fields, and what one turn of the loop over rows adds. Assumes
 -- nothing.
-use Rattle.semantics.proofs.Prelude.{◌≡◌, refl, sym, ap, ◌∙◌, Bool, List, [], ◌∷◌, ◌++◌, map, append_assoc, ℕ, suc, ◌+◌, ◌-◌, ◌≤◌, add-zero, arith, T, ℤ, pos, nat_abs, length, take, drop, length-take, length-drop, drop-drop, get_or-drop}
+use Rattle.semantics.proofs.Prelude.{◌≡◌, refl, sym, ap, ◌∙◌, Bool, List, [], ◌∷◌, ◌++◌, map, append_assoc, ℕ, suc, ◌+◌, ◌-◌, ◌≤◌, zero, add-one, arith, T, ℤ, pos, nat_abs, length, take, drop, length-take, length-drop, drop-drop, get_or-drop}
 use Rattle.semantics.specs.Lists.{pick, all, each}
 use Rattle.semantics.specs.Text.{decimal, decimal_z, line_of}
 use Rattle.semantics.specs.Chart.{known, top, Var, Chart, Ranged}
@@ -55,35 +55,40 @@ ranged_long (v ∷ vs) (x ∷ xs) h = ap suc (ranged_long vs xs h.1)
 pub concrete_long : (c : Chart) (e : List ℤ) → Concrete c e → length e ≡ width c
 concrete_long c e h = ap (λ (l : List ℤ). length l) h.words ∙ ap suc (ranged_long c.vars (values_of e) h.ranged)
 
--- the row from a place on, w words wide
-module _ (c : Chart) (path : List ℤ) (from w : ℕ) (wide : w ≡ width c) where
+-- the first row, w words wide after its edge, and what is left
+module _ (c : Chart) (left : List ℤ) (w : ℕ) (wide : w ≡ width c) where
   -- its state, as the code lends it
   abbrev pub lent_row : List ℤ
-  lent_row = take (from + 1 + w - (from + 1)) (drop (from + 1) path)
+  lent_row = drop 1 (take (w + 1) left)
 
-  row_is : row_in c (drop from path) ≡ lent_row
-  row_is = rw (span (from + 1) w, ← wide, drop-drop)
+  row_is : (l : List ℤ) → take w (drop 1 l) ≡ drop 1 (take (w + 1) l)
+  row_is [] = rw add-one (nothing w)
+    where
+      nothing : (n : ℕ) → take n (drop {A = ℤ} 1 []) ≡ drop 1 (take {A = ℤ} (suc n) [])
+      nothing zero = refl
+      nothing (suc n) = refl
+  row_is (x ∷ l) = rw add-one refl
 
-  after_is : rows_after c (drop from path) ≡ drop (from + 1 + w) path
-  after_is =
-      let place : from + suc (width c) ≡ from + 1 + w = omega (arith, wide) in
-      drop-drop (suc (width c)) from path ∙ ap (λ (n : ℕ). drop n path) place
+  first_is : (l : List ℤ) → count l 0 ≡ count (take (w + 1) l) 0
+  first_is [] = rw add-one refl
+  first_is (x ∷ l) = rw add-one refl
 
   pub record Turn (n : ℕ) : Type 0 where
-    pub fits : from + 1 + w ≤ length path
+    pub fits : w + 1 ≤ length left
     pub state : Concrete c lent_row
-    pub rest : Rows c n (drop (from + 1 + w) path)
-    pub text : rows_text c (suc n) (drop from path) ≡ state_text c (count path from) (state_of lent_row) ++ rows_text c n (drop (from + 1 + w) path)
+    pub rest : Rows c n (drop (w + 1) left)
+    pub text : rows_text c (suc n) left ≡ state_text c (count (take (w + 1) left) 0) (state_of lent_row) ++ rows_text c n (drop (w + 1) left)
 
-  pub turn : (n : ℕ) → Rows c (suc n) (drop from path) → Turn n
+  pub turn : (n : ℕ) → Rows c (suc n) left → Turn n
   unfolding rows_text
   turn n h =
-      let q = drop from path in
-      let long = concrete_long c (row_in c q) h.0 in
-      let edge : count q 0 ≡ count path from = ap nat_abs (get_or-drop from path 0 (pos 0)) ∙ ap (count path) (add-zero from) in
+      let long = concrete_long c (row_in c left) h.0 in
+      let row : row_in c left ≡ lent_row = rw (← wide) (row_is left) in
+      let after : rows_after c left ≡ drop (w + 1) left = rw (add-one, wide) in
+      let edge : count left 0 ≡ count (take (w + 1) left) 0 = first_is left in
       record {
-        fits = omega (arith, length-take (width c) (drop 1 q), length-drop 1 q, length-drop from path, long, wide);
-        state = rw row_is at h.0;
-        rest = rw after_is at h.1;
-        text = λ i. state_text c (edge i) (state_of (row_is i)) ++ rows_text c n (after_is i);
+        fits = omega (arith, length-take (width c) (drop 1 left), length-drop 1 left, long, wide);
+        state = rw row at h.0;
+        rest = rw after at h.1;
+        text = λ i. state_text c (edge i) (state_of (row i)) ++ rows_text c n (after i);
       }

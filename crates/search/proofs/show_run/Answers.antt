@@ -8,8 +8,8 @@ use Rattle.search.proofs.show_run.Goals as goal
 pub returns-clause-space : goal.returns-clause-space
 returns-clause-space c =
     let space = c.args.space.now in
-    let text = run_text (decode c.args.chart.now) c.args.k in
-    let long : 0 + length text ≤ length space = omega (arith, c.if-space-run_length.false, c.run_length.ensures, c.write_run-length.ensures.small) in
+    let text = run_text (decode c.args.found.now.chart.now) c.args.found.now.k in
+    let long : 0 + length text ≤ length space = omega (arith, c.if-space-run_length.false, c.run_length.ensures, c.write_run.ensures.small) in
     let e = le-ltb (length space) (length text) (omega (arith, long)) in
-    let f = put_fits c.write_run-length.ensures long in
+    let f = put_fits c.write_run.ensures long in
     rw e (f.0 ∙ ap (λ (n : ℕ). text ++ drop n space) (zero-add (length text)))
