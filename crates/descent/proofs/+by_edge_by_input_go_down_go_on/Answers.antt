@@ -37,7 +37,7 @@ by_edge-returns-then-ne t c =
     let a = c.args in
     let ws = a.guide.now.chart.now in
     let from = rw c.args.guide.now.same at c.edge_from.ensures.location in
-    let other = rw (from, c.location_of.ensures.location) at (is_false _ (sym c.ne.ensures ∙ c.if-ne.true)) in
+    let other = rw (from, c.location_of.ensures.location) at (is_false (eqb c.edge_from.result.0 c.location_of.result.0) (sym c.ne.ensures ∙ c.if-ne.true)) in
     let e : eqb (edge_of ws a.edge).edge.from (location_in a.row.now) ≡ false = ap (λ (n : ℕ). eqb n (location_in a.row.now)) (leaves ws a.edge) ∙ other in
     went_none (not_here (decode ws) a.left (state_of a.row.now) (edge_of ws a.edge) e) refl
 
@@ -200,7 +200,7 @@ go_down-edge_of-edge-requires t c =
     let formed = c.args.guide.now.formed in
     let place = c.first_edge-first.ensures.place ∙ ap edges_at c.args.guide.now.same in
     let count = c.edge_count-number-end.ensures.count ∙ ap edge_count c.args.guide.now.same in
-    edge_asks ws formed c.first_edge-first.result b.number place b.auto.number (omega arith)
+    edge_asks ws formed c.first_edge-first.result b.number place (omega (arith, b.auto.number)) (omega arith)
 
 pub go_down-returns-in-Some : goal.go_down-returns-in-Some
 go_down-returns-in-Some t c =
@@ -211,7 +211,7 @@ go_down-returns-in-Some t c =
     let place = c.first_edge-first.ensures.place ∙ ap edges_at c.args.guide.now.same in
     let count = c.edge_count-number-end.ensures.count ∙ ap edge_count c.args.guide.now.same in
     let e = c.edge_of-edge in
-    let is = is_edge ws formed c.first_edge-first.result b.number place b.auto.number (omega arith) e.result e.ensures.id e.ensures.place in
+    let is = is_edge ws formed c.first_edge-first.result b.number place (omega (arith, b.auto.number)) (omega arith) e.result e.ensures.id e.ensures.place in
     let f = by_edge (decode ws) (a.left - 1) (state_of a.row.now) in
     let rest = drop b.number (numbered (decode ws)) in
     let inv = b.invariant.1 ∙ ap (first_of f) (edges_left ws formed e.result is b.number e.ensures.id) in
@@ -226,7 +226,7 @@ go_down-loop-number-preserved t c =
     let place = c.first_edge-first.ensures.place ∙ ap edges_at c.args.guide.now.same in
     let count = c.edge_count-number-end.ensures.count ∙ ap edge_count c.args.guide.now.same in
     let e = c.edge_of-edge in
-    let is = is_edge ws formed c.first_edge-first.result b.number place b.auto.number (omega arith) e.result e.ensures.id e.ensures.place in
+    let is = is_edge ws formed c.first_edge-first.result b.number place (omega (arith, b.auto.number)) (omega arith) e.result e.ensures.id e.ensures.place in
     let f = by_edge (decode ws) (a.left - 1) (state_of a.row.now) in
     let rest = drop b.number (numbered (decode ws)) in
     let inv = b.invariant.1 ∙ ap (first_of f) (edges_left ws formed e.result is b.number e.ensures.id) in
@@ -250,7 +250,7 @@ go_down-returns-in_default t c =
     let place = c.first_edge-first.ensures.place ∙ ap edges_at c.args.guide.now.same in
     let count = c.edge_count-number-end.ensures.count ∙ ap edge_count c.args.guide.now.same in
     let e = c.edge_of-edge in
-    let is = is_edge ws formed c.first_edge-first.result b.number place b.auto.number (omega arith) e.result e.ensures.id e.ensures.place in
+    let is = is_edge ws formed c.first_edge-first.result b.number place (omega (arith, b.auto.number)) (omega arith) e.result e.ensures.id e.ensures.place in
     let f = by_edge (decode ws) (a.left - 1) (state_of a.row.now) in
     let rest = drop b.number (numbered (decode ws)) in
     let inv = b.invariant.1 ∙ ap (first_of f) (edges_left ws formed e.result is b.number e.ensures.id) in

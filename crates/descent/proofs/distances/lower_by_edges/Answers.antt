@@ -12,7 +12,7 @@ pub edge_of-edge-requires : goal.edge_of-edge-requires
 edge_of-edge-requires c =
     let place = c.first_edge-first.ensures.place ∙ ap edges_at c.words-words.ensures.words in
     let count = c.edge_count-number.ensures.count ∙ ap edge_count c.words-words.ensures.words in
-    edge_asks c.args.chart.now c.words-words.ensures.in_form c.first_edge-first.result c.loop-number.number place c.loop-number-test.true (omega (arith, c.loop-number.auto.number))
+    edge_asks c.args.chart.now c.words-words.ensures.in_form c.first_edge-first.result c.loop-number.number place (omega (arith, c.loop-number-test.true)) (omega (arith, c.loop-number.auto.number))
 
 pub loop-number-preserved : goal.loop-number-preserved
 loop-number-preserved c =
@@ -22,7 +22,7 @@ loop-number-preserved c =
     let e = c.edge_of-edge.result in
     let place = c.first_edge-first.ensures.place ∙ ap edges_at c.words-words.ensures.words in
     let count = c.edge_count-number.ensures.count ∙ ap edge_count c.words-words.ensures.words in
-    let is = is_edge ws c.words-words.ensures.in_form c.first_edge-first.result n place c.loop-number-test.true (omega (arith, c.loop-number.auto.number)) e c.edge_of-edge.ensures.id c.edge_of-edge.ensures.place in
+    let is = is_edge ws c.words-words.ensures.in_form c.first_edge-first.result n place (omega (arith, c.loop-number-test.true)) (omega (arith, c.loop-number.auto.number)) e c.edge_of-edge.ensures.id c.edge_of-edge.ensures.place in
     let at = is.at ∙ ap (λ (n : ℕ). edge_at ws (n - 1)) c.edge_of-edge.ensures.id in
     let from = rw c.words-words.ensures.words at c.edge_from.ensures.location in
     let same : distance_in ds (edge_of ws e).edge.from ≡ distance_in ds c.edge_from.result.0 = ap (distance_in ds) (leaves ws e ∙ sym from) in

@@ -41,7 +41,7 @@ returns-then-is_wide c =
     let place = c.first_edge-first.ensures.place ∙ ap edges_at c.words-words.ensures.words in
     let count = c.edge_count-number-end.ensures.count ∙ ap edge_count c.words-words.ensures.words in
     found c.args.chart.now c.loop-number.number c.edge_of.result.at c.is_wide.result (record {
-      some = c.loop-number.auto.number;
+      some = omega (arith, c.loop-number.auto.number);
       within = omega arith;
       place = omega (arith, c.edge_of.ensures.place);
       wide = rw c.words-words.ensures.words at c.is_wide.ensures;
@@ -54,7 +54,7 @@ loop-number-preserved c =
     let count = c.edge_count-number-end.ensures.count ∙ ap edge_count c.words-words.ensures.words in
     let next : c.loop-number.number + 1 - 1 ≡ c.loop-number.number = omega arith in
     rw next (passed c.args.chart.now c.loop-number.number c.edge_of.result.at c.is_wide.result (record {
-      some = c.loop-number.auto.number;
+      some = omega (arith, c.loop-number.auto.number);
       within = omega arith;
       place = omega (arith, c.edge_of.ensures.place);
       wide = rw c.words-words.ensures.words at c.is_wide.ensures;
@@ -74,7 +74,7 @@ returns-else-is_wide c =
     let place = c.first_edge-first.ensures.place ∙ ap edges_at c.words-words.ensures.words in
     let count = c.edge_count-number-end.ensures.count ∙ ap edge_count c.words-words.ensures.words in
     let last = passed c.args.chart.now c.loop-number.number c.edge_of.result.at c.is_wide.result (record {
-      some = c.loop-number.auto.number;
+      some = omega (arith, c.loop-number.auto.number);
       within = omega arith;
       place = omega (arith, c.edge_of.ensures.place);
       wide = rw c.words-words.ensures.words at c.is_wide.ensures;
