@@ -1,5 +1,5 @@
 -- The text of what was found, by its words: how many rows the trail has, and what comes after their lines. Assumes nothing.
-use Rattle.semantics.proofs.Prelude.{◌≡◌, refl, sym, ap, subst, ◌∙◌, Bool, true, false, List, [], ◌∷◌, ◌++◌, append_assoc, Option, none, some, ℕ, suc, ◌+◌, ◌-◌, ◌≤◌, arith, T, ℤ, length, take, drop, take_at, drop_at}
+use Rattle.semantics.proofs.Prelude.{◌≡◌, refl, sym, ap, ◌∙◌, List, [], ◌∷◌, ◌++◌, append_assoc, Option, none, some, ℕ, suc, ◌+◌, ◌-◌, ◌≤◌, arith, ℤ, length, take, drop, take_at, drop_at}
 use Rattle.semantics.specs.Text.{bytes, decimal, line_of}
 use Rattle.semantics.specs.Chart.{Chart, State}
 use Rattle.semantics.specs.Encoding.{count}

@@ -1,6 +1,6 @@
 -- The lines of a run piece by piece: a state's line as its fields, and what one turn of the loop over rows adds. Assumes
 -- nothing.
-use Rattle.semantics.proofs.Prelude.{◌≡◌, refl, sym, ap, ◌∙◌, Bool, List, [], ◌∷◌, ◌++◌, map, append_assoc, ℕ, suc, ◌+◌, ◌-◌, ◌≤◌, zero, add-one, arith, T, ℤ, pos, nat_abs, length, take, drop, length-take, length-drop, drop-drop, get_or-drop}
+use Rattle.semantics.proofs.Prelude.{◌≡◌, refl, sym, ap, ◌∙◌, Bool, List, [], ◌∷◌, ◌++◌, map, append_assoc, ℕ, suc, ◌+◌, ◌≤◌, zero, add-one, arith, T, ℤ, length, take, drop, length-take, length-drop}
 use Rattle.semantics.specs.Lists.{pick, all, each}
 use Rattle.semantics.specs.Text.{decimal, decimal_z, line_of}
 use Rattle.semantics.specs.Chart.{known, top, Var, Chart, Ranged}
@@ -10,7 +10,6 @@ use Rattle.semantics.specs.Listing.{val_text, loc_text}
 use Rattle.semantics.specs.RunListing.{state_text}
 use Rattle.semantics.proofs.Bools.{and_left, and_right}
 use Rattle.semantics.proofs.MemoryOf.{known_not_top}
-use Rattle.words.proofs.Rows.{span}
 use Rattle.state.specs.Rows.{location_in, values_of}
 use Rattle.descent.specs.Rows.{state_of, Concrete}
 use Rattle.listing.specs.Pieces.{tabbed, values_text}

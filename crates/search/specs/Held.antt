@@ -1,14 +1,14 @@
 -- That a run is held in words is so, or is not, in one way alone: a value may keep the fact. Assumes nothing.
 use mathlib.Core.Sum.{⊎_set}
 use Rattle.std.specs.Prelude.{List, [], ◌∷◌, ℤ, Option as Perhaps, Some, None}
-use Rattle.std.specs.Coded.{Unit-prop, ×_prop}
+use Rattle.std.specs.Coded.{Unit-prop}
 use Rattle.std.proofs.Math.Option.{Option, none, some}
 use Rattle.std.proofs.Props.{props}
 use Rattle.semantics.specs.Chart.{Var, Chart, State, Ranged}
 use Rattle.semantics.specs.Search.{Trail, here, overrun, by, ErrorRun, Choice}
 use Rattle.descent.specs.declared.Run.{Run}
 use Rattle.descent.specs.Rows.{Concrete}
-use Rattle.descent.specs.Trails.{Within, Held, Holds}
+use Rattle.descent.specs.Trails.{Within, Holds}
 
 Ranged-prop : (vs : List Var) (xs : List ℤ) → IsProp (Ranged vs xs)
 Ranged-prop [] [] = Unit-prop

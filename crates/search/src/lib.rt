@@ -199,5 +199,11 @@ pub fn search(chart: &[i32], k: i32, space: &mut [u8]) -> Result<usize, Refusal>
     let width = state::layout_of(chart.words()).width();
     let mut start = [0i32; state::MOST_WIDTH];
     let mut path = [0i32; semantics::MOST_MOVES * (state::MOST_WIDTH + 1)];
-    search_in(&chart, words::magnitude(k), &mut start[..width], &mut path, space)
+    search_in(
+        &chart,
+        words::magnitude(k),
+        &mut start[..width],
+        &mut path,
+        space,
+    )
 }

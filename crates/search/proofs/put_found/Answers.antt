@@ -1,11 +1,8 @@
 -- `search::put_found` meets its contract.
-use Rattle.std.specs.Prelude.{Option as Perhaps, Some, None}
-use Rattle.semantics.proofs.Prelude.{◌≡◌, sym, subst, ◌∙◌, ◌-◌, append-nil, List, ℤ}
+use Rattle.semantics.proofs.Prelude.{sym, subst, ◌∙◌, append-nil}
 use Rattle.semantics.specs.Encoding.{decode}
 use Rattle.semantics.specs.Search.{explicit, first_run}
 use Rattle.semantics.specs.RunListing.{run_text}
-use Rattle.descent.specs.declared.End.TheVariants.{AtError, Overrun}
-use Rattle.descent.specs.declared.Run.{Run}
 use Rattle.descent.specs.Trails.{Holds}
 use Rattle.writer.proofs.Written.{writes_same}
 use Rattle.search.specs.RunLines.{states_text}

@@ -1,4 +1,4 @@
-use Rattle.semantics.proofs.Prelude.{◌≡◌, refl, sym, ap, subst, ◌∙◌, ◌++◌, List, [], ℕ, ℤ, suc, ◌+◌, ◌-◌, ◌<◌, ◌≤◌, arith, length, take, drop, length-drop, take_all}
+use Rattle.semantics.proofs.Prelude.{◌≡◌, sym, ap, subst, ◌∙◌, ◌++◌, List, ℕ, ℤ, suc, ◌+◌, ◌-◌, ◌<◌, arith, length, take, drop, length-drop, take_all}
 use Rattle.semantics.specs.Chart.{Chart}
 use Rattle.semantics.specs.Encoding.{decode, count}
 use Rattle.semantics.specs.Memory.{width}
@@ -7,9 +7,9 @@ use Rattle.state.specs.declared.Layout.{Layout}
 use Rattle.state.specs.Rows.{layout_of, width_of}
 use Rattle.state.proofs.Layouts.{is_layout}
 use Rattle.descent.specs.Rows.{state_of, Concrete}
-use Rattle.writer.proofs.Written.{one_more, all_put, writes_none}
+use Rattle.writer.proofs.Written.{one_more, all_put}
 use Rattle.search.specs.RunLines.{Rows, rows_text}
-use Rattle.search.proofs.RunPieces.{Turn, turn, lent_row}
+use Rattle.search.proofs.RunPieces.{Turn, turn}
 use Rattle.search.proofs.put_rows.Goals as goal
 
 -- the words of a state are as many as the chart's are

@@ -1,17 +1,17 @@
 -- `search::search` meets its contract.
-use Rattle.semantics.proofs.Prelude.{◌≡◌, sym, ap, ◌∙◌, List, ℕ, suc, ◌≤◌, mul-le-mul, arith, ℤ, pos, nat_abs, take, length, replicate, length-take-le, w32, to_z, of_z, to_z-of_z}
+use Rattle.semantics.proofs.Prelude.{◌≡◌, sym, ap, ◌∙◌, List, ℕ, suc, ◌≤◌, mul-le-mul, arith, ℤ, pos, nat_abs, take, length, replicate, length-take-le, w32, to_z-of_z}
 use Rattle.std.proofs.lemmas.Result.{err_from_is_err_and}
 use Rattle.semantics.specs.Layout.{most_moves}
 use Rattle.semantics.specs.Encoding.{decode}
 use Rattle.semantics.specs.Memory.{width}
 use Rattle.semantics.specs.RunListing.{run_text}
-use Rattle.semantics.specs.Outcomes.{SearchOutcome, refusal}
+use Rattle.semantics.specs.Outcomes.{SearchOutcome}
 use Rattle.semantics.proofs.Encoded.{formed_bounds}
 use Rattle.state.specs.Rows.{most_width}
 use Rattle.state.specs.declared.Layout.{Layout}
 use Rattle.state.specs.Rows.{layout_of, width_of}
 use Rattle.state.proofs.Layouts.{is_layout}
-use Rattle.search.specs.Refusals.{early_cases, shown}
+use Rattle.search.specs.Refusals.{shown}
 use Rattle.search.proofs.Refusals.{Passes, passes, search_refused, search_through}
 use Rattle.search.proofs.search.Goals as goal
 
