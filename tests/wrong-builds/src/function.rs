@@ -7,7 +7,7 @@ use crate::edit::Sources;
 
 /// A function, its places in the text of its file.
 pub struct Function {
-    /// Of a method with its type: `Type::method`.
+    /// Of a method with its type, as [`of_impl`] has it: `Type::method`.
     pub name: String,
     /// The word of its `#[cycle(word)]`, which functions that call one another share.
     pub cycle: Option<String>,
@@ -22,7 +22,7 @@ pub struct Function {
 pub fn functions(text: &str) -> Vec<Function> {
     let mut found = Vec::new();
     let (mut attributes, mut name, mut start, mut body, mut at) = (None, None, 0, None, 0);
-    let mut implemented: Option<&str> = None;
+    let mut implemented: Option<String> = None;
     for line in text.split_inclusive('\n') {
         let (words, next) = (line.trim(), at + line.len());
         let indented = if implemented.is_some() { line.strip_prefix("    ") } else { Some(line) };
@@ -31,9 +31,7 @@ pub fn functions(text: &str) -> Vec<Function> {
         if line.starts_with('}') && implemented.is_some() {
             implemented = None;
         } else if let Some(head) = line.strip_prefix("impl") {
-            let after = head.split_once("> ").filter(|_| head.starts_with('<'));
-            let type_name = after.map_or(head, |(_, words)| words).trim_start();
-            implemented = type_name.split(|c| !is_of_name(c)).next();
+            implemented = Some(of_impl(head));
         } else if margin && words == "}" {
             if let (Some(name), Some(body)) = (name.take(), body.take()) {
                 let cycle = cycle_of(&text[start..body]);
@@ -41,7 +39,7 @@ pub fn functions(text: &str) -> Vec<Function> {
             }
         } else if let (true, Some((_, head))) = (margin, line.split_once("fn ")) {
             let word = head.split(|c| !is_of_name(c)).next();
-            name = word.map(|word| match implemented {
+            name = word.map(|word| match &implemented {
                 Some(type_name) => format!("{type_name}::{word}"),
                 None => word.to_string(),
             });
@@ -54,6 +52,21 @@ pub fn functions(text: &str) -> Vec<Function> {
         at = next;
     }
     found
+}
+
+/// What the prover calls the methods of an `impl` after, by its head: the type, and behind it the trait with what it is of,
+/// `U32FromRefusal` for `From<Refusal> for u32`.
+fn of_impl(head: &str) -> String {
+    let after = head.split_once("> ").filter(|_| head.starts_with('<'));
+    let head = after.map_or(head, |(_, words)| words).trim_start();
+    let words = |text: &str| -> Vec<String> {
+        let words = text.split(|c| !is_of_name(c)).filter(|word| !word.is_empty());
+        words.map(|word| word[..1].to_uppercase() + &word[1..]).collect()
+    };
+    match head.split_once(" for ") {
+        Some((of, name)) => words(name).swap_remove(0) + &words(&of.replace("()", "Unit")).concat(),
+        None => words(head).swap_remove(0),
+    }
 }
 
 pub fn is_of_name(c: char) -> bool {
@@ -188,17 +201,38 @@ impl Side {
     }
 }
 
+impl<'a> Stream for Held<'a> {
+    fn three() {
+    }
+}
+
+impl From<Result<(), Refusal>> for u32 {
+    fn from() {
+    }
+}
+
 fn after<R: Read>(r: R) -> u8 {
     5
 }
 ";
         let found = functions(code);
         let names: Vec<&str> = found.iter().map(|f| &f.name[..]).collect();
-        assert_eq!(names, ["before", "Held::one", "Held::two", "Side::two", "after"]);
+        assert_eq!(
+            names,
+            [
+                "before",
+                "Held::one",
+                "Held::two",
+                "Side::two",
+                "HeldStream::three",
+                "U32FromResultUnitRefusal::from",
+                "after"
+            ]
+        );
         assert_eq!(&code[found[1].body.clone()], "        before()\n");
         assert!(code[found[2].whole.clone()].starts_with("    fn two"));
         assert!(code[found[2].whole.clone()].ends_with("        4\n    }\n"));
-        assert_eq!(&code[found[4].body.clone()], "    5\n");
+        assert_eq!(&code[found[6].body.clone()], "    5\n");
     }
 
     #[test]
