@@ -1,11 +1,8 @@
 -- The layout that the code took from a chart's words, and that the words of a capacity lie in a table which is long
--- enough; and which numbers are a budget that 13 lets pass. Assumes nothing.
-use Rattle.semantics.proofs.Prelude.{◌≡◌, ap, ◌∙◌, List, ℕ, ◌*◌, ◌≤◌, T, leb, leb→le, ℤ, pos, negsuc, nat_abs, non_neg, length, length-take-le, take}
-use Rattle.semantics.specs.Layout.{most_iterations}
+-- enough. Assumes nothing.
+use Rattle.semantics.proofs.Prelude.{◌≡◌, ap, ◌∙◌, List, ℕ, ◌*◌, ◌≤◌, ℤ, length, length-take-le, take}
 use Rattle.semantics.specs.Encoding.{decode}
 use Rattle.semantics.specs.Memory.{stride}
-use Rattle.semantics.specs.Outcomes.{budget_ok}
-use Rattle.semantics.proofs.Bools.{and_right}
 use Rattle.state.specs.declared.Layout.{Layout}
 use Rattle.state.specs.Rows.{layout_of}
 use Rattle.state.proofs.Layouts.{is_layout, slots_in}
@@ -21,12 +18,3 @@ module _ (ws v : List ℤ) (same : v ≡ ws) (y : Layout) (laid : y ≡ layout_o
 
     pub part : length (take (r * y.stride) t) ≡ r * y.stride
     part = length-take-le (r * y.stride) t fits
-
--- a budget that 13 lets pass is a number up to 60,000
-pub record Budgeted (z : ℤ) : Type 0 where
-  pub sign : T (non_neg z)
-  pub few : nat_abs z ≤ most_iterations
-
-pub budgeted : (z : ℤ) → T (budget_ok z) → Budgeted z
-budgeted (pos n) t = record { sign = tt; few = leb→le n most_iterations (and_right (leb 0 n) (leb n most_iterations) t) }
-budgeted (negsuc n) t = absurd t
