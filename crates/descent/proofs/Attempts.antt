@@ -19,7 +19,7 @@ use Rattle.descent.specs.declared.End.{End}
 use Rattle.descent.specs.declared.Run.{Run}
 use Rattle.descent.specs.Trails.{end_of, trail_words, answer_of, laid, Went, Within, Held, Holds}
 use Rattle.descent.proofs.StartingValues.{starts_concrete}
-use Rattle.descent.proofs.Turns.{nothing, something, first_map}
+use Rattle.descent.proofs.Turns.{something, first_map}
 
 -- ---- every state of a trail is the chart's
 
@@ -80,20 +80,6 @@ module _ (c : Chart) (b : Bounds c) (m : ℕ) (e p u : List ℤ) {r : Perhaps En
       let t = something (found (explicit c) m (state_of e)) (sym w.answer ∙ h) in
       let q : whole ≡ some (run_from (state_of e) t.0) = inv ∙ ap (λ (o : Option (Trail Choice State)). or_else (map (run_from (state 0 (values_of e))) o) (first_of (from_values c m) (starts_after c.vars (values_of e)))) (same ∙ t.1) ∙ ap (λ (x : State). some (run_from x t.0)) (start_state c e s) in
       rw q (held c b m e p u t.0 (starts_concrete c b e s) t.1 (subst (Went (found (explicit c) m (state_of e)) p u) h w))
-
-  module _ (h : r ≡ None) where
-    none_here : found (explicit c) m (state_of e) ≡ none
-    none_here = nothing (found (explicit c) m (state_of e)) (sym w.answer ∙ h)
-
-    pub start_kept : u ≡ p
-    start_kept = w.words ∙ ap (λ (o : Option (Trail Choice State)). laid o p) none_here
-
-    pub start_next : whole ≡ first_of (from_values c m) (starts_after c.vars (values_of e))
-    start_next = inv ∙ ap (λ (o : Option (Trail Choice State)). or_else (map (run_from (state 0 (values_of e))) o) (first_of (from_values c m) (starts_after c.vars (values_of e)))) (same ∙ none_here)
-
-    -- that was the last
-    pub no_start : (e' : List ℤ) → starts_after c.vars (values_of e) ≡ [] → Holds c whole e' u None
-    no_start e' k = rw (start_next ∙ ap (first_of (from_values c m)) k) tt
 
 -- ---- one move more
 

@@ -1,6 +1,6 @@
 -- What the code that finds distances is proved by: the row of anywhere, edges and kinds by their words, loops, and that all
 -- 0 serve. Assumes nothing.
-use Rattle.semantics.proofs.Prelude.{◌≡◌, refl, sym, ap, ◌∙◌, subst, ◌⊎◌, inl, inr, Bool, true, ◌&&◌, List, [], ◌∷◌, ◌++◌, map, ℕ, zero, suc, ◌+◌, ◌-◌, ◌*◌, ◌≤◌, ◌<◌, add-one, arith, T, ltb→lt, ℤ, pos, nat_abs, length, get_or, take, drop, replicate, set, get_or-drop, take-suc-set}
+use Rattle.semantics.proofs.Prelude.{◌≡◌, refl, sym, ap, ◌∙◌, subst, ◌⊎◌, inl, inr, Bool, true, ◌&&◌, List, [], ◌∷◌, map, ℕ, zero, suc, ◌+◌, ◌-◌, ◌*◌, ◌≤◌, ◌<◌, arith, T, ltb→lt, ℤ, pos, nat_abs, length, get_or, take, drop, replicate, get_or-drop}
 use Rattle.semantics.proofs.Bools.{to_true, and_left, and_right, left_true, right_true}
 use Rattle.semantics.specs.Layout.{top_word, most_variables, location_size, edge_size, to_place, index_limit}
 use Rattle.semantics.specs.Lists.{At, In}
@@ -195,14 +195,6 @@ settled_turn P A B ds₀ ds ds' ok b j split before here e =
     let p = before (left_true ok b e) in
     let q = here (right_true ok b e) in
     (q.0 ∙ p.0, λ k m. subst (λ (l : List ℕ). P l k) (sym q.0) (elim (split k m) [ inl a ↦ p.1 k a | inr x ↦ subst (P ds) x q.1 ]))
-
--- one more place is filled with x
-pub fill_turn : (s : List ℕ) (i x : ℕ) → i < length s → take i s ≡ replicate i x → take (i + 1) (set s i x) ≡ replicate (i + 1) x
-fill_turn s i x h e = rw (add-one, take-suc-set s i x, e) (snoc i)
-  where
-    snoc : (i : ℕ) → replicate i x ++ (x ∷ []) ≡ replicate (suc i) x
-    snoc zero = refl
-    snoc (suc i) = ap (λ (l : List ℕ). x ∷ l) (snoc i)
 
 -- ---- all 0
 
