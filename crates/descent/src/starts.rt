@@ -34,7 +34,7 @@ fn can_rise(chart: &[i32], k: usize, x: i32) -> bool
     chart::variable_init(chart, k) == words::TOP && x < chart::variable_high(chart, k)
 }
 
-// How many numbers p..q has.
+// How many numbers p..q has; a range of `i32` does not say.
 pub fn size(p: i32, q: i32) -> usize
     ensures size { result ≡ size (q -ℤ p) }
     ensures small { result < words_limit }

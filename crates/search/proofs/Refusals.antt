@@ -1,8 +1,7 @@
 -- What a search that nothing refuses may rely on, and what the call leaves. Assumes nothing.
-use Rattle.semantics.proofs.Prelude.{◌≡◌, refl, sym, ap, List, ℕ, zero, suc, ◌≤◌, T, ℤ, nat_abs, length, arith}
+use Rattle.semantics.proofs.Prelude.{◌≡◌, refl, sym, ap, List, ℕ, zero, suc, ◌≤◌, T, ℤ, nat_abs, length}
 use Rattle.semantics.specs.Layout.{most_moves}
 use Rattle.semantics.specs.declared.Refusal.{Refusal}
-use Rattle.semantics.specs.declared.Refusal.TheVariants as refusal
 use Rattle.semantics.specs.Refusals.{number_of}
 use Rattle.semantics.specs.Encoding.{decode, well_formed}
 use Rattle.semantics.specs.RunListing.{run_text, moves_ok}
@@ -11,31 +10,7 @@ use Rattle.semantics.proofs.Bools.{passed}
 use Rattle.semantics.proofs.RunShort.{moves_few}
 use Rattle.semantics.proofs.FirstCase.{none_met, refusal_later, sooner}
 use Rattle.search.specs.Refusals.{early_cases, late_cases, shown}
-
--- no refusal has the number 0
-numbered : (r : Refusal) → number_of r ≡ 0 → ⊥
-numbered refusal.TooLong e = absurd (omega (arith, e))
-numbered refusal.BadByte e = absurd (omega (arith, e))
-numbered refusal.OpenLine e = absurd (omega (arith, e))
-numbered refusal.WrongKind e = absurd (omega (arith, e))
-numbered refusal.WrongFields e = absurd (omega (arith, e))
-numbered refusal.Malformed e = absurd (omega (arith, e))
-numbered refusal.OutOfRange e = absurd (omega (arith, e))
-numbered refusal.WrongCount e = absurd (omega (arith, e))
-numbered refusal.NamedTwice e = absurd (omega (arith, e))
-numbered refusal.NotThere e = absurd (omega (arith, e))
-numbered refusal.BadCapacity e = absurd (omega (arith, e))
-numbered refusal.BadSettings e = absurd (omega (arith, e))
-numbered refusal.BadBudget e = absurd (omega (arith, e))
-numbered refusal.FewWords e = absurd (omega (arith, e))
-numbered refusal.FewBytes e = absurd (omega (arith, e))
-numbered refusal.BadChart e = absurd (omega (arith, e))
-numbered refusal.BadAnalysis e = absurd (omega (arith, e))
-numbered refusal.HasVerdict e = absurd (omega (arith, e))
-numbered refusal.Spent e = absurd (omega (arith, e))
-numbered refusal.NoAlarm e = absurd (omega (arith, e))
-numbered refusal.BadMoves e = absurd (omega (arith, e))
-numbered refusal.TooWide e = absurd (omega (arith, e))
+use Rattle.checks.proofs.Numbered.{numbered}
 
 refused_stays : {n : ℕ} (text space : List ℕ) (r : ℕ) → r ≡ n → (r ≡ 0 → ⊥) → record { answer = refused_by r 0; space = space } ≡ searched n text space
 refused_stays text space zero e h = absurd (h refl)
