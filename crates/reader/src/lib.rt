@@ -57,13 +57,10 @@ fn judge_lines(text: &[u8], draft: &mut Draft) -> Result<(), RefusedAt>
     requires { Holds draft.old nothing_read }
     ensures { LinesRead text.now result draft.new }
 {
-    let mut lines = text::lines::open(text);
-    let mut number = 0;
-    while let Some(line) = lines.next() {
-        number += 1;
+    for (n, line) in text::lines::open(text).enumerate() {
         judge_line(draft, &line).map_err(|refusal| RefusedAt {
             refusal,
-            line: number,
+            line: n + 1,
         })?;
     }
     Ok(())

@@ -1,5 +1,6 @@
 // A reader that goes down a text line by line.
-ghost use Rattle.std.specs.Prelude.{◌≡◌, ◌&&◌, eqb, leb};
+ghost use Rattle.std.specs.Prelude.{◌≡◌, ◌&&◌, ◌+◌, ◌-◌, length, eqb, leb};
+ghost use Rattle.std.specs.Iterator.{at_most};
 ghost use Rattle.text.specs.Places.{shape_of, ended_after};
 ghost use Rattle.text.specs.Lines.{LineRead};
 
@@ -81,12 +82,15 @@ pub fn open<'a>(text: &'a [u8]) -> Reader<'a>
     Reader { text, at: 0 }
 }
 
-impl<'a> Reader<'a> {
+impl<'a> Iterator for Reader<'a> {
+    type Item = Line<'a>;
+
+    ghost remaining = { λ r. at_most (length r.text.now + 1 - r.at) };
+
+    ghost next_gives = { λ old line new. LineRead old.text.now old.at line new.at × (new.text ≡ old.text) };
+
     // The line at the reader's place, past which it goes; none at the end of the text.
-    pub fn next(&mut self) -> Option<Line<'a>>
-        ensures line { LineRead self.old.text.now self.old.at result self.new.at }
-        ensures text { self.new.text ≡ self.old.text }
-    {
+    fn next(&mut self) -> Option<Line<'a>> {
         if self.text.len() <= self.at {
             return None;
         }

@@ -1,13 +1,10 @@
 -- `reader::judge_lines` meets its contract: the lines judged so far, with the reader at its place in the text lent.
-use Rattle.semantics.proofs.Prelude.{◌≡◌, ◌+◌, ◌-◌, length}
+use Rattle.semantics.proofs.Prelude.{◌≡◌}
 use Rattle.reader.proofs.NextLine.{Along}
 use Rattle.reader.proofs.judge_lines.Given as goal
 
-abbrev pub invariant-loop-line : goal.invariant-loop-line
-invariant-loop-line l = record {
-  lent : l.lines.text.now ≡ l.text;
-  along : Along l.text l.lines.at l.number l.draft;
+abbrev pub invariant-loop-n : goal.invariant-loop-n
+invariant-loop-n l = record {
+  lent : l.n-iterator.iter.text.now ≡ l.text;
+  along : Along l.text l.n-iterator.iter.at l.n-iterator.count l.draft;
 }
-
-abbrev pub decreases-loop-line : goal.decreases-loop-line
-decreases-loop-line l = length l.text + 1 - l.lines.at

@@ -1,8 +1,8 @@
--- `text::lines::Reader::next` meets its contract: the line ends within the text.
+-- `text::lines::ReaderIterator::next` meets its contract: the line ends within the text.
 use Rattle.semantics.proofs.Prelude.{◌≤◌, ap, arith, length, rules}
 use Rattle.text.specs.declared.lines.Shape.{Shape}
 use Rattle.text.proofs.Places.{ends_within}
-use Rattle.text.proofs.lines.Reader.next.Goals as goal
+use Rattle.text.proofs.lines.ReaderIterator.next.Goals as goal
 
 pub slice_bounds-bytes-end : goal.slice_bounds-bytes-end
 slice_bounds-bytes-end c =
