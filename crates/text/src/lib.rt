@@ -134,8 +134,7 @@ fn natural_in(f: &[u8]) -> Option<u32>
 fn unsigned(f: &[u8]) -> Option<i32>
     ensures { result ≡ number_read (nonnegative (natural_of f.now)) }
 {
-    let n = natural_in(f)?;
-    Some(n as i32)
+    i32::try_from(natural_in(f)?).ok()
 }
 
 // A number of any length, with or without `-`, its magnitude cut. There is no `-0`.
