@@ -1,11 +1,14 @@
 -- The first line and the rest of an input by the place of the first LF, and the go line judged by it. Assumes nothing.
-use Rattle.semantics.proofs.Prelude.{◌≡◌, refl, sym, ap, ◌∙◌, Bool, true, false, ◌&&◌, ◌||◌, not, List, [], ◌∷◌, ℕ, zero, suc, ◌+◌, ◌≤◌, add-one, arith, leb, ltb, eqb, leb-suc-suc, length, take, drop, take-length, ltb-true, ltb-false, lt-leb, le-leb, lt-ltb, le-ltb}
+use Rattle.semantics.proofs.Prelude.{◌≡◌, refl, sym, ap, ◌∙◌, Bool, true, false, ◌&&◌, ◌||◌, not, List, [], ◌∷◌, ℕ, zero, suc, ◌+◌, ◌≤◌, zero-add, add-one, arith, leb, ltb, eqb, leb-suc-suc, length, take, drop, take-length, length-take, ltb-true, ltb-false, lt-leb, le-leb, lt-ltb, le-ltb}
 use Rattle.semantics.specs.Layout.{go_line_bytes}
 use Rattle.semantics.specs.Lists.{pick, all}
 use Rattle.semantics.specs.Text.{fields}
 use Rattle.semantics.specs.Reading.{check}
 use Rattle.semantics.specs.Program.{has_lf, first_line, past_line, line_byte, go_fields, go_line}
 use Rattle.text.specs.Fields.{up_to}
+use Rattle.text.specs.Places.{shape_of}
+use Rattle.text.specs.declared.lines.Shape.{Shape}
+use Rattle.text.proofs.LineEnds.{up_to_le}
 
 first_is : (l : List ℕ) → first_line l ≡ take (up_to 10 l) l
 unfolding up_to
@@ -26,7 +29,7 @@ past_is (b ∷ bs) = at_byte (eqb b 10) (past_is bs)
     at_byte false ih = ih
 
 -- the rest of the input, by the place e of the first LF
-pub past_end : (l : List ℕ) (e : ℕ) → e ≡ up_to 10 l → drop (e + 1) l ≡ past_line l
+past_end : (l : List ℕ) (e : ℕ) → e ≡ up_to 10 l → drop (e + 1) l ≡ past_line l
 past_end l e p = rw (add-one, p) (sym (past_is l))
 
 -- an LF is among the first n bytes where its place is below n
@@ -59,7 +62,25 @@ late_is n l = by_test (ltb n (length l)) refl
     by_test false e = refl
 
 -- the go line by the place e of its LF, which is the input's length where there is none
-pub by_its_end : (l : List ℕ) (e : ℕ) → e ≡ up_to 10 l
+by_its_end : (l : List ℕ) (e : ℕ) → e ≡ up_to 10 l
     → go_line l ≡ check (not (ltb go_line_bytes (length l) && leb go_line_bytes e)) 1 (check (all line_byte (take e l)) 2 (check (ltb e (length l)) 3 (go_fields (fields (take e l)))))
 unfolding go_line
 by_its_end l e p = rw (p, late_is go_line_bytes l, first_is l, lf_is l)
+
+-- the line as it was measured
+module _ (input : List ℕ) (s : Shape) (measured : s ≡ shape_of input 0) where
+  end_is : s.end ≡ up_to 10 input
+  end_is = ap (λ (s : Shape). s.end) measured ∙ zero-add (up_to 10 input)
+
+  pub end_within : s.end ≤ length input
+  end_within = omega (arith, end_is, up_to_le 10 input)
+
+  pub part_long : s.end ≡ length (take s.end input)
+  part_long = simp length-take (omega (arith, end_within))
+
+  pub rest_is : drop (s.end + 1) input ≡ past_line input
+  rest_is = past_end input s.end end_is
+
+  pub judged : go_line input
+      ≡ check (not (ltb go_line_bytes (length input) && leb go_line_bytes s.end)) 1 (check (all line_byte (take s.end input)) 2 (check (ltb s.end (length input)) 3 (go_fields (fields (take s.end input)))))
+  judged = by_its_end input s.end end_is

@@ -3,7 +3,7 @@ pub mod FirstLine
 pub mod CutAmounts
 -- What reading answers, then that the calls go through; and that its buffer is long enough.
 pub mod ReadAnswers
-pub mod Shown
+pub mod Said
 pub mod GoThrough
 pub mod RunThrough
 pub mod BufferEnough

@@ -1,44 +1,42 @@
 -- What the parts of the program ask, and what they leave. Assumes nothing.
-use Rattle.std.specs.Prelude.{◌≡◌, ◌⊎◌, List, [], ◌++◌, ℕ, ◌<◌, T, ℤ, length, take, drop}
-use Rattle.semantics.specs.Layout.{most_slots, table_words}
-use Rattle.semantics.specs.Chart.{Chart}
-use Rattle.semantics.specs.Reading.{ok, nth}
-use Rattle.semantics.specs.Algorithm.{Exploration}
-use Rattle.semantics.specs.Constants.{AbstractState}
-use Rattle.semantics.specs.Encoding.{well_formed}
-use Rattle.semantics.specs.Memory.{Memory}
-use Rattle.semantics.specs.Outcomes.{put_in}
+use Rattle.std.specs.Prelude.{◌≡◌, ◌⊎◌, List, [], ◌++◌, ℕ, ◌<◌, T, ℤ, length, take, drop, Result, Ok, Err}
+use Rattle.semantics.specs.Listing.{refused_text}
+use Rattle.semantics.specs.Reading.{ok, nth, Reading, refused, accepted}
+use Rattle.semantics.specs.Refusals.{number_of}
+use Rattle.semantics.specs.Encoding.{decode, well_formed}
 use Rattle.semantics.specs.Program.{go_line}
-use Rattle.semantics.specs.declared.Settings.{Settings}
-use Rattle.semantics.specs.declared.Analysis.{Analysis}
-use Rattle.semantics.specs.declared.Verdict.TheVariants.{Open}
+use Rattle.semantics.specs.declared.Refusal.{Refusal}
+use Rattle.semantics.specs.declared.RefusedAt.{RefusedAt}
 use Rattle.program.specs.declared.go_line.Go.{Go}
 use Rattle.program.specs.Asked.{asking}
 
--- the record before the first call, which a beginning that goes through does not look at
-abbrev pub no_analysis : Settings → Analysis
-no_analysis z = record { settings = z; capacity = 0; iterations = 0; used = 0; waiting = 0; verdict = Open; edge = record { 0 = 0 } }
+-- "0 where no line applies"
+abbrev pub at_line_0 : Refusal → RefusedAt
+at_line_0 r = record { refusal = r; line = 0 }
+
+abbrev pub said_at_line_0 : {A : Type 0} → Result A Refusal → Result A RefusedAt
+said_at_line_0 (Ok a) = Ok a
+said_at_line_0 (Err r) = Err (at_line_0 r)
 
 -- the go line of some input asks it, and was accepted
 pub record Accepted (g : Go) : Type 0 where
   pub input : List ℕ
   pub is : go_line input ≡ ok (asking g)
 
--- the words of an accepted chart, and the words that the program lends: "It lends enough, so 14 and 15 never appear"
-pub record Lends (ws t l : List ℤ) : Type 0 where
-  pub formed : T (well_formed ws)
-  pub table : length t ≡ table_words
-  pub list : length l ≡ most_slots
-
--- the memory is the exploration, put into words lent
-pub record PutIn (c : Chart) (w : Exploration AbstractState) (m : Memory) : Type 0 where
-  pub over : Memory
-  pub same : m ≡ put_in c w over
+-- the words of the chart that was accepted, or why it was refused
+abbrev pub Held : Reading → Result (List ℤ) RefusedAt → Type 0
+Held r (Ok words) = T (well_formed words) × (r ≡ accepted (decode words))
+Held r (Err e) = r ≡ refused (number_of e.refusal) e.line
 
 -- the text stands at the front of the bytes lent, and r is its length; "bytes past a listing's end, are untouched"
 pub record Printed (text out out' : List ℕ) (r : ℕ) : Type 0 where
   pub long : r ≡ length text
   pub bytes : out' ≡ text ++ drop (length text) out
+
+-- the text was printed; or it is the line of the refusal that is answered, and no byte was written
+abbrev pub Answered : List ℕ → List ℕ → Result ℕ RefusedAt → List ℕ → Type 0
+Answered text out (Ok r) out' = Printed text out out' r
+Answered text out (Err e) out' = (text ≡ refused_text (number_of e.refusal) e.line) × (out' ≡ out)
 
 -- the arguments as they are handed on: how many there are, and of the first, if there is one, the buffer that it was read
 -- into and its length, which is 0 where the argument is longer than the buffer

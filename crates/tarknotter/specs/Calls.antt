@@ -1,11 +1,11 @@
 -- What begin and run owe at the boundary: the reply, the record and every lent word at exit are those of the outcome.
 -- Assumes nothing.
-use Rattle.std.specs.Prelude.{◌≡◌, not, List, [], ◌∷◌, ℕ, eqb, ℤ}
+use Rattle.std.specs.Prelude.{◌≡◌, not, List, [], ◌∷◌, ℕ, eqb, ℤ, Result, Ok, Err}
 use Rattle.semantics.specs.Lists.{pick}
 use Rattle.semantics.specs.Memory.{Memory}
 use Rattle.semantics.specs.declared.Analysis.{Analysis}
-use Rattle.semantics.specs.declared.Answer.{Answer}
-use Rattle.semantics.specs.Outcomes.{Outcome, case, refusal, settled, begin_outcome}
+use Rattle.semantics.specs.declared.Refusal.{Refusal}
+use Rattle.semantics.specs.Outcomes.{Answer, Outcome, case, refusal, settled, begin_outcome}
 use Rattle.tarknotter.specs.declared.Record.{Record}
 use Rattle.tarknotter.specs.declared.Called.{Called}
 use Rattle.tarknotter.specs.Replies.{as_reply}
@@ -20,6 +20,11 @@ begin_by_codes words merge stop order r a m =
 -- nothing
 abbrev pub record_after : Record → Answer → Analysis → Record
 record_after before answer a = pick (eqb answer.number 0) (record_of a) before
+
+-- the same by what the call says
+abbrev pub record_said : Record → Result Analysis Refusal → Record
+record_said before (Ok a) = record_of a
+record_said before (Err r) = before
 
 -- a call lent the record `before`
 pub record EndsByCodes (o : Outcome) (before : Record) (r : Called) (t l : List ℤ) : Type 0 where

@@ -1,5 +1,5 @@
 -- An answer in the layout that other languages see. Assumes nothing.
-use Rattle.semantics.specs.declared.Answer.{Answer}
+use Rattle.semantics.specs.Outcomes.{Answer}
 use Rattle.tarknotter.specs.declared.Reply.{Reply}
 
 -- field by field

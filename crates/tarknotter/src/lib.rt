@@ -2,18 +2,19 @@
 // is thin over the crate that does its work; the crate `tarknotter_c` exports them.
 #![tactic(auto)]
 
-ghost use Rattle.std.specs.Prelude.{◌≡◌};
+ghost use Rattle.std.specs.Prelude.{◌≡◌, ◌-◌, ◌<◌, min, length, slice_get, Some};
 ghost use Rattle.semantics.specs.Encoding.{well_formed};
-ghost use Rattle.semantics.specs.Outcomes.{read_outcome, run_outcome, listing_outcome, path_outcome, search_outcome};
+ghost use Rattle.semantics.specs.Outcomes.{fine, refused_by, read_outcome, run_outcome, listing_outcome, path_outcome, search_outcome};
+ghost use Rattle.semantics.specs.Refusals.{number_of, answer_of, listed_of, read_of};
 ghost use Rattle.checks.specs.Form.{lent};
 ghost use Rattle.tarknotter.specs.Replies.{as_reply};
-ghost use Rattle.tarknotter.specs.Records.{mode_code, order_code, verdict_code, record_of, mode_in, order_in, verdict_in, settings_in, settings_named, codes_named, analysis_in};
-ghost use Rattle.tarknotter.specs.Calls.{begin_by_codes, record_after, EndsByCodes};
+ghost use Rattle.tarknotter.specs.Records.{record_of, settings_in, settings_named, codes_named, analysis_in};
+ghost use Rattle.tarknotter.specs.Calls.{begin_by_codes, record_said, EndsByCodes};
 
-use semantics::{Analysis, EdgeId, Mode, Order, Settings, Verdict};
+use semantics::{Analysis, EdgeId, Mode, Order, Refusal, RefusedAt, Settings, Verdict};
 
-// `semantics::Answer` with the layout of C: 0 and line 0 with the length of a listing, path or run, or the refusal's number
-// and line.
+// What a call answers, with the layout of C: 0 and line 0 with the length of a listing, path or run, or the refusal's
+// number and line.
 #[repr(C)]
 #[derive(Clone, Copy)]
 pub struct Reply {
@@ -46,108 +47,97 @@ pub struct Called {
     pub record: Record,
 }
 
-// Field by field.
-fn replied(a: semantics::Answer) -> Reply
-    ensures { result ≡ as_reply a }
-{
-    Reply {
-        number: a.number,
-        line: a.line,
-        length: a.length,
+// ---- the reply
+
+impl Reply {
+    fn fine(length: usize) -> Reply
+        ensures { result ≡ as_reply (fine length) }
+    {
+        Reply {
+            number: 0,
+            line: 0,
+            length,
+        }
+    }
+
+    fn refused(refusal: Refusal, line: usize) -> Reply
+        ensures { result ≡ as_reply (refused_by (number_of refusal) line) }
+    {
+        Reply {
+            number: refusal.into(),
+            line,
+            length: 0,
+        }
+    }
+}
+
+impl From<Result<(), RefusedAt>> for Reply {
+    ghost from_gives = { λ said reply. reply ≡ as_reply (read_of said) };
+
+    fn from(said: Result<(), RefusedAt>) -> Reply {
+        match said {
+            Ok(()) => Reply::fine(0),
+            Err(e) => Reply::refused(e.refusal, e.line),
+        }
+    }
+}
+
+// A listing, path or run is answered by its length.
+impl From<Result<usize, Refusal>> for Reply {
+    ghost from_gives = { λ said reply. reply ≡ as_reply (listed_of said) };
+
+    fn from(said: Result<usize, Refusal>) -> Reply {
+        match said {
+            Ok(length) => Reply::fine(length),
+            Err(refusal) => Reply::refused(refusal, 0),
+        }
     }
 }
 
 // ---- the record written
 
-fn mode_code(m: Mode) -> u32
-    ensures { result ≡ mode_code m }
-{
-    match m {
-        Mode::Sep => 0,
-        Mode::Join => 1,
+// The code of a mode, an order or a verdict is its place among the variants.
+impl From<Analysis> for Record {
+    ghost from_gives = { λ a r. r ≡ record_of a };
+
+    fn from(a: Analysis) -> Record {
+        Record {
+            merge: a.settings.merge as u32,
+            stop: a.settings.stop as u32,
+            order: a.settings.order as u32,
+            capacity: a.capacity,
+            iterations: a.iterations,
+            used: a.used,
+            waiting: a.waiting,
+            verdict: a.verdict as u32,
+            edge: a.edge.0,
+        }
     }
 }
 
-fn order_code(o: Order) -> u32
-    ensures { result ≡ order_code o }
-{
-    match o {
-        Order::Old => 0,
-        Order::New => 1,
-    }
-}
+// ---- the record read
 
-fn verdict_code(v: Verdict) -> u32
-    ensures { result ≡ verdict_code v }
-{
-    match v {
-        Verdict::Open => 0,
-        Verdict::Safe => 1,
-        Verdict::Alarm => 2,
-        Verdict::Full => 3,
-    }
-}
+const MODES: [Mode; 2] = [Mode::Sep, Mode::Join];
 
-fn record_of(a: Analysis) -> Record
-    ensures { result ≡ record_of a }
-{
-    let settings = a.settings;
-    let merge = settings.merge;
-    let stop = settings.stop;
-    let order = settings.order;
-    let verdict = a.verdict;
-    let edge = a.edge;
-    Record {
-        merge: mode_code(merge),
-        stop: mode_code(stop),
-        order: order_code(order),
-        capacity: a.capacity,
-        iterations: a.iterations,
-        used: a.used,
-        waiting: a.waiting,
-        verdict: verdict_code(verdict),
-        edge: edge.0,
-    }
-}
+const ORDERS: [Order; 2] = [Order::Old, Order::New];
 
-// ---- the record read: a code that names nothing is read as the last that names something
+const VERDICTS: [Verdict; 4] = [Verdict::Open, Verdict::Safe, Verdict::Alarm, Verdict::Full];
 
-fn mode_in(code: u32) -> Mode
-    ensures { result ≡ mode_in code }
+// What a code names: the one of these at its place. A code that names nothing is read as the last.
+fn named<T: Copy>(all: &[T], code: u32) -> T
+    requires { 0 < length all.now }
+    ensures { slice_get all.now (min code (length all.now - 1)) ≡ Some result }
 {
-    match code {
-        0 => Mode::Sep,
-        _ => Mode::Join,
-    }
-}
-
-fn order_in(code: u32) -> Order
-    ensures { result ≡ order_in code }
-{
-    match code {
-        0 => Order::Old,
-        _ => Order::New,
-    }
-}
-
-fn verdict_in(code: u32) -> Verdict
-    ensures { result ≡ verdict_in code }
-{
-    match code {
-        0 => Verdict::Open,
-        1 => Verdict::Safe,
-        2 => Verdict::Alarm,
-        _ => Verdict::Full,
-    }
+    all[(code as usize).min(all.len() - 1)]
 }
 
 fn settings_in(merge: u32, stop: u32, order: u32) -> Settings
     ensures { result ≡ settings_in merge stop order }
 {
     Settings {
-        merge: mode_in(merge),
-        stop: mode_in(stop),
-        order: order_in(order),
+        merge: named(&MODES, merge),
+        stop: named(&MODES, stop),
+        order: named(&ORDERS, order),
     }
 }
 
@@ -159,15 +149,15 @@ fn settings_named(merge: u32, stop: u32, order: u32) -> bool
 }
 
 // Whether each code of the record names something.
-fn codes_named(r: Record) -> bool
-    ensures { result ≡ codes_named r }
+fn codes_named(r: &Record) -> bool
+    ensures { result ≡ codes_named r.now }
 {
     settings_named(r.merge, r.stop, r.order) & (r.verdict < 4)
 }
 
 // The iterations, or a count that form rule 21 refuses where a code names nothing.
-fn iterations_in(r: Record) -> u32
-    ensures { result ≡ (analysis_in r).iterations }
+fn iterations_in(r: &Record) -> u32
+    ensures { result ≡ (analysis_in r.now).iterations }
 {
     if codes_named(r) {
         return r.iterations;
@@ -175,38 +165,32 @@ fn iterations_in(r: Record) -> u32
     semantics::MOST_ITERATIONS + 1
 }
 
-fn analysis_in(r: Record) -> Analysis
-    ensures { result ≡ analysis_in r }
-{
-    Analysis {
-        settings: settings_in(r.merge, r.stop, r.order),
-        capacity: r.capacity,
-        iterations: iterations_in(r),
-        used: r.used,
-        waiting: r.waiting,
-        verdict: verdict_in(r.verdict),
-        edge: EdgeId(r.edge),
+impl From<Record> for Analysis {
+    ghost from_gives = { λ r a. a ≡ analysis_in r };
+
+    fn from(r: Record) -> Analysis {
+        Analysis {
+            settings: settings_in(r.merge, r.stop, r.order),
+            capacity: r.capacity,
+            iterations: iterations_in(&r),
+            used: r.used,
+            waiting: r.waiting,
+            verdict: named(&VERDICTS, r.verdict),
+            edge: EdgeId(r.edge),
+        }
     }
 }
 
 // ---- the calls
 
 // What a call answers, with the record before where it refuses.
-fn answered(before: Record, c: calls::Called) -> Called
-    ensures reply { result.reply ≡ as_reply c.answer }
-    ensures record { result.record ≡ record_after before c.answer c.analysis }
+fn answered(before: Record, called: Result<Analysis, Refusal>) -> Called
+    ensures reply { result.reply ≡ as_reply (answer_of called) }
+    ensures record { result.record ≡ record_said before called }
 {
-    let answer = c.answer;
-    if answer.number != 0 {
-        return Called {
-            reply: replied(answer),
-            record: before,
-        };
-    }
-    let analysis = c.analysis;
     Called {
-        reply: replied(answer),
-        record: record_of(analysis),
+        reply: called.map(|_| 0).into(),
+        record: called.map_or(before, Record::from),
     }
 }
 
@@ -215,7 +199,7 @@ pub fn tarknotter_read(text: &[u8], words: &mut [i32]) -> Reply
     ensures reply { result ≡ as_reply (read_outcome text.now words.old).answer }
     ensures words { words.new ≡ (read_outcome text.now words.old).words }
 {
-    replied(reader::read(text, words))
+    reader::read(text, words).into()
 }
 
 // Whether the words begin with the encoding of a chart that reading can produce.
@@ -241,23 +225,12 @@ pub fn tarknotter_begin(
     ensures { EndsByCodes (begin_by_codes chart.now merge stop order capacity budget (lent table.old list.old (analysis_in «record»))) «record» result table.new list.new }
 {
     if !settings_named(merge, stop, order) {
-        return Called {
-            reply: replied(semantics::refused(6, 0)),
-            record,
-        };
+        return answered(record, Err(Refusal::Malformed));
     }
     let settings = settings_in(merge, stop, order);
     answered(
         record,
-        calls::begin(
-            chart,
-            settings,
-            capacity,
-            budget,
-            analysis_in(record),
-            table,
-            list,
-        ),
+        calls::begin(chart, settings, capacity, budget, table, list),
     )
 }
 
@@ -273,7 +246,7 @@ pub fn tarknotter_run(
 {
     answered(
         record,
-        calls::run_by_value(chart, budget, analysis_in(record), table, list),
+        calls::run_by_value(chart, budget, record.into(), table, list),
     )
 }
 
@@ -288,7 +261,7 @@ pub fn tarknotter_listing(
     ensures reply { result ≡ as_reply (listing_outcome chart.now (lent table.now list.now (analysis_in «record»)) space.old).answer }
     ensures space { space.new ≡ (listing_outcome chart.now (lent table.now list.now (analysis_in «record»)) space.old).space }
 {
-    replied(listing::listing(chart, analysis_in(record), table, list, space))
+    listing::listing(chart, record.into(), table, list, space).into()
 }
 
 // Writes the path to the alarm of an analysis and answers its length.
@@ -302,7 +275,7 @@ pub fn tarknotter_path(
     ensures reply { result ≡ as_reply (path_outcome chart.now (lent table.now list.now (analysis_in «record»)) space.old).answer }
     ensures space { space.new ≡ (path_outcome chart.now (lent table.now list.now (analysis_in «record»)) space.old).space }
 {
-    replied(listing::path(chart, analysis_in(record), table, list, space))
+    listing::path(chart, record.into(), table, list, space).into()
 }
 
 // Writes a shortest run of at most k moves into an error location or an overrun, or that there is none, and answers its
@@ -311,5 +284,5 @@ pub fn tarknotter_search(chart: &[i32], k: i32, space: &mut [u8]) -> Reply
     ensures reply { result ≡ as_reply (search_outcome chart.now k space.old).answer }
     ensures space { space.new ≡ (search_outcome chart.now k space.old).space }
 {
-    replied(search::search(chart, k, space))
+    search::search(chart, k, space).into()
 }
