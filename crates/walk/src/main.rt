@@ -6,6 +6,7 @@
 ghost use Rattle.std.specs.Prelude.{◌≤◌, length};
 
 use semantics::{Command, View};
+
 use std::env::{Env, FillError};
 use std::io;
 use std::io::{IsTerminal, Read, Stderr, Stdin, Stdout, Write};
@@ -111,9 +112,13 @@ where
 }
 
 fn show(streams: &mut Streams, view: View) {
-    answer(streams, b"a go line and a chart", |input, count, out| {
-        program::respond_to(view, input, count, out)
-    });
+    answer(
+        streams,
+        b"a go line and a chart",
+        |input, count, out|
+            ensures { result ≤ length out.new }
+        { program::respond_to(view, input, count, out) },
+    );
 }
 
 // The second argument is the count of moves, which is judged before the chart, but after both were read.
@@ -121,9 +126,13 @@ fn search(rt: &HostRuntime, streams: &mut Streams) {
     let mut argument = [0u8; LONGEST_ARGUMENT];
     let end = argument_in(rt, 2, &mut argument);
     let k = &argument[..end];
-    answer(streams, b"a chart without a go line", |input, count, out| {
-        program::respond_search_to(k, input, count, out)
-    });
+    answer(
+        streams,
+        b"a chart without a go line",
+        |input, count, out|
+            ensures { result ≤ length out.new }
+        { program::respond_search_to(k, input, count, out) },
+    );
 }
 
 // The argument's bytes at the start of the buffer, and how many there are: 0 where it is missing or does not fit.
