@@ -58,11 +58,7 @@ fn field(line: &[u8], k: usize) -> &[u8]
 
 // Capacity and budget, numbers in form only, then their sizes: 11, 12, 13.
 #[tactic(auto, unfolding(text::specs::Fields::res_by, text::specs::Fields::number_said, semantics::specs::Reading::if_ok))]
-fn amounts(
-    settings: Settings,
-    capacity: Option<i32>,
-    budget: Option<i32>,
-) -> Result<Go, Refusal>
+fn amounts(settings: Settings, capacity: Option<i32>, budget: Option<i32>) -> Result<Go, Refusal>
     ensures { res_by asking result ≡ amounts settings (number_said capacity) (number_said budget) }
 {
     let capacity = capacity.ok_or(Refusal::Malformed)?;

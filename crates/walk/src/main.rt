@@ -6,7 +6,6 @@
 ghost use Rattle.std.specs.Prelude.{◌≤◌, length};
 
 use semantics::{Command, View};
-
 use std::env::{Env, FillError};
 use std::io;
 use std::io::{IsTerminal, Read, Stderr, Stdin, Stdout, Write};
