@@ -1,6 +1,6 @@
 -- The beginning goes through, and the memory is what was explored; a view of it is printed, or refused by 24. Assumes
 -- nothing.
-use Rattle.semantics.proofs.Prelude.{◌≡◌, ap, ◌∙◌, Bool, true, false, List, ℕ, ◌≤◌, arith, T, ℤ, length, refl}
+use Rattle.semantics.proofs.Prelude.{◌≡◌, ap, ◌∙◌, Bool, true, false, List, ℕ, arith, T, ℤ, length, refl}
 use Rattle.std.specs.Prelude.{Result, Ok, Err}
 use Rattle.semantics.specs.Layout.{most_slots, listing_bytes, table_words}
 use Rattle.semantics.specs.Chart.{Chart}
@@ -17,7 +17,6 @@ use Rattle.semantics.specs.declared.View.{View}
 use Rattle.semantics.specs.declared.View.TheVariants.{Listing, Path}
 use Rattle.semantics.specs.Program.{explored, shown}
 use Rattle.semantics.proofs.Encoded.{well_formed_split}
-use Rattle.semantics.proofs.StatesOk.{bounds}
 use Rattle.semantics.proofs.Program.{GoOk, explored_good}
 use Rattle.semantics.proofs.InputCut.{go_fine}
 use Rattle.semantics.proofs.ProgramCalls.{begin_goes, listing_goes, path_goes, path_refused}

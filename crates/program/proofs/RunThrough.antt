@@ -5,7 +5,7 @@ use Rattle.semantics.specs.Layout.{listing_bytes}
 use Rattle.semantics.specs.Encoding.{decode, well_formed}
 use Rattle.semantics.specs.Reading.{accepted}
 use Rattle.semantics.specs.RunListing.{moves_ok, too_wide}
-use Rattle.semantics.specs.Outcomes.{Answer, SearchOutcome, search_outcome}
+use Rattle.semantics.specs.Outcomes.{SearchOutcome, search_outcome}
 use Rattle.semantics.specs.Refusals.{listed_of}
 use Rattle.semantics.specs.Program.{print_run}
 use Rattle.semantics.specs.declared.Refusal.{Refusal}

@@ -2,7 +2,6 @@
 use Rattle.semantics.proofs.Prelude.{◌≡◌, refl, sym, ap, ◌∙◌, true, false, T, subst, rules, w32, to_z, of_z}
 use Rattle.std.proofs.lemmas.Result.{err_from_is_err_and}
 use Rattle.semantics.specs.RunListing.{moves_ok}
-use Rattle.semantics.specs.declared.RefusedAt.{RefusedAt}
 use Rattle.program.proofs.CutAmounts.{no_number, out_of_range, in_range}
 use Rattle.program.proofs.Said.{said, none_or}
 use Rattle.program.proofs.RunThrough.{run_answered}

@@ -1,5 +1,5 @@
 -- `program::go_line::read` meets its contract: the line is judged by the place of its LF.
-use Rattle.semantics.proofs.Prelude.{◌≡◌, sym, ◌∙◌, ◌+◌, ◌≤◌, ◌<◌, arith, length, lt-ltb, le-ltb}
+use Rattle.semantics.proofs.Prelude.{sym, ◌∙◌, ◌+◌, ◌<◌, arith, length, lt-ltb, le-ltb}
 use Rattle.semantics.specs.Reading.{check}
 use Rattle.text.specs.Fields.{res_by}
 use Rattle.program.proofs.FirstLine.{end_within, part_long, judged, rest_is}
