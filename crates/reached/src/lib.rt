@@ -18,7 +18,8 @@ use state::{Layout, SlotRow};
 pub mod links;
 
 // Merges the row e into each slot in use; each slot that changes waits again. How many are waiting then. Slots of another
-// location would not change: the links pass over them.
+// location would not change: the links pass over them. Seven parameters stay: a struct of them would be made for the one call
+// of it, and `Scan` below has its table to read, not to write.
 pub fn merge_slots(
     layout: Layout,
     table: &mut [i32],

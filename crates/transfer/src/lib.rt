@@ -174,7 +174,8 @@ fn holds(rel: Relation, a: i32, b: i32) -> bool
     }
 }
 
-// The relation from the other side.
+// The relation from the other side. The match is the table itself: an array would hold the six turned relations
+// without those that they are turned from.
 fn turned(rel: Relation) -> Relation
     ensures { the_relation result ≡ turned (the_relation rel) }
 {

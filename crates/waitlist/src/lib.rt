@@ -2,8 +2,10 @@
 // slots that wait. A function that puts a slot on the list or takes a named one off returns the count after it; the
 // take of the next slot returns that slot, and leaves one fewer.
 // The bounds only keep a slot's number in a word: a list of fewer than `index_limit` words names none that does not fit.
-// List and count stay two parameters: a struct that held the lent list would need a clause on its reference's ghost name in
-// each function that is lent one, here, in `reached`, `progress` and `analysis`, and would read no plainer.
+// List and count stay two parameters: the count is a field of `Analysis`, whose layout the C interface fixes, and a struct of
+// the two would hold it once more. Tried with the fact `Stored` in it: append and take_slot prove and ask for `Stored` no
+// longer, but ensure that the reference and the length stay, which a slice lent does by itself. So would each function of
+// `reached`, `progress` and `analysis` that is lent the list on the way.
 #![tactic(auto)]
 
 ghost use Rattle.std.specs.Prelude.{◌≡◌, ◌∷◌, [], ◌++◌, map, ◌+◌, ◌-◌, ◌<◌, ◌≤◌, eqb, pos, nat_abs, length, take, drop, replicate};
