@@ -720,11 +720,20 @@ pub fn edge_to(chart: &[i32], edge: EdgeRow) -> LocationId
     LocationId(words::number_at(chart, edge.at + TO_PLACE))
 }
 
+// The code of its operation, and what it stands for.
+pub fn edge_operation(chart: &[i32], edge: EdgeRow) -> usize
+    requires { edge.at < index_limit }
+    ensures code { result ≡ count chart.now (edge.at + operation_place) }
+    ensures small { result < index_limit }
+{
+    words::number_at(chart, edge.at + OPERATION_PLACE)
+}
+
 pub fn edge_kind(chart: &[i32], edge: EdgeRow) -> Kind
     requires { edge.at < index_limit }
     ensures { result ≡ kind_of (count chart.now (edge.at + operation_place)) }
 {
-    kind_of(words::number_at(chart, edge.at + OPERATION_PLACE))
+    kind_of(edge_operation(chart, edge))
 }
 
 pub fn edge_target(chart: &[i32], edge: EdgeRow) -> usize

@@ -32,6 +32,15 @@ impl<'a> Writer<'a> {
         Writer { space, at: 0 }
     }
 
+    // The same from a place on, which may lie past the end.
+    pub fn from(space: &'a mut [u8], at: usize) -> Writer<'a>
+        ensures same { result.space.ghost_name ≡ space.entry.ghost_name }
+        ensures bytes { result.space.now ≡ space.old }
+        ensures at { result.at ≡ at }
+    {
+        Writer { space, at }
+    }
+
     // The place that comes next.
     pub fn at(&self) -> usize
         ensures { result ≡ self.now.at }
