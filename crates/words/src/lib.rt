@@ -25,13 +25,6 @@ pub fn word_at(s: &[i32], i: usize) -> i32
     s.get(i).copied().unwrap_or(0)
 }
 
-// A word in 64 bits, where sums and negations fit.
-pub fn wide(a: i32) -> i64
-    ensures { result ≡ a }
-{
-    i64::from(a)
-}
-
 // The number that a word says, whatever its sign.
 pub fn magnitude(w: i32) -> usize
     ensures number { result ≡ nat_abs w }
@@ -71,14 +64,6 @@ pub fn is_below(n: usize, w: i32) -> bool
 }
 
 // ---- all words
-
-// The lengths are the same.
-pub fn copy_words(dst: &mut [i32], src: &[i32])
-    requires { length dst.old ≡ length src.now }
-    ensures { dst.new ≡ src.now }
-{
-    dst.copy_from_slice(src);
-}
 
 pub fn fill_zero(s: &mut [i32])
     ensures { s.new ≡ replicate (length s.old) (pos 0) }
