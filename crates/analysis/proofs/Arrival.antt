@@ -2,7 +2,7 @@
 use Rattle.semantics.proofs.Prelude.{◌≡◌, refl, sym, ap, subst, ◌∙◌, true, false, List, [], ◌∷◌, ◌++◌, append_assoc, append-nil, map-append, ℕ, suc, ◌+◌, ◌-◌, ◌≤◌, ◌<◌, add-one, arith, lt-ltb, le-ltb, T, ltb, ℤ, length, length-append}
 use Rattle.semantics.specs.declared.Analysis.{Analysis}
 use Rattle.semantics.specs.Lists.{pick, some_of}
-use Rattle.semantics.specs.Algorithm.{Origin, Out, on, alarmed, full, then, taking, brought, merged, stopped, arrive}
+use Rattle.semantics.specs.Algorithm.{Origin, Out, on, full, then, taking, brought, merged, stopped, arrive}
 use Rattle.state.specs.declared.Layout.{Layout}
 use Rattle.state.specs.Rows.{row_leq, rows_of}
 use Rattle.waitlist.specs.Waits.{waits}
@@ -53,9 +53,6 @@ module _ (os : List Origin) (k n : ℕ) where
 
   pub noted_full : (used : ℕ) (en : List (List ℤ)) (wa : List ℕ) → os ≡ os ++ brought k (taking n used (full en wa) (λ en wa. []))
   noted_full used en wa = no_slot_taken
-
-  pub noted_alarm : (used m : ℕ) (en : List (List ℤ)) (wa : List ℕ) → os ≡ os ++ brought k (taking n used (alarmed m en wa) (λ en wa. []))
-  noted_alarm used m en wa = no_slot_taken
 
 -- ---- the edges
 

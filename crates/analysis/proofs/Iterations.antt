@@ -1,9 +1,7 @@
 -- Laws of an iteration, over what record and words say. Assumes nothing.
-use Rattle.semantics.proofs.Prelude.{◌≡◌, refl, sym, ap, subst, ◌∙◌, false, List, [], ◌∷◌, ◌++◌, Option, ℕ, zero, suc, ◌+◌, ◌-◌, ◌≤◌, ◌<◌, arith, T, ℤ, length}
-use Rattle.semantics.specs.declared.Verdict.{Verdict}
-use Rattle.semantics.specs.declared.Verdict.TheVariants.{Open, Safe, Alarm, Full}
+use Rattle.semantics.proofs.Prelude.{◌≡◌, refl, sym, ap, subst, ◌∙◌, List, ◌++◌, Option, ℕ, zero, suc, ◌+◌, ◌-◌, ◌≤◌, ◌<◌, arith, ℤ, length}
 use Rattle.semantics.specs.declared.Analysis.{Analysis}
-use Rattle.semantics.specs.Algorithm.{Origin, Out, Exploration, Taken, visit_all, takers, brought, with_origins, finish, iteration, has_verdict}
+use Rattle.semantics.specs.Algorithm.{Origin, Out, Exploration, Taken, visit_all, takers, brought, with_origins, finish, iteration}
 use Rattle.semantics.specs.Tidy.{Every, Queue, Tidy}
 use Rattle.semantics.proofs.Tidy.{Left, take_left, Keeps, iteration_tidy}
 use Rattle.state.specs.declared.Layout.{Layout}
@@ -61,17 +59,3 @@ module _ (y : Layout) (last : ℕ) (a : Analysis) (t l : List ℤ) (h : Resumabl
 
       kept : Kept y t₂ l₃ r.used r.waiting
       kept = rw f.used (kept_after g.kept t₂ refl refl refl f.stored ll queue)
-
--- an open analysis has a slot waiting
-pub open_waits : (y : Layout) (last : ℕ) (a : Analysis) (t l : List ℤ) → Resumable y last a t l → has_verdict a.verdict ≡ false → 0 < a.waiting
-open_waits y last a t l h o = go (waits a.waiting l) h.kept.slots.count h.tidy.empty_safe
-  where
-    not_safe : (v : Verdict) → has_verdict v ≡ false → v ≡ Safe → ⊥
-    not_safe Open o e = let z : ◌≡◌ {A = ℕ} 0 1 = cc in omega arith
-    not_safe Safe o e = absurd (subst T o tt)
-    not_safe Alarm o e = absurd (subst T o tt)
-    not_safe Full o e = absurd (subst T o tt)
-
-    go : (wa : List ℕ) → a.waiting ≡ length wa → (wa ≡ [] → a.verdict ≡ Safe) → 0 < a.waiting
-    go [] e f = absurd (not_safe a.verdict o (f refl))
-    go (x ∷ wa) e f = omega arith

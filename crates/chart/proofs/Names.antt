@@ -25,12 +25,9 @@ module _ (ws : List ℤ) (i : ℕ) (more : i < name_size) where
   pub name_left : name_in (name_size - i) (drop (i + name_place) ws) ≡ pick (eqb (count ws (i + name_place)) 0) [] (nat_abs (word_at ws (i + name_place)) ∷ (name_in (name_size - (i + 1)) (drop (i + 1 + name_place) ws)))
   name_left = rw (left, add-one (i + name_place), ← abs_zero (word_at ws (i + name_place))) (name_step (name_size - (i + 1)) ws (i + name_place))
 
-  -- the name ends here; it has one byte more
+  -- the name ends here
   pub name_ends : (n : ℕ) → n ≡ i + length (name_in (name_size - i) (drop (i + name_place) ws)) → eq_z (word_at ws (i + name_place)) (pos 0) ≡ true → i ≡ n
   name_ends n e t = let z : eqb (count ws (i + name_place)) 0 ≡ true = sym (abs_zero (word_at ws (i + name_place))) ∙ t in omega (arith, rw (name_left, z) at e)
-
-  pub name_goes : (n : ℕ) → n ≡ i + length (name_in (name_size - i) (drop (i + name_place) ws)) → eq_z (word_at ws (i + name_place)) (pos 0) ≡ false → n ≡ i + 1 + length (name_in (name_size - (i + 1)) (drop (i + 1 + name_place) ws))
-  name_goes n e t = let z : eqb (count ws (i + name_place)) 0 ≡ false = sym (abs_zero (word_at ws (i + name_place))) ∙ t in omega (arith, rw (name_left, z) at e)
 
   -- the same of its number, where the bytes before make n
   pub number_ends : (v n : ℕ) → v ≡ number_from n (name_in (name_size - i) (drop (i + name_place) ws)) → eq_z (word_at ws (i + name_place)) (pos 0) ≡ true → n ≡ v

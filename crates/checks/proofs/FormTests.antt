@@ -1,16 +1,15 @@
 -- Facts behind the form check: the loops' turns, the two parts of rule 21, and what 20, 14 and 21 ask.
 -- Assumes nothing.
-use Rattle.semantics.proofs.Prelude.{◌≡◌, refl, ap, sym, ◌∙◌, Bool, true, false, ◌&&◌, ◌||◌, not, and_assoc, and-true, List, [], ◌∷◌, ◌++◌, ℕ, suc, ◌+◌, ◌*◌, ◌<◌, ◌≤◌, add-zero, add-one, arith, eqb, leb, ℤ, pos, length, take, drop, drop-cons, drop-drop, get_or-drop, take-take, non_neg}
+use Rattle.semantics.proofs.Prelude.{◌≡◌, refl, ap, sym, ◌∙◌, Bool, true, false, ◌&&◌, ◌||◌, not, and_assoc, and-true, List, [], ◌∷◌, ◌++◌, ℕ, suc, ◌+◌, ◌*◌, ◌<◌, add-zero, add-one, arith, leb, ℤ, pos, length, take, drop, drop-cons, drop-drop, get_or-drop, take-take, non_neg}
 use Rattle.semantics.specs.Lists.{all, all_pairs, all_of}
 use Rattle.semantics.specs.Chart.{Chart, eq_z, within}
-use Rattle.semantics.specs.Layout.{top_word, counts_size, variable_size, high_place, most_iterations, most_slots}
+use Rattle.semantics.specs.Layout.{top_word, counts_size, variable_size, high_place}
 use Rattle.semantics.specs.Encoding.{word_at, several, var_in, decode, well_formed, variable_count, location_count, edge_count}
 use Rattle.semantics.specs.declared.Analysis.{Analysis}
-use Rattle.semantics.specs.Memory.{Memory, value_ok, below, width, stride, row_ok, states_in, origins_in, slots_ok, locations, origins_ok, each_once, zeros, is_alarm, capacity_ok, lent_tests, record_tests, analysis_ok}
+use Rattle.semantics.specs.Memory.{Memory, value_ok, below, width, stride, row_ok, states_in, origins_in, slots_ok, locations, origins_ok, each_once, zeros, lent_tests, record_tests, analysis_ok}
 use Rattle.semantics.specs.Outcomes.{too_few}
 use Rattle.semantics.proofs.Decoded.{vars_count, locs_count, edges_count}
-use Rattle.semantics.proofs.MemoryOf.{counted}
-use Rattle.semantics.proofs.Bools.{from_true, left_true, right_true, passed}
+use Rattle.semantics.proofs.Bools.{passed}
 use Rattle.semantics.proofs.FirstCase.{enough}
 use Rattle.state.specs.declared.Layout.{Layout}
 use Rattle.state.specs.Rows.{location_word, values_of, row_of, tail_of}
@@ -58,14 +57,6 @@ unfolding analysis_ok
 both_parts ws t l a =
     all_of_append (lent_tests (decode ws) a.capacity a.used a.waiting t l) (record_tests (edge_count ws) a)
     ∙ ap (λ (n : ℕ). all_of (lent_tests (decode ws) a.capacity a.used a.waiting t l ++ record_tests n a)) (sym (edges_count ws))
-
--- a record that passes has a capacity that 11 lets pass
-pub few_slots : (n : ℕ) (a : Analysis) → all_of (record_tests n a) ≡ true → a.capacity ≤ most_slots
-few_slots n a e =
-    let i = right_true (leb a.iterations most_iterations) _ e in
-    let j = right_true (leb a.edge.0 n) _ i in
-    let k = right_true (eqb a.edge.0 0 || is_alarm a.verdict) _ j in
-    (counted (pos a.capacity) (from_true (left_true (capacity_ok (pos a.capacity)) _ k))).few
 
 in_order : (s o a e u f : Bool) → (((s && o) && (a && e)) && u) && f ≡ s && (o && (a && (e && (u && (f && true)))))
 in_order s o a e u f = simp (and_assoc, and-true)

@@ -2,7 +2,7 @@
 -- Assumes nothing.
 use Rattle.semantics.proofs.Prelude.{◌≡◌, refl, Bool, false, ◌&&◌, List, [], ◌∷◌, ℕ, zero, suc, ◌+◌, ◌-◌, ◌*◌, ◌≤◌, ◌<◌, add-zero, add-one, suc-mul, arith, eqb, ltb, ℤ, pos, take, drop, get_or, drop-drop, get_or-drop}
 use Rattle.semantics.specs.Chart.{Chart}
-use Rattle.semantics.specs.Layout.{no_slot, edge_size, to_place}
+use Rattle.semantics.specs.Layout.{edge_size, to_place}
 use Rattle.semantics.specs.Algorithm.{Origin}
 use Rattle.semantics.specs.Encoding.{count, edge_count, decode}
 use Rattle.semantics.specs.Memory.{width, state_in, states_in, origin_in, origins_in, locations, joins, origin_ok, origins_ok}
@@ -48,11 +48,7 @@ module _ (c : Chart) (y : Layout) (o : LayoutOf c y) where
 
 -- ---- one origin
 
--- of slot 0
-pub origin_first : (c : Chart) (ls : List ℕ) (s : ℕ) (o : Origin) → s ≡ 0 → origin_ok c ls s o ≡ eqb o.parent no_slot && eqb o.edge 0
-origin_first c ls s o z = rw z
-
--- of any other; b is whether its parent is below it
+-- of a slot that is not the first; b is whether its parent is below it
 pub origin_later : (c : Chart) (ls : List ℕ) (s : ℕ) (o : Origin) → (s ≡ 0 → ⊥) → (b : Bool) → ltb o.parent s ≡ b →
     origin_ok c ls s o ≡ b && joins c o.edge (get_or ls o.parent 0) (get_or ls s 0)
 origin_later c ls zero o h b q = absurd (h refl)

@@ -5,7 +5,7 @@ use Rattle.semantics.proofs.Prelude.{◌≡◌, refl, sym, ap, ◌∙◌, subst,
 use Rattle.semantics.specs.Lists.{pick, In, all}
 use Rattle.semantics.specs.Chart.{Edge, Chart, Numbered, number_from, State, Ranged}
 use Rattle.semantics.specs.Encoding.{edge_ok}
-use Rattle.semantics.specs.Search.{Trail, here, overrun, by, ErrorRun, run_from, or_else, first_of, found, attempt, deepen, first_run, Choice, state, starting_values, explicit}
+use Rattle.semantics.specs.Search.{Trail, here, overrun, by, ErrorRun, run_from, or_else, first_of, found, attempt, deepen, Choice, state, starting_values, explicit}
 use Rattle.semantics.specs.RealRuns.{Follows}
 use Rattle.semantics.proofs.Bools.{and_left, and_right}
 use Rattle.semantics.proofs.StatesOk.{Bounds}
@@ -68,9 +68,6 @@ attempts c m = first_map (λ (s : State). map (run_from s) (found (explicit c) m
 pub start_state : (c : Chart) (e : List ℤ) → Starts c e → state 0 (values_of e) ≡ state_of e
 start_state c e s = ap (λ (l : ℕ). state l (values_of e)) (ap location_in (sym s.words))
 
-map_none : {A B : Type 0} (f : A → B) (o : Option A) → o ≡ none → map f o ≡ none
-map_none f o e = ap (map f) e
-
 module _ (c : Chart) (b : Bounds c) (m : ℕ) (e p u : List ℤ) {r : Perhaps End} (s : Starts c e) (w : Went (found (explicit c) m (state_of e)) p u r) {whole : Option (ErrorRun Choice State)} (inv : whole ≡ first_of (from_values c m) (values_of e ∷ starts_after c.vars (values_of e))) where
   same : found (explicit c) m (state 0 (values_of e)) ≡ found (explicit c) m (state_of e)
   same = ap (found (explicit c) m) (start_state c e s)
@@ -86,9 +83,6 @@ module _ (c : Chart) (b : Bounds c) (m : ℕ) (e p u : List ℤ) {r : Perhaps En
 -- runs of m moves to k
 abbrev pub from_moves : Chart → ℕ → ℕ → Option (ErrorRun Choice State)
 from_moves c k m = pick (leb m k) (deepen (explicit c) (k - m) m) none
-
-pub from_none : (c : Chart) (k : ℕ) → first_run (explicit c) k ≡ from_moves c k 0
-from_none c k = let e : k - 0 ≡ k = omega arith in rw (le-leb 0 k (omega arith), e)
 
 pub deeper : (c : Chart) (k m : ℕ) → m ≤ k → from_moves c k m ≡ or_else (attempt (explicit c) m) (from_moves c k (m + 1))
 unfolding deepen

@@ -1,15 +1,15 @@
--- What the code that finds distances is proved by: the row of anywhere, edges and kinds by their words, loops, and that all
--- 0 serve. Assumes nothing.
-use Rattle.semantics.proofs.Prelude.{◌≡◌, refl, sym, ap, ◌∙◌, subst, ◌⊎◌, inl, inr, Bool, true, ◌&&◌, List, [], ◌∷◌, map, ℕ, zero, suc, ◌+◌, ◌-◌, ◌*◌, ◌≤◌, ◌<◌, arith, T, ltb→lt, ℤ, pos, nat_abs, length, get_or, take, drop, replicate, get_or-drop}
+-- What the code that finds distances is proved by: the row of anywhere, edges and kinds by their words, and loops.
+-- Assumes nothing.
+use Rattle.semantics.proofs.Prelude.{◌≡◌, refl, sym, ap, ◌∙◌, subst, ◌⊎◌, inl, inr, Bool, true, ◌&&◌, List, [], ◌∷◌, map, ℕ, zero, suc, ◌+◌, ◌-◌, ◌*◌, ◌≤◌, ◌<◌, arith, T, ltb→lt, ℤ, pos, nat_abs, length, take, drop, replicate, get_or-drop}
 use Rattle.semantics.proofs.Bools.{to_true, and_left, and_right, left_true, right_true}
 use Rattle.semantics.specs.Layout.{top_word, most_variables, location_size, edge_size, to_place, index_limit}
 use Rattle.semantics.specs.Lists.{At, In}
-use Rattle.semantics.specs.Chart.{top, Var, Loc, Edge, Chart, Numbered, numbered, eq_z, error_location}
+use Rattle.semantics.specs.Chart.{top, Var, Loc, Chart, Numbered, numbered, eq_z, error_location}
 use Rattle.semantics.specs.Algorithm.{Step, blocked, fault, to}
 use Rattle.semantics.specs.Constants.{AbstractState}
 use Rattle.semantics.specs.Encoding.{word, word_at, count, kind_word, edge_in, location_count, edge_count, decode, well_formed}
 use Rattle.semantics.specs.Memory.{row}
-use Rattle.semantics.proofs.AtAndIn.{clash, at_get, at_one}
+use Rattle.semantics.proofs.AtAndIn.{at_get, at_one}
 use Rattle.semantics.proofs.StatesOk.{ValsOk}
 use Rattle.semantics.proofs.Simulate.{AllPairs, StepR}
 use Rattle.semantics.proofs.Decoded.{vars_count, locs_count, edges_count}
@@ -25,7 +25,7 @@ use Rattle.transfer.specs.Transfer.{step_of, edge_at, edges_from, post_at, post_
 use Rattle.transfer.proofs.Agree.{Says, SameEdge, edges_say, agree}
 use Rattle.descent.specs.Rows.{edge_of, IsEdge}
 use Rattle.descent.proofs.Moves.{same_edge, leaves}
-use Rattle.descent.specs.Distances.{anywhere, Near, Distances, distance_in, from_anywhere, move_of, NearBy, KindsAllow, EdgesAllow}
+use Rattle.descent.specs.Distances.{anywhere, distance_in, from_anywhere, move_of, NearBy, KindsAllow, EdgesAllow}
 
 -- ---- a row in which every variable is top
 
@@ -154,29 +154,6 @@ module _ (ws : List ℤ) (t : T (well_formed ws)) where
   pub every_location : (ds : List ℕ) → ((l : ℕ) → l < location_count ws → ZeroAtError ws ds l) → KindsAllow ws ds
   every_location ds f l h = f l (omega (arith, error_below (decode ws).locs l h, locs_count ws)) h
 
--- ---- what an edge asks, by the answer
-
-module _ (d : ℕ → ℕ) (g : Edge) where
-  pub near_blocked : (z : Step AbstractState) → Blocked ≡ move_of z → Near d g z
-  near_blocked blocked e = tt
-  near_blocked fault e = absurd (clash cc)
-  near_blocked (to f) e = absurd (clash cc)
-
-  pub near_overrun : (z : Step AbstractState) → Fault ≡ move_of z → d g.from ≤ 1 → Near d g z
-  near_overrun blocked e h = tt
-  near_overrun fault e h = h
-  near_overrun (to f) e h = absurd (clash cc)
-
-  pub near_next : (z : Step AbstractState) → Successor ≡ move_of z → d g.from ≤ suc (d g.to) → Near d g z
-  near_next blocked e h = tt
-  near_next fault e h = absurd (clash cc)
-  near_next (to f) e h = h
-
-  near_zero : (z : Step AbstractState) → d g.from ≡ 0 → Near d g z
-  near_zero blocked e = tt
-  near_zero fault e = omega arith
-  near_zero (to f) e = omega arith
-
 -- ---- loops
 
 -- where a distance is above another the table has it
@@ -195,14 +172,3 @@ settled_turn P A B ds₀ ds ds' ok b j split before here e =
     let p = before (left_true ok b e) in
     let q = here (right_true ok b e) in
     (q.0 ∙ p.0, λ k m. subst (λ (l : List ℕ). P l k) (sym q.0) (elim (split k m) [ inl a ↦ p.1 k a | inr x ↦ subst (P ds) x q.1 ]))
-
--- ---- all 0
-
-zero_at : (n l : ℕ) → ◌≡◌ {A = ℕ} (get_or (replicate n 0) l 0) 0
-zero_at zero l = refl
-zero_at (suc n) zero = refl
-zero_at (suc n) (suc l) = zero_at n l
-
--- serves any chart
-pub zeros_serve : (c : Chart) (n : ℕ) → Distances c (distance_in (replicate n 0))
-zeros_serve c n = record { at_error = λ l h. zero_at n l; at_edge = λ g i. near_zero (distance_in (replicate n 0)) g.edge (from_anywhere c g.edge) (zero_at n g.edge.from) }

@@ -1,44 +1,24 @@
 -- Starting values one after the other, and which charts are too wide to search. Assumes nothing.
 use native.Mathlib.Nat.{mul_assoc, mul-one, le-mul_of_pos_right, mul-pos}
-use Rattle.semantics.proofs.Prelude.{◌≡◌, refl, sym, ap, ◌∙◌, subst, inl, inr, Bool, true, false, List, [], ◌∷◌, ◌++◌, map, ℕ, zero, suc, ◌+◌, ◌*◌, ◌≤◌, ◌<◌, add-one, add-zero, arith, T, ltb, lt-ltb, ℤ, pos, ◌+ℤ◌, le_z, length, drop, take, get_or-drop, drop_of_length-le, take-suc, take_all, drop-cons, take-suc-set, append-nil, append_snoc, length-take-le, get_or_at, set_at, w32, SFits, of_z, sfits_lit}
-use Rattle.semantics.specs.Layout.{most_number, top_word, low_place, high_place, init_place, edge_size, variable_at, most_starts}
-use Rattle.semantics.specs.Lists.{pick, At, In, all, each, some_of}
+use Rattle.semantics.proofs.Prelude.{◌≡◌, refl, sym, ap, ◌∙◌, subst, inl, inr, Bool, true, false, List, [], ◌∷◌, ◌++◌, map, ℕ, zero, suc, ◌+◌, ◌*◌, ◌≤◌, ◌<◌, add-one, arith, T, ltb, lt-ltb, ℤ, pos, ◌+ℤ◌, le_z, length, drop, take, drop_of_length-le, take-suc, take_all, drop-cons, take-suc-set, append-nil, append_snoc, length-take-le, get_or_at, set_at, w32, SFits, sfits_lit}
+use Rattle.semantics.specs.Layout.{most_number, edge_size, most_starts}
+use Rattle.semantics.specs.Lists.{At, In, all, each, some_of}
 use Rattle.semantics.specs.Chart.{Value, known, top, Var, Edge, Chart, Ranged, within, small}
 use Rattle.semantics.specs.Search.{init_values, starting_values}
 use Rattle.semantics.specs.RunListing.{wide_input, init_count, start_count}
-use Rattle.semantics.specs.Encoding.{word_at, val, var_ok, init_ok, edge_in, decode, variable_count, edge_count}
+use Rattle.semantics.specs.Encoding.{word_at, var_ok, init_ok, edge_in, decode, variable_count, edge_count}
 use Rattle.semantics.proofs.Bools.{from_true, to_true, and_left, and_right, both_true}
 use Rattle.semantics.proofs.Integers.{le_z_trans, lt_suc, le_sum}
 use Rattle.semantics.proofs.AtAndIn.{at_get}
 use Rattle.semantics.proofs.StatesOk.{Bounds}
 use Rattle.semantics.proofs.ChartChoices.{in_append, in_map, map_in, in_each, each_in, interval_in, in_interval, interval_step, interval_stop, gap, starting_in}
-use Rattle.words.proofs.Words.{bits_eq, bits_ne, between_fits}
+use Rattle.words.proofs.Words.{between_fits}
 use Rattle.semantics.proofs.Decoded.{vars_count, edges_count}
 use Rattle.chart.specs.Encoded.{edges_at}
 use Rattle.chart.proofs.Places.{variable_got, edge_got}
 use Rattle.state.specs.Rows.{location_in, values_of, row_at, value_at, with_value}
 use Rattle.descent.specs.Rows.{Concrete}
 use Rattle.descent.specs.Starts.{values_after, starts_after, Starts, First, Next, variable_in, first_value, rises, first_values}
-
--- ---- a variable and an edge by their words
-
-module _ (ws : List ℤ) (k : ℕ) where
-  pub low_is : (variable_in ws k).lo ≡ word_at ws (variable_at k)
-  low_is = get_or-drop (variable_at k) ws low_place (pos 0) ∙ ap (word_at ws) (add-zero (variable_at k))
-
-  pub high_is : (variable_in ws k).hi ≡ word_at ws (variable_at k + high_place)
-  high_is = get_or-drop (variable_at k) ws high_place (pos 0)
-
-  -- the initial value by its word, and by the code's test of that
-  module _ (z : ℤ) (f : SFits w32 z) (e : z ≡ word_at ws (variable_at k + init_place)) where
-    init_is : (variable_in ws k).init ≡ val z
-    init_is = ap val (get_or-drop (variable_at k) ws init_place (pos 0) ∙ sym e)
-
-    pub init_any : of_z w32 z ≡ of_z w32 top_word → (variable_in ws k).init ≡ top
-    init_any t = init_is ∙ ap (λ (b : Bool). pick b top (known z)) (bits_eq w32 {a = z} {b = top_word} f (sfits_lit tt) t)
-
-    pub init_known : (of_z w32 z ≡ of_z w32 top_word → ⊥) → (variable_in ws k).init ≡ known z
-    init_known t = init_is ∙ ap (λ (b : Bool). pick b top (known z)) (bits_ne w32 {a = z} {b = top_word} f (sfits_lit tt) t)
 
 -- ---- a turn of a loop over variables or edges
 
@@ -185,9 +165,6 @@ module _ (c : Chart) (e : List ℤ) (s : Starts c e) where
 
   pub start_values_length : length (values_of e) ≡ length c.vars
   start_values_length = ranged_length c.vars (values_of e) ranged
-
-  pub start_length : length e ≡ suc (length c.vars)
-  start_length = ap length s.words ∙ ap suc start_values_length
 
   -- the one after it
   pub next_row : (e' ys : List ℤ) → e' ≡ row_at 0 ys → starts_after c.vars (values_of e) ≡ ys ∷ starts_after c.vars ys → Next c e e' true

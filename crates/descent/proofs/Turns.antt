@@ -2,14 +2,12 @@
 use Rattle.semantics.proofs.Prelude.{◌≡◌, refl, sym, ap, ◌∙◌, Bool, true, false, List, [], ◌∷◌, ◌++◌, map, Option, none, some, ℕ, zero, suc, ◌-◌, arith, eqb, ℤ, get_or}
 use Rattle.semantics.specs.Lists.{At, each}
 use Rattle.semantics.specs.Chart.{Chart, Numbered, numbered, State}
-use Rattle.semantics.specs.Algorithm.{blocked, fault, to}
+use Rattle.semantics.specs.Algorithm.{to}
 use Rattle.semantics.specs.Search.{Trail, or_else, first_of, after_move, found, Choice, choose, inputs, choices, move, explicit}
-use Rattle.semantics.specs.declared.EdgeId.{EdgeId}
 use Rattle.semantics.proofs.Bools.{from_false}
 use Rattle.std.specs.Prelude.{Option as Perhaps, Some, None}
 use Rattle.descent.specs.declared.End.{End}
-use Rattle.descent.specs.declared.End.TheVariants.{Overrun}
-use Rattle.descent.specs.Trails.{answer_of, laid, Went, last_move, from_step, by_input, by_edge}
+use Rattle.descent.specs.Trails.{answer_of, laid, Went, from_step, by_input, by_edge}
 
 abbrev Route : Type 0
 Route = Trail Choice State
@@ -110,13 +108,6 @@ module _ (c : Chart) where
   not_here m s g e = first_none (by_input c m s g) (inputs g.edge.op) (λ z. rw e)
 
   -- ---- what a move makes of it
-
-  pub blocked_went : (m : ℕ) (s : State) (g : Numbered) (z : ℤ) {p : List ℤ} → move c (choose g z) s ≡ blocked → Went (by_input c m s g z) p p None
-  blocked_went m s g z e = went_none (ap (after_move m (found (explicit c) m) (choose g z)) e) refl
-
-  pub fault_went : (m : ℕ) (s : State) (g : Numbered) (z : ℤ) {p : List ℤ} {n : EdgeId} {r : Perhaps End} → move c (choose g z) s ≡ fault → g.no ≡ n.0 → r ≡ last_move m n → Went (by_input c m s g z) p p r
-  fault_went zero s g z {n = n} e h k = rw e (record { answer = k ∙ ap (λ (x : ℕ). Some (Overrun (record { 0 = x }))) (sym h); words = refl })
-  fault_went (suc m) s g z e h k = rw e (record { answer = k; words = refl })
 
   pub step_went : (m : ℕ) (s t : State) (g : Numbered) (z : ℤ) {p u : List ℤ} {r : Perhaps End} → move c (choose g z) s ≡ to t → Went (from_step c m (choose g z) t) p u r → Went (by_input c m s g z) p u r
   step_went m s t g z e w = rw e w

@@ -108,10 +108,6 @@ module _ (os : List Origin) (n : ℕ) (falls : Falls os n) where
         ∙ append_snoc (way_to os (parent_of os s) (parent_of os s)) s (drop (at + 1) way)
         ∙ (λ i. way_to os (sym e i) (sym e i) ++ sym after i)
 
-    -- slot 0 is the first
-    pub traced_end : s ≡ 0 → drop at way ≡ whole
-    traced_end z = from_here ∙ sym (left ∙ ap (λ (k : ℕ). way_to os k k ++ drop (at + 1) way) z ∙ ap (λ (k : ℕ). k ∷ drop (at + 1) way) (sym z))
-
 -- ---- what the path of an analysis in form may rely on
 
 -- an alarm has a slot that waits

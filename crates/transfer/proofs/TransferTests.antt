@@ -1,19 +1,15 @@
 -- What the tests and sums of the transfer tell, and the turn of the loop that writes the initial row. Assumes nothing.
-use Rattle.semantics.proofs.Prelude.{◌≡◌, ◌∙◌, true, List, ◌++◌, append-nil, ℕ, suc, ◌+◌, ◌-◌, ◌≤◌, ◌<◌, add-one, arith, T, ℤ, pos, ◌+ℤ◌, ◌-ℤ◌, le_z, length, take, set, take_all, take-suc-set, append_snoc, w32, w64, SFits, of_z, to_z, to_z-of_z, sfits_widen}
+use Rattle.semantics.proofs.Prelude.{◌≡◌, ◌∙◌, List, ◌++◌, ℕ, suc, ◌+◌, ◌-◌, ◌≤◌, ◌<◌, add-one, arith, T, ℤ, pos, ◌+ℤ◌, ◌-ℤ◌, le_z, length, take, set, take-suc-set, append_snoc, w32, w64, SFits, of_z, to_z, to_z-of_z, sfits_widen}
 use Rattle.semantics.specs.Layout.{variable_size, variable_at, init_place}
 use Rattle.semantics.specs.declared.Span.{Span}
-use Rattle.semantics.specs.Chart.{Rel, within}
+use Rattle.semantics.specs.Chart.{Rel}
 use Rattle.semantics.specs.Constants.{satisfying}
 use Rattle.semantics.specs.Encoding.{word_at, variable_count}
-use Rattle.semantics.proofs.Bools.{to_true, left_true, right_true}
+use Rattle.semantics.proofs.Bools.{to_true}
 use Rattle.semantics.proofs.SpanNumbers.{Among, satisfying_ends}
 use Rattle.words.proofs.Words.{between_fits, sum_fits, diff_fits}
 use Rattle.state.specs.Rows.{head_size}
 use Rattle.transfer.specs.Transfer.{Narrow, initial_words, initial_row}
-
--- what lies between two words is a word
-pub within_fits : (lo hi z : ℤ) → SFits w32 lo → SFits w32 hi → within lo hi z ≡ true → SFits w32 z
-within_fits lo hi z f g e = between_fits z f g (left_true (le_z lo z) (le_z z hi) e) (right_true (le_z lo z) (le_z z hi) e)
 
 -- what a comparison leaves of a range of words ends in words
 pub satisfying_fits : (g : Rel) (z : ℤ) (r : Span) → Narrow r → let s = satisfying g z r in T (le_z s.low s.high) → Narrow s
@@ -33,9 +29,6 @@ module _ {a b : ℤ} (fa : SFits w32 a) (fb : SFits w32 b) where
   pub sum : SFits w64 (as_i64 a +ℤ as_i64 b)
   sum = rw (unchanged.0, unchanged.1) (sum_fits fa fb)
 
-  pub sum_is : as_i64 (as_i64 a +ℤ as_i64 b) ≡ a +ℤ b
-  sum_is = to_z-of_z w64 _ sum ∙ λ i. unchanged.0 i +ℤ unchanged.1 i
-
   pub difference : SFits w64 (as_i64 a -ℤ as_i64 b)
   difference = rw (unchanged.0, unchanged.1) (diff_fits fa fb)
 
@@ -53,6 +46,3 @@ module _ (c out : List ℤ) (i at n : ℕ) where
       let e : n + 1 - i ≡ suc (n - i) = omega arith in
       let f : n + 1 - (i + 1) ≡ n - i = omega arith in
       rw (e, f, add-one i, take-suc-set out i v h, append_snoc, q)
-
-  pub initial_end : length out ≤ i → n < i → take i out ++ initial_words c at (n + 1 - i) ≡ out
-  initial_end h l = let e : n + 1 - i ≡ 0 = omega arith in rw (e, take_all i out h) (append-nil out)

@@ -1,6 +1,5 @@
--- Rows of a table: parts of it, what a row put at a place changes, and turns of loops over words. Assumes nothing.
-use Rattle.semantics.proofs.Prelude.{◌≡◌, refl, sym, ap, subst, ◌∙◌, Bool, true, false, ◌||◌, List, [], ◌∷◌, ◌++◌, append_assoc, ℕ, zero, suc, ◌+◌, ◌-◌, ◌*◌, ◌≤◌, ◌<◌, suc-mul, mul-le-mul_right, sub-zero, zero-sub, suc-sub-suc, arith, add-one, ℤ, pos, length, get_or, take, drop, length-take, length-drop, length-append, set, replicate, take_at, drop_at, drop-nil, take-nil, take_all, drop-cons, length-take-le, take-suc-set}
-use Rattle.semantics.specs.Lists.{some_of}
+-- Rows of a table: parts of it, and what a row put at a place changes. Assumes nothing.
+use Rattle.semantics.proofs.Prelude.{◌≡◌, sym, subst, List, [], ◌∷◌, ◌++◌, append_assoc, ℕ, zero, suc, ◌+◌, ◌-◌, ◌*◌, ◌≤◌, ◌<◌, suc-mul, mul-le-mul_right, sub-zero, zero-sub, suc-sub-suc, arith, ℤ, pos, length, take, drop, length-take, length-drop, length-append, replicate, take_at, drop_at, drop-nil, take-nil, take_all, length-take-le}
 
 pub drop_take : (b a : ℕ) (l : List ℤ) → drop b (take a l) ≡ take (a - b) (drop b l)
 drop_take zero a l = rw sub-zero
@@ -47,20 +46,3 @@ module _ (t : List ℤ) (a w : ℕ) (ws : List ℤ) (fits : a + w ≤ length t) 
 -- the part of a slice from a place on: `&l[j..]`
 pub tail : {A : Type 0} (l : List A) (j : ℕ) → take (length l - j) (drop j l) ≡ drop j l
 tail l j = take_all (length l - j) (drop j l) (simp length-drop (omega arith))
-
--- a search: the test at i, which says b, and what is left after it
-pub some_turn : (l : List ℤ) (i : ℕ) → i < length l → (b : Bool) (p : ℤ → Bool) → p (get_or l i (pos 0)) ≡ b → some_of p (drop i l) ≡ b || some_of p (drop (i + 1) l)
-some_turn l i h b p e = split ∙ ap (λ (x : Bool). x || some_of p (drop (i + 1) l)) e where
-  either : (x y : Bool) → elim x [ true ↦ true | false ↦ y ] ≡ x || y
-  either true y = refl
-  either false y = refl
-
-  split : some_of p (drop i l) ≡ p (get_or l i (pos 0)) || some_of p (drop (i + 1) l)
-  split = rw (add-one, drop-cons l i (pos 0) h) (either (p (get_or l i (pos 0))) (some_of p (drop (suc i) l)))
-
--- one zero more
-pub zero_turn : (s : List ℤ) (i : ℕ) → i < length s → take i s ≡ replicate i (pos 0) → take (i + 1) (set s i (pos 0)) ≡ replicate (i + 1) (pos 0)
-zero_turn s i h e = rw (add-one, take-suc-set s i (pos 0), e) (snoc i) where
-  snoc : (i : ℕ) → replicate i (pos 0) ++ (pos 0 ∷ []) ≡ replicate (suc i) (pos 0)
-  snoc zero = refl
-  snoc (suc i) = ap (λ (l : List ℤ). pos 0 ∷ l) (snoc i)

@@ -1,6 +1,5 @@
 -- Signed words: the machine's tests and casts, which go by bits, told of the whole numbers themselves. Assumes nothing.
-use Rattle.semantics.specs.Layout.{index_limit}
-use Rattle.semantics.proofs.Prelude.{◌≡◌, refl, sym, ap, subst, ◌∙◌, Bool, true, false, cond, ℕ, zero, suc, ◌+◌, ◌<◌, ◌≤◌, arith, lt_of_le_of_lt, zero-add, eqb, ltb, T, ℤ, pos, negsuc, nat_abs, neg_ℤ, ◌+ℤ◌, ◌-ℤ◌, non_neg, mag, le_z, lt_z, Width, w32, w64, SFits, of_z, to_z, to_z-of_z, sfits_widen, sfits_lit, eq-eqb, ne_eqb, le-leb, leb-true, ltb-true}
+use Rattle.semantics.proofs.Prelude.{◌≡◌, refl, sym, ap, subst, ◌∙◌, Bool, true, false, cond, ℕ, zero, suc, ◌+◌, ◌≤◌, arith, lt_of_le_of_lt, zero-add, eqb, ltb, T, ℤ, pos, negsuc, nat_abs, neg_ℤ, ◌+ℤ◌, ◌-ℤ◌, non_neg, mag, le_z, lt_z, Width, w32, w64, SFits, of_z, to_z, to_z-of_z, sfits_widen, sfits_lit, eq-eqb, ne_eqb, le-leb, leb-true, ltb-true}
 use Rattle.semantics.specs.Chart.{eq_z}
 use Rattle.semantics.proofs.Bools.{from_true, to_true}
 use Rattle.semantics.proofs.Integers.{eq_z_same, eq_z_refl}
@@ -43,14 +42,6 @@ module _ (w : Width) {a b : ℤ} (fa : SFits w a) (fb : SFits w b) where
     by_case true e = eq-eqb _ _ (ap (of_z w) (eq_z_true a b e)) ∙ sym e
     by_case false e = ne_eqb _ _ (λ q. absurd (subst T (sym (bits_eq q) ∙ e) tt)) ∙ sym e
 
--- what the machine reads back
-module _ {z : ℤ} (fits : SFits w32 z) where
-  pub widens : SFits w64 (to_z w32 (of_z w32 z))
-  widens = rw (to_z-of_z w32 z) (sfits_widen tt fits)
-
-  pub widened : to_z w64 (of_z w64 (to_z w32 (of_z w32 z))) ≡ z
-  widened = ap (λ (y : ℤ). to_z w64 (of_z w64 y)) (to_z-of_z w32 z fits) ∙ to_z-of_z w64 z (sfits_widen tt fits)
-
 -- ---- sums
 
 cond_mag : (t : Bool) (x y : ℤ) (n : ℕ) → mag x ≤ n → mag y ≤ n → mag (cond t x y) ≤ n
@@ -82,14 +73,6 @@ between_fits {hi = pos m} (pos n) f g l h = record { sfits = lt_of_le_of_lt (leb
 between_fits {hi = negsuc m} (pos n) f g l h = absurd (subst T (sym h) tt)
 between_fits {lo = pos m} (negsuc n) f g l h = absurd (subst T (sym l) tt)
 between_fits {lo = negsuc m} (negsuc n) f g l h = record { sfits = lt_of_le_of_lt (leb-true n m l) f.sfits }
-
-pub not_neg : (z : ℤ) → lt_z z (pos 0) ≡ false → T (non_neg z)
-not_neg (pos n) e = tt
-not_neg (negsuc n) e = absurd (subst T e tt)
-
-pub abs_small : (z : ℤ) → SFits w32 z → nat_abs z < index_limit
-abs_small (pos n) f = omega (arith, f.sfits)
-abs_small (negsuc n) f = omega (arith, f.sfits)
 
 -- what is below 0, taken from 0
 pub below_zero : (z : ℤ) → lt_z z (pos 0) ≡ true → pos 0 -ℤ z ≡ pos (nat_abs z)
