@@ -1,19 +1,21 @@
 -- A line by its kind, and reading goes on by one line. Assumes nothing.
-use Rattle.semantics.proofs.Prelude.{◌≡◌, refl, sym, ap, ◌∙◌, true, false, List, map, ℕ, ◌+◌, ◌-◌, ◌≤◌, ◌<◌, add-one, arith, length, take, drop}
+use Rattle.semantics.proofs.Prelude.{◌≡◌, refl, sym, ap, ◌∙◌, true, false, List, map, ℕ, ◌+◌, ◌-◌, ◌*◌, ◌≤◌, ◌<◌, add-one, arith, length, take, drop, ℤ}
 use Rattle.semantics.specs.Text.{bytes, same_bytes, lines, fields}
-use Rattle.semantics.specs.Reading.{fail, ok, nth, SoFar, var_line, loc_line, edge_line, judge, refused, at_end, judged}
+use Rattle.semantics.specs.Reading.{fail, ok, nth, SoFar, nothing_read, var_line, loc_line, edge_line, judge, refused, at_end, judged}
 use Rattle.text.specs.Fields.{up_to}
 use Rattle.text.proofs.LineEnds.{lines_at, lines_done}
 use Rattle.text.specs.Places.{end_of}
 use Rattle.text.specs.Lines.{Begins}
 use Rattle.text.specs.declared.line.Line.{Line}
-use Rattle.reader.specs.ReadSoFar.{lines_judged}
+use Rattle.semantics.specs.Layout.{location_size}
+use Rattle.reader.specs.ReadSoFar.{Rows, lines_judged, nothing_counted}
 use Rattle.std.specs.Prelude.{⊤, Result, Ok, Err}
 use Rattle.semantics.specs.Refusals.{number_of}
 use Rattle.semantics.specs.declared.Refusal.{Refusal}
 use Rattle.semantics.specs.declared.RefusedAt.{RefusedAt}
 use Rattle.reader.specs.Drafts.{Holds, Grown, Through, LineJudged, LinesRead}
 use Rattle.reader.specs.declared.draft.Draft.{Draft}
+use Rattle.reader.specs.declared.draft.Tally.{Tally}
 
 -- ---- by the kind
 
@@ -101,3 +103,16 @@ module _ {text : List ℕ} {at line : ℕ} {d : Draft} (a : Along text at line d
         by_answer (Err y) e g = line_refused g ∙ ap (λ (f : RefusedAt). refused (number_of f.refusal) f.line) (same_error (sym (bad y e) ∙ is)) where
           same_error : {g : RefusedAt} → ◌≡◌ {A = Result ⊤ RefusedAt} (Err g) (Err f) → g ≡ f
           same_error z = cc
+
+pub at_first : (text : List ℕ) (d : Draft) → Holds d nothing_read → Along text 0 0 d
+at_first text d h = record { read = nothing_read; holds = h; counted = omega arith; is = refl }
+
+-- a draft that counts nothing holds nothing
+no_rows : (t : Tally) (rows : List ℤ) → t ≡ nothing_counted → Rows t rows nothing_read.chart
+no_rows t rows e = rw e (record { vars = refl; locs = refl; edges = refl; rows = refl; numbers = refl; named = tt })
+
+pub nothing_held : (d : Draft) → d.tally ≡ nothing_counted → Holds d nothing_read
+nothing_held d e = record {
+  rows = no_rows d.tally d.rows e;
+  names = record { count = ap (λ (t : Tally). t.vars) e; rows = ap (λ (t : Tally). take (location_size * t.vars) d.names) e; named = tt };
+}
