@@ -5,14 +5,14 @@
 #![tactic(auto)]
 
 ghost use Rattle.std.specs.Prelude.{◌≡◌, ℕ, ◌+◌, ◌-◌, ◌*◌, ◌<◌, ◌≤◌, min, ◌++◌, length};
-ghost use Rattle.semantics.specs.Layout.{most_iterations, index_limit};
+ghost use Rattle.semantics.specs.Layout.{most_iterations, index_limit, origin_size};
 ghost use Rattle.semantics.specs.Algorithm.{arrive, visit, visit_all, takers, brought, iteration, run, start};
 ghost use Rattle.semantics.specs.Tidy.{Allowed};
 ghost use Rattle.semantics.specs.Encoding.{edge_count};
-ghost use Rattle.state.specs.Rows.{word_limit, layout_of, rows_of, origins_of};
+ghost use Rattle.state.specs.Rows.{word_limit, width_of, most_width, layout_of, rows_of, origins_of};
 ghost use Rattle.waitlist.specs.Waits.{waits};
 ghost use Rattle.reached.specs.Links.{chains_of, Linked};
-ghost use Rattle.transfer.specs.Transfer.{edges_from, post_at, initial_row};
+ghost use Rattle.transfer.specs.Transfer.{edges_from, edge_at, post_at, initial_row};
 ghost use Rattle.progress.specs.Progress.{rows_only, load_of};
 ghost use Rattle.analysis.specs.Loaded.{Outlined, Ready, Merged, domain_of, Progressed, Noted, Resumable, Loaded};
 
@@ -198,20 +198,20 @@ fn play(
     at
 }
 
-// Iterations until a verdict, until the budget is spent, or until the most were played.
+// Iterations until a verdict, until the budget is spent, or until the most were played, over any words that stand as a
+// chart's: the layout and the count of edges are given.
 pub fn run_core(
-    chart: &Chart,
+    chart: &[i32],
+    edges: usize,
+    layout: Layout,
     a: Analysis,
     budget: u32,
     table: &mut [i32],
     list: &mut [i32],
 ) -> Analysis
-    requires { Resumable (layout_of chart.now) (edge_count chart.now) a table.old list.old × (a.iterations ≤ most_iterations) }
-    ensures { Loaded (layout_of chart.now) (edge_count chart.now) result table.new list.new (run (domain_of chart.now) (edges_from 0 (edge_count chart.now)) (min budget (most_iterations - a.iterations)) (load_of (layout_of chart.now) a table.old list.old)) }
+    requires { Resumable layout edges a table.old list.old × (a.iterations ≤ most_iterations) × (width_of layout ≤ most_width) × (edge_at chart.now edges < index_limit) }
+    ensures { Loaded layout edges result table.new list.new (run (domain_of chart.now) (edges_from 0 edges) (min budget (most_iterations - a.iterations)) (load_of layout a table.old list.old)) }
 {
-    let chart = chart.words();
-    let layout = state::layout_of(chart);
-    let edges = chart::edge_count(chart);
     // the number past the last edge stands for none
     let mut heads = [edges + 1; semantics::MOST_LOCATIONS];
     let mut nexts = [0usize; semantics::MOST_EDGES];
@@ -230,8 +230,53 @@ pub fn run_core(
     play(&outline, a, most, table, list, &mut links)
 }
 
-// An analysis begins with the initial state in slot 0, waiting.
+// The same over a chart in form, with its own layout and all its edges.
+pub fn resume(
+    chart: &Chart,
+    a: Analysis,
+    budget: u32,
+    table: &mut [i32],
+    list: &mut [i32],
+) -> Analysis
+    requires { Resumable (layout_of chart.now) (edge_count chart.now) a table.old list.old × (a.iterations ≤ most_iterations) }
+    ensures { Loaded (layout_of chart.now) (edge_count chart.now) result table.new list.new (run (domain_of chart.now) (edges_from 0 (edge_count chart.now)) (min budget (most_iterations - a.iterations)) (load_of (layout_of chart.now) a table.old list.old)) }
+{
+    let chart = chart.words();
+    let layout = state::layout_of(chart);
+    let edges = chart::edge_count(chart);
+    run_core(chart, edges, layout, a, budget, table, list)
+}
+
+// An analysis begins with the initial state, in the row lent, in slot 0, waiting.
 pub fn start_core(
+    chart: &[i32],
+    layout: Layout,
+    settings: Settings,
+    capacity: u32,
+    table: &mut [i32],
+    list: &mut [i32],
+    row: &[i32],
+) -> Analysis
+    requires { (0 < length row.now) × (length row.now ≡ width_of layout) × (layout.stride ≡ width_of layout + origin_size) × (0 < capacity) × (capacity < index_limit) × (length table.old ≡ capacity * layout.stride) × (length list.old ≡ capacity) × Allowed settings }
+    ensures { (last : ℕ) → Loaded layout last result table.new list.new (start (domain_of chart.now) settings capacity row.now) }
+{
+    words::fill_zero(table);
+    words::fill_zero(list);
+    reached::store_slot(
+        layout,
+        table,
+        SlotId(0),
+        row,
+        SlotId(semantics::NO_SLOT),
+        EdgeId(0),
+    );
+    let count = waitlist::append(list, 0, SlotId(0));
+    let error = transfer::is_error(chart, row);
+    progress::first_record(settings, capacity, count, error)
+}
+
+// The same over a chart in form, with its own layout and the row of its initial state.
+pub fn start(
     chart: &Chart,
     settings: Settings,
     capacity: u32,
@@ -246,17 +291,5 @@ pub fn start_core(
     let mut lent = [0i32; state::MOST_WIDTH];
     let row = &mut lent[..layout.width()];
     transfer::initial(chart, row);
-    words::fill_zero(table);
-    words::fill_zero(list);
-    reached::store_slot(
-        layout,
-        table,
-        SlotId(0),
-        row,
-        SlotId(semantics::NO_SLOT),
-        EdgeId(0),
-    );
-    let count = waitlist::append(list, 0, SlotId(0));
-    let error = transfer::is_error(chart, row);
-    progress::first_record(settings, capacity, count, error)
+    start_core(chart, layout, settings, capacity, table, list, row)
 }

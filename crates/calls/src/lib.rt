@@ -72,8 +72,8 @@ fn begin_through(
     let size = slots * state::layout_of(chart.words()).stride;
     let table = &mut table[..size];
     let list = &mut list[..slots];
-    let a = analysis::start_core(chart, settings, capacity, table, list);
-    analysis::run_core(chart, a, budget, table, list)
+    let a = analysis::start(chart, settings, capacity, table, list);
+    analysis::resume(chart, a, budget, table, list)
 }
 
 // A run that no refusal stopped, in the words of the capacity.
@@ -89,7 +89,7 @@ fn run_through(
 {
     let slots = a.capacity as usize;
     let size = slots * state::layout_of(chart.words()).stride;
-    analysis::run_core(chart, a, budget, &mut table[..size], &mut list[..slots])
+    analysis::resume(chart, a, budget, &mut table[..size], &mut list[..slots])
 }
 
 // Begins an analysis, the initial state in slot 0, waiting, and plays iterations until a verdict or until the budget is

@@ -10,14 +10,14 @@ use Rattle.analysis.proofs.MemoryAtExit.{run_at_exit}
 use Rattle.calls.proofs.CallSizes.{is_of, fits, part}
 use Rattle.calls.proofs.run_through.Goals as goal
 
-pub slice_bounds-run_core-end : goal.slice_bounds-run_core-end
-slice_bounds-run_core-end c = fits c.args.chart.now _ c.words.ensures.words _ c.layout_of.ensures.layout c.args.a.capacity c.args.table.now c.requires.table
+pub slice_bounds-resume-end : goal.slice_bounds-resume-end
+slice_bounds-resume-end c = fits c.args.chart.now _ c.words.ensures.words _ c.layout_of.ensures.layout c.args.a.capacity c.args.table.now c.requires.table
 
-pub slice_bounds-run_core-end-2 : goal.slice_bounds-run_core-end-2
-slice_bounds-run_core-end-2 c = sym (part c.args.chart.now _ c.words.ensures.words _ c.layout_of.ensures.layout c.args.a.capacity c.args.table.now c.requires.table)
+pub slice_bounds-resume-end-2 : goal.slice_bounds-resume-end-2
+slice_bounds-resume-end-2 c = sym (part c.args.chart.now _ c.words.ensures.words _ c.layout_of.ensures.layout c.args.a.capacity c.args.table.now c.requires.table)
 
-pub run_core-requires : goal.run_core-requires
-run_core-requires c =
+pub resume-requires : goal.resume-requires
+resume-requires c =
     let s = c.args in
     let p = c.requires in
     let ws = s.chart.now in
@@ -32,7 +32,7 @@ returns c =
     let p = c.requires in
     let ws = s.chart.now in
     let y = layout_of ws in
-    let k = c.run_core in
+    let k = c.resume in
     let played = rw (is_of ws _ c.words.ensures.words _ c.layout_of.ensures.layout) at k.ensures in
     rw (is_of ws _ c.words.ensures.words _ c.layout_of.ensures.layout)
     (run_at_exit ws p.chart y (is_layout ws y refl) (lent s.table.now s.list.now s.a) k.result k.new.table k.new.list p.table p.list p.analysis s.budget (rw (← edges_count ws) at played))
