@@ -1,5 +1,5 @@
 -- A line by its kind, and reading goes on by one line. Assumes nothing.
-use Rattle.semantics.proofs.Prelude.{◌≡◌, refl, sym, ap, ◌∙◌, true, false, List, map, ℕ, ◌+◌, ◌-◌, ◌*◌, ◌≤◌, ◌<◌, add-one, arith, length, take, drop, ℤ}
+use Rattle.semantics.proofs.Prelude.{◌≡◌, refl, sym, ap, ◌∙◌, true, false, List, [], ◌∷◌, map, ℕ, get_or, ◌+◌, ◌-◌, ◌*◌, ◌≤◌, ◌<◌, add-one, arith, length, take, drop, ℤ}
 use Rattle.semantics.specs.Text.{bytes, same_bytes, lines, fields}
 use Rattle.semantics.specs.Reading.{fail, ok, nth, SoFar, nothing_read, var_line, loc_line, edge_line, judge, refused, at_end, judged}
 use Rattle.text.specs.Fields.{up_to}
@@ -20,23 +20,27 @@ use Rattle.reader.specs.declared.draft.Tally.{Tally}
 -- ---- by the kind
 
 module _ (s : SoFar) (fs : List (List ℕ)) where
-  pub kind_var : same_bytes (nth fs 0) (bytes "V") ≡ true → judge s fs ≡ var_line s fs
+  pub kind_var : nth fs 0 ≡ bytes "V" → judge s fs ≡ var_line s fs
   unfolding judge
   kind_var e = rw e
 
-  module _ (v : same_bytes (nth fs 0) (bytes "V") ≡ false) where
-    pub kind_loc : same_bytes (nth fs 0) (bytes "L") ≡ true → judge s fs ≡ loc_line s fs
-    unfolding judge
-    kind_loc e = rw (v, e)
+  pub kind_loc : nth fs 0 ≡ bytes "L" → judge s fs ≡ loc_line s fs
+  unfolding judge
+  kind_loc e = rw e
 
-    module _ (l : same_bytes (nth fs 0) (bytes "L") ≡ false) where
-      pub kind_edge : same_bytes (nth fs 0) (bytes "E") ≡ true → judge s fs ≡ edge_line s fs
-      unfolding judge
-      kind_edge e = rw (v, l, e)
+  pub kind_edge : nth fs 0 ≡ bytes "E" → judge s fs ≡ edge_line s fs
+  unfolding judge
+  kind_edge e = rw e
 
-      pub kind_none : same_bytes (nth fs 0) (bytes "E") ≡ false → judge s fs ≡ fail 4
-      unfolding judge
-      kind_none e = rw (v, l, e)
+  pub kind_none : {k : List ℕ} → k ≡ nth fs 0 → same_bytes k (bytes "V") ≡ false → same_bytes k (bytes "L") ≡ false → same_bytes k (bytes "E") ≡ false → judge s fs ≡ fail 4
+  unfolding judge
+  kind_none is v l e = rw (sym is) (rw (v, l, e))
+
+-- a kind of one byte, by that byte
+pub one_byte : {b : ℕ} (l : List ℕ) → 1 ≤ length l → length l < 2 → get_or l 0 0 ≡ b → l ≡ b ∷ []
+one_byte [] low high e = absurd (omega arith)
+one_byte (a ∷ []) low high e = ap (λ (x : ℕ). x ∷ []) e
+one_byte (a ∷ c ∷ l) low high e = absurd (omega arith)
 
 -- ---- the lines
 

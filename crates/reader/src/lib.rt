@@ -34,22 +34,17 @@ fn no_line(refusal: Refusal) -> RefusedAt
     RefusedAt { refusal, line: 0 }
 }
 
-// One line, by its kind. By tests: of a match on byte strings the check learns no more than their lengths.
+// One line, by its kind.
 fn judge_line(draft: &mut Draft, line: &Line) -> Result<(), Refusal>
     ensures { (s : SoFar) → Holds draft.old s → LineJudged result (judge s (fields line.now.bytes.now)) draft.new }
 {
     let first = text::first_field(line.bytes);
-    let kind = text::field_bytes(line.bytes, first);
-    if text::same_bytes(kind, b"V") {
-        return variable::read_line(draft, line, first);
+    match text::field_bytes(line.bytes, first) {
+        b"V" => variable::read_line(draft, line, first),
+        b"L" => location::read_line(draft, line, first),
+        b"E" => edge::read_line(draft, line, first),
+        _ => Err(Refusal::WrongKind),
     }
-    if text::same_bytes(kind, b"L") {
-        return location::read_line(draft, line, first);
-    }
-    if text::same_bytes(kind, b"E") {
-        return edge::read_line(draft, line, first);
-    }
-    Err(Refusal::WrongKind)
 }
 
 // All the lines, one after the other.

@@ -3,13 +3,10 @@
 use Rattle.std.specs.Prelude.{List, [], ◌∷◌, ℕ, zero, suc, ◌+◌, ◌-◌, min, eqb, length, drop, ℤ, pos, negsuc, Some, None, Result, Ok, Err}
 use Rattle.std.specs.Prelude.{Option as Answer}
 use Rattle.std.proofs.Math.Option.{Option, none, some}
-use denote.Ref.{Bor}
 use Rattle.semantics.specs.Lists.{pick}
-use Rattle.semantics.specs.Text.{same_bytes}
 use Rattle.semantics.specs.Reading.{Res, fail, ok, OpWord, do_set, do_add, do_sub, do_in, do_if, do_skip}
 use Rattle.semantics.specs.Refusals.{number_of}
 use Rattle.semantics.specs.declared.Refusal.{Refusal}
-use Rattle.semantics.specs.declared.Refusal.TheVariants.{Malformed}
 use Rattle.semantics.specs.declared.Arithmetic.TheVariants as arithmetic
 use Rattle.text.specs.declared.Field.{Field}
 use Rattle.text.specs.declared.Action.{Action}
@@ -67,11 +64,6 @@ res_by meant (Ok a) = ok (meant a)
 -- where it stands for itself
 abbrev pub res : {A : Type 0} → Result A Refusal → Res A
 res r = res_by (λ a. a) r
-
--- the first of some words that the field is, by what it stands for
-abbrev pub word_of : {A : Type 0} → List (Bor (List ℕ) × A) → List ℕ → Result A Refusal
-word_of [] f = Err Malformed
-word_of (w ∷ ws) f = pick (same_bytes f w.0.now) (Ok w.1) (word_of ws f)
 
 -- which of the definitions' words an operation with a target is
 abbrev pub the_action : Action → OpWord

@@ -8,7 +8,7 @@ ghost use Rattle.semantics.specs.Text.{between, same_bytes, fields, name_byte, n
 ghost use Rattle.semantics.specs.Encoding.{val};
 ghost use Rattle.semantics.specs.Operations.{the_operand, the_relation};
 ghost use Rattle.semantics.specs.Reading.{nth, number_field, below_or, location_field, target_field, operand_field, init_field, kind_field, rel_field, op_word_field};
-ghost use Rattle.text.specs.Fields.{field_from, field_at, natural_read, number_read, number_said, res, res_by, word_of, the_word};
+ghost use Rattle.text.specs.Fields.{field_from, field_at, natural_read, number_read, number_said, res, res_by, the_word};
 
 use semantics::{Arithmetic, LocationId, Operand, Refusal, Relation};
 
@@ -225,51 +225,43 @@ pub fn init_field(lo: i32, hi: i32, f: &[u8]) -> Result<i32, Refusal>
     Ok(z)
 }
 
-// What the word that the field is stands for. By a table: of a match on byte strings the check learns their lengths alone.
-fn word<T: Copy>(words: &[(&[u8], T)], f: &[u8]) -> Result<T, Refusal>
-    ensures { result ≡ word_of words.now f.now }
-{
-    for (word, meant) in words {
-        if same_bytes(f, word) {
-            return Ok(*meant);
-        }
-    }
-    Err(Refusal::Malformed)
-}
-
 // Whether the location is an error location.
 pub fn kind_field(f: &[u8]) -> Result<bool, Refusal>
     ensures { res result ≡ kind_field f.now }
 {
-    word(&[(b"o", false), (b"e", true)], f)
+    match f {
+        b"o" => Ok(false),
+        b"e" => Ok(true),
+        _ => Err(Refusal::Malformed),
+    }
 }
 
 // One of the six relation words.
 pub fn rel_field(f: &[u8]) -> Result<Relation, Refusal>
     ensures { res_by the_relation result ≡ rel_field f.now }
 {
-    let words: &[(&[u8], Relation)] = &[
-        (b"eq", Relation::Eq),
-        (b"ne", Relation::Ne),
-        (b"lt", Relation::Lt),
-        (b"le", Relation::Le),
-        (b"gt", Relation::Gt),
-        (b"ge", Relation::Ge),
-    ];
-    word(words, f)
+    match f {
+        b"eq" => Ok(Relation::Eq),
+        b"ne" => Ok(Relation::Ne),
+        b"lt" => Ok(Relation::Lt),
+        b"le" => Ok(Relation::Le),
+        b"gt" => Ok(Relation::Gt),
+        b"ge" => Ok(Relation::Ge),
+        _ => Err(Refusal::Malformed),
+    }
 }
 
 // One of the six operation words; `skip` has no target, and so no action.
 pub fn op_word_field(f: &[u8]) -> Result<Option<Action>, Refusal>
     ensures { res_by the_word result ≡ op_word_field f.now }
 {
-    let words: &[(&[u8], Option<Action>)] = &[
-        (b"set", Some(Action::Set)),
-        (b"add", Some(Action::Compute(Arithmetic::Add))),
-        (b"sub", Some(Action::Compute(Arithmetic::Sub))),
-        (b"in", Some(Action::In)),
-        (b"if", Some(Action::If)),
-        (b"skip", None),
-    ];
-    word(words, f)
+    match f {
+        b"set" => Ok(Some(Action::Set)),
+        b"add" => Ok(Some(Action::Compute(Arithmetic::Add))),
+        b"sub" => Ok(Some(Action::Compute(Arithmetic::Sub))),
+        b"in" => Ok(Some(Action::In)),
+        b"if" => Ok(Some(Action::If)),
+        b"skip" => Ok(None),
+        _ => Err(Refusal::Malformed),
+    }
 }
