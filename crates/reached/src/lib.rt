@@ -74,8 +74,8 @@ impl Scan<'_> {
         ensures apart { lies_after self.now slot.id.0 ≡ lies_after self.now result.id.0 }
     {
         let mut last = slot;
-        for id in slot.id.0 + 1..self.used {
-            let next = self.layout.slot(SlotId(id));
+        for _ in slot.id.0 + 1..self.used {
+            let next = self.layout.after(last);
             if !state::told_apart(self.e, state::row_of(self.layout, self.table, next), i) {
                 return last;
             }

@@ -1,10 +1,35 @@
 -- Loops over the slots of a table: id and place go together; what a state put into its slot leaves of the rest.
 -- Assumes nothing.
-use Rattle.semantics.proofs.Prelude.{◌≡◌, sym, ap, ◌∙◌, List, ◌++◌, append_assoc, ℕ, suc, ◌+◌, ◌*◌, ◌≤◌, suc-mul, add-one, arith, ℤ, length, take, drop, length-append, length-drop, drop-drop, take-append-drop, drop-append-le}
-use Rattle.words.proofs.Rows.{part_length, take_put, drop_put}
+use Rattle.semantics.proofs.Prelude.{◌≡◌, sym, ap, ◌∙◌, Bool, true, false, List, ◌++◌, append_assoc, ℕ, suc, ◌+◌, ◌-◌, ◌*◌, ◌≤◌, ◌<◌, ltb, ltb-true, ltb-false, suc-mul, add-one, arith, ℤ, length, take, drop, length-append, length-drop, drop-drop, take-append-drop, drop-append-le}
+use Rattle.words.proofs.Rows.{part_length, row_in, take_put, drop_put}
 use Rattle.state.specs.Rows.{width_of, Placed, row_merge, slot_merge, rows_merge}
 use Rattle.state.specs.declared.Layout.{Layout}
 use Rattle.state.specs.declared.SlotRow.{SlotRow}
+
+-- a loop over n slots is at one of them: it and its state are in their table, and it is the first of those left
+pub record InUse (y : Layout) (n : ℕ) (s : SlotRow) (t : List ℤ) : Type 0 where
+  pub placed : Placed y s
+  pub below : s.id.0 < n
+  pub slot : s.at + y.stride ≤ length t
+  pub row : s.at + width_of y ≤ length t
+  pub left : n - s.id.0 ≡ suc (n - (s.id.0 + 1))
+
+-- the loop has asked whether its slot is below n
+pub none_left : (n i : ℕ) {b : Bool} → b ≡ ltb i n → b ≡ false → n - i ≡ 0
+none_left n i e h = let u : n ≤ i = ltb-false _ _ (sym e ∙ h) in omega arith
+
+pub in_use : (y : Layout) (n : ℕ) (s : SlotRow) (t : List ℤ) → Placed y s → {b : Bool} → b ≡ ltb s.id.0 n → b ≡ true → width_of y ≤ y.stride → n * y.stride ≤ length t → InUse y n s t
+in_use y n s t p e h w f = record { placed = p; below = u; slot = i; row = omega (arith, i); left = omega (arith, u) }
+  where
+    u : s.id.0 < n
+    u = ltb-true _ _ (sym e ∙ h)
+
+    i : s.at + y.stride ≤ length t
+    i = omega (arith, row_in s.id.0 n y.stride u, p)
+
+-- the place of the next slot
+pub place_after : (y : Layout) (s r : SlotRow) → Placed y s → r.id.0 ≡ s.id.0 + 1 → Placed y r → r.at ≡ s.at + y.stride
+place_after y s r p e q = rw (q, e, add-one, suc-mul, ← p)
 
 -- the place of a slot by its id
 pub place_of : (y : Layout) (s : SlotRow) → Placed y s → (n : ℕ) → s.id.0 ≡ n → s.at ≡ n * y.stride

@@ -61,10 +61,23 @@ impl Layout {
             at: id.0 * self.stride,
         }
     }
+
+    // The slot after it: id and place step together.
+    pub fn after(self, slot: SlotRow) -> SlotRow
+        requires { Placed self slot × (slot.id.0 + 1 < place_limit) × (slot.at + self.stride < place_limit) }
+        ensures id { result.id.0 ≡ slot.id.0 + 1 }
+        ensures placed { Placed self result }
+    {
+        let id = slot.id;
+        SlotRow {
+            id: id.after(),
+            at: slot.at + self.stride,
+        }
+    }
 }
 
 // A slot: its id, and the place of its first word. The two are carried along together, so that no place is ever divided
-// to find its slot; only `Layout::slot` makes one.
+// to find its slot; only `Layout::slot` and `Layout::after` make one.
 #[derive(Clone, Copy)]
 pub struct SlotRow {
     pub id: SlotId,

@@ -4,10 +4,10 @@ use Rattle.state.specs.Rows.{Placed}
 use Rattle.reached.specs.Scanned.{lies_after}
 use Rattle.reached.proofs.Scan.pass.Given as goal
 
-abbrev pub invariant-loop-id : goal.invariant-loop-id
-invariant-loop-id l = record {
+abbrev pub invariant-loop : goal.invariant-loop
+invariant-loop l = record {
   placed : Placed l.self.layout l.last;
-  at : l.last.id.0 + 1 ≡ l.id;
+  at : l.last.id.0 + 1 ≡ l.counter;
   later : l.initial.last.id.0 ≤ l.last.id.0;
   apart : lies_after l.self l.initial.last.id.0 ≡ lies_after l.self l.last.id.0;
 }
