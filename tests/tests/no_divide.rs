@@ -45,13 +45,16 @@ fn code_files(folder: &Path) -> Vec<PathBuf> {
     files
 }
 
-/// Whether a line of code divides or takes a remainder: by an operator, or by a function that is named
-/// after it (`checked_div`, `rem_euclid`, `is_multiple_of`). Comments are passed over, contracts are not.
+/// Parts of the names of functions that divide: those named after it (`checked_div`, `rem_euclid`,
+/// `is_multiple_of`), and those that cut a slice into chunks of one length, since they divide its length
+/// (`as_chunks`, `chunks_exact`, `rchunks`). `first_chunk` does not.
+const DIVIDING: [&str; 5] = ["div", "rem", "multiple", "chunks", "rchunks"];
+
+/// Whether a line of code divides or takes a remainder: by an operator, or by a function of such a name.
+/// Comments are passed over, contracts are not.
 fn divides(line: &str) -> bool {
     let code = line.split("//").next().unwrap_or_default();
-    let named = code
-        .split(|c: char| !c.is_alphanumeric())
-        .any(|word| ["div", "rem", "multiple"].contains(&word));
+    let named = code.split(|c: char| !c.is_alphanumeric()).any(|word| DIVIDING.contains(&word));
     code.contains(['/', '%']) || named
 }
 
@@ -97,7 +100,15 @@ fn a_division_is_found() {
     for code in ["a /= b;", "a%=b;", "let q = a/b; // half", "a.checked_rem(b)", "div_ceil(a, b)"] {
         assert!(divides(code), "{code}");
     }
+    for code in
+        ["&words.as_chunks::<N>().0[..n]", "s.chunks(3)", "s.chunks_exact(n)", "s.rchunks_mut(n)"]
+    {
+        assert!(divides(code), "{code}");
+    }
     for code in ["// a / b", "let remainder = a - b; // a % b", "fn divide_up(rest: usize)"] {
+        assert!(!divides(code), "{code}");
+    }
+    for code in ["words[N * i..].first_chunk::<N>()", "s.split_first_chunk::<2>()"] {
         assert!(!divides(code), "{code}");
     }
 }

@@ -2,15 +2,17 @@
 -- they are of. Assumes nothing.
 use Rattle.std.specs.List.{zip}
 use Rattle.semantics.specs.Lists.{all}
-use Rattle.semantics.specs.Chart.{eq_z}
+use Rattle.semantics.specs.Chart.{Loc, eq_z}
 use Rattle.semantics.proofs.Integers.{eq_z_refl}
-use Rattle.semantics.proofs.Prelude.{◌≡◌, refl, sym, ap, subst, Bool, true, false, not, ◌&&◌, List, [], ◌∷◌, map, ℕ, zero, suc, ◌+◌, ◌-◌, ◌*◌, ◌<◌, ◌≤◌, add-one, arith, T, eqb, eqb→eq, ℤ, pos, length, drop, get_or}
+use Rattle.semantics.proofs.Prelude.{◌≡◌, refl, sym, ap, ◌∙◌, subst, Bool, true, false, not, ◌&&◌, List, [], ◌∷◌, map, ℕ, zero, suc, ◌+◌, ◌-◌, ◌*◌, ◌<◌, ◌≤◌, add-one, arith, T, eqb, eqb→eq, ℤ, pos, length, take, drop, length-drop, drop-drop, get_or, set, take-suc-set}
 use Rattle.semantics.specs.Layout.{name_size, location_size, byte_limit}
 use Rattle.semantics.specs.Text.{same_bytes}
 use Rattle.semantics.specs.Encoding.{loc_in, several, distinct_names}
 use Rattle.semantics.proofs.Bools.{and_left, and_right, and_regroup, from_false, to_false}
 use Rattle.chart.specs.Encoded.{number_from, number_of, name_number, other_row}
 use Rattle.chart.proofs.Names.{other_name}
+use Rattle.chart.proofs.RowLoops.{rows_read, rows_at, rows_from, rows_more}
+use Rattle.chart.proofs.RowParts.{loc_part}
 
 -- ---- two numbers
 
@@ -75,14 +77,41 @@ by_numbers row (r ∷ rs) = rw (by_numbers row rs) (ap (λ (b : Bool). not b && 
   one true e = refl
   one false e = sym (numbers_apart row r (λ q. absurd (from_false e (subst (λ z. T (eq_z (name_number row) z)) q (eq_z_refl (name_number row))))))
 
+pub rows_by_numbers : (row : List ℤ) (n : ℕ) (ws : List ℤ) → location_size * n ≤ length ws → all (other_row row (name_number row)) (zip (several (take location_size) location_size n ws) (several name_number location_size n ws)) ≡ all (other_name row) (several loc_in location_size n ws)
+rows_by_numbers row n ws h =
+    let rs = several (take location_size) location_size n ws in
+    let nums : map name_number rs ≡ several name_number location_size n ws = rows_read location_size name_number (λ r k. ap number_of (loc_part r k)) n ws h in
+    let locs : map loc_in rs ≡ several loc_in location_size n ws = rows_read location_size loc_in loc_part n ws h in
+    ap (λ (l : List ℤ). all (other_row row (name_number row)) (zip rs l)) (sym nums) ∙ by_numbers row rs ∙ ap (all (other_name row)) locs
+
+-- one number more
+pub numbers_turn : (ns ws : List ℤ) (i : ℕ) → i < length ns → location_size * i + location_size ≤ length ws → take i ns ≡ several name_number location_size i ws → (z : ℤ) → z ≡ name_number (take location_size (drop (location_size * i) ws))
+    → take (i + 1) (set ns i z) ≡ several name_number location_size (i + 1) ws
+numbers_turn ns ws i h room s z e =
+    let r : z ≡ name_number (drop (location_size * i) ws) = e ∙ ap number_of (loc_part (drop (location_size * i) ws) (simp length-drop (omega arith))) in
+    rw (add-one i, take-suc-set ns i z h, s, r) (sym (rows_more name_number location_size i ws))
+
 -- row i differs from those after it, and these from each other
-abbrev pub Apart : List (List ℤ) → ℕ → ℕ → Bool → Type 0
-Apart rs i j b = b ≡ all (other_row (get_or rs i []) (get_or (map name_number rs) i (pos 0))) (zip (drop j rs) (drop j (map name_number rs)))
+module _ (ns ws : List ℤ) (i : ℕ) (h : i < length ns) (room : location_size * length ns ≤ length ws) (are : ns ≡ several name_number location_size (length ns) ws) where
+  abbrev here : List ℤ
+  here = drop (location_size * i) ws
 
-differ_from : (rs : List (List ℤ)) (i : ℕ) → i < length rs → (ok b : Bool) → Apart rs i (suc i) b → ok && distinct_names (map loc_in (drop i rs)) ≡ ok && b && distinct_names (map loc_in (drop (suc i) rs))
-differ_from [] i h ok b e = absurd (omega arith)
-differ_from (r ∷ rs) zero h ok b e = rw (e, by_numbers r rs) (and_regroup ok (all (other_name r) (map loc_in rs)) (distinct_names (map loc_in rs)))
-differ_from (r ∷ rs) (suc i) h ok b e = differ_from rs i (omega arith) ok b e
+  abbrev after : List ℤ
+  after = drop (location_size * (i + 1)) ws
 
-pub differ_turn : (rs : List (List ℤ)) (i : ℕ) → i < length rs → (ok b : Bool) → Apart rs i (i + 1) b → ok && distinct_names (map loc_in (drop i rs)) ≡ ok && b && distinct_names (map loc_in (drop (i + 1) rs))
-differ_turn rs i h ok b e = rw (add-one i) (differ_from rs i h ok b (rw (add-one i) at e))
+  abbrev left : ℕ
+  left = length ns - (i + 1)
+
+  pub differ_turn : (ok b : Bool) → b ≡ all (other_row (take location_size here) (get_or ns i (pos 0))) (zip (several (take location_size) location_size left after) (drop (i + 1) ns))
+      → ok && distinct_names (several loc_in location_size (length ns - i) here) ≡ ok && b && distinct_names (several loc_in location_size left after)
+  differ_turn ok b e =
+      let m : length ns - i ≡ suc left = omega arith in
+      let own : loc_in (take location_size here) ≡ loc_in here = loc_part here (simp length-drop (omega arith)) in
+      let number : get_or ns i (pos 0) ≡ name_number (take location_size here) =
+      ap (λ (l : List ℤ). get_or l i (pos 0)) are ∙ rows_at name_number location_size (pos 0) i (length ns) ws h ∙ ap number_of (sym own) in
+      let numbers : drop (i + 1) ns ≡ several name_number location_size left after = ap (drop (i + 1)) are ∙ rows_from name_number location_size (i + 1) (length ns) ws in
+      let others : b ≡ all (other_name here) (several loc_in location_size left after) =
+      (rw (number, numbers) at e) ∙ rows_by_numbers (take location_size here) left after (simp length-drop (omega arith))
+      ∙ ap (λ (l : Loc). all (λ m. not (same_bytes l.name m.name)) (several loc_in location_size left after)) own in
+      let place : location_size * i + location_size ≡ location_size * (i + 1) = omega arith in
+      rw (m, drop-drop location_size (location_size * i) ws, place, others) (and_regroup ok (all (other_name here) (several loc_in location_size left after)) (distinct_names (several loc_in location_size left after)))

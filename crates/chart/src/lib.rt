@@ -134,13 +134,12 @@ fn store_words(rows: &mut [i32], at: usize, row: &[i32])
     rows[at..at + row.len()].copy_from_slice(row);
 }
 
-// The first n rows, of N words each.
-fn rows_of<const N: usize>(words: &[i32], n: usize) -> &[[i32; N]]
-    requires { (0 < N) × (N * n ≤ length words.now) }
-    ensures rows { result.now ≡ several (take N) N n words.now }
-    ensures len { length result.now ≡ n }
+// Row i, of N words.
+fn row_at<const N: usize>(words: &[i32], i: usize) -> &[i32; N]
+    requires { N * i + N ≤ length words.now }
+    ensures { result.now ≡ take N (drop (N * i) words.now) }
 {
-    &words.as_chunks::<N>().0[..n]
+    words[N * i..].first_chunk::<N>().unwrap()
 }
 
 // ---- the counts, and where the rows stand
@@ -287,9 +286,11 @@ fn vars_ok(vars: &[i32], n: usize) -> bool
     requires { variable_size * n ≤ length vars.now }
     ensures { result ≡ all var_ok (several var_in variable_size n vars.now) }
 {
-    rows_of::<VARIABLE_SIZE>(vars, n)
-        .iter()
-        .fold(true, |ok, row| ok & var_row_ok(row))
+    let mut ok = true;
+    for i in 0..n {
+        ok = ok & var_row_ok(row_at(vars, i));
+    }
+    ok
 }
 
 // ---- locations
@@ -377,9 +378,11 @@ fn locations_fine(locations: &[i32], n: usize) -> bool
     requires { location_size * n ≤ length locations.now }
     ensures { result ≡ all location_fine (rows location_size n locations.now) }
 {
-    rows_of::<LOCATION_SIZE>(locations, n)
-        .iter()
-        .fold(true, |ok, row| ok & location_fine(row))
+    let mut ok = true;
+    for i in 0..n {
+        ok = ok & location_fine(row_at(locations, i));
+    }
+    ok
 }
 
 // Whether two locations have one name. By place, as in `name_number`, and not by an iterator: what is past the end of a
@@ -406,9 +409,11 @@ pub fn name_is_new(row: &[i32], locations: &[i32], n: usize) -> bool
     requires { location_size * n ≤ length locations.now }
     ensures { result ≡ all (λ m. not (same_bytes (loc_in row.now).name m.name)) (several loc_in location_size n locations.now) }
 {
-    rows_of::<LOCATION_SIZE>(locations, n)
-        .iter()
-        .fold(true, |ok, other| ok & !same_name(row, other))
+    let mut ok = true;
+    for i in 0..n {
+        ok = ok & !same_name(row, row_at::<LOCATION_SIZE>(locations, i));
+    }
+    ok
 }
 
 // A number for the name in a location's words. Equal names have equal numbers: where two numbers differ, no word of the
@@ -435,14 +440,17 @@ fn has_name(row: &[i32], number: i32, other: &[i32], other_number: i32) -> bool
     number == other_number && same_name(row, other)
 }
 
-// Whether none of the rows has the name of the one given, by the number of that name and those of their names.
-fn differs(row: &[i32], number: i32, rows: &[[i32; LOCATION_SIZE]], numbers: &[i32]) -> bool
-    ensures { result ≡ all (other_row row.now number) (zip rows.now numbers.now) }
+// Whether none of as many rows has the name of the one given, by the number of that name and those that stand for theirs.
+fn differs(row: &[i32], number: i32, locations: &[i32], numbers: &[i32]) -> bool
+    requires { location_size * length numbers.now ≤ length locations.now }
+    ensures { result ≡ all (other_row row.now number) (zip (several (take location_size) location_size (length numbers.now) locations.now) numbers.now) }
 {
-    rows.iter().zip(numbers).fold(
-        true,
-        |ok, (other, n)| ok & !has_name(row, number, other, *n),
-    )
+    let mut ok = true;
+    for i in 0..numbers.len() {
+        let other = row_at::<LOCATION_SIZE>(locations, i);
+        ok = ok & !has_name(row, number, other, numbers[i]);
+    }
+    ok
 }
 
 // Whether none of the locations has the name of the one given, by the number of that name and those of their names.
@@ -450,31 +458,33 @@ pub fn name_differs(row: &[i32], number: i32, locations: &[i32], numbers: &[i32]
     requires { location_size * length numbers.now ≤ length locations.now }
     ensures { number ≡ name_number row.now → numbers.now ≡ several name_number location_size (length numbers.now) locations.now → result ≡ all (λ m. not (same_bytes (loc_in row.now).name m.name)) (several loc_in location_size (length numbers.now) locations.now) }
 {
-    differs(row, number, rows_of(locations, numbers.len()), numbers)
+    differs(row, number, locations, numbers)
 }
 
-// Whether no two of the rows have one name, by the numbers of their names.
-fn all_differ(rows: &[[i32; LOCATION_SIZE]], numbers: &[i32]) -> bool
-    requires { numbers.now ≡ map name_number rows.now }
-    ensures { result ≡ distinct_names (map loc_in rows.now) }
+// Whether no two of as many locations have one name, by the numbers of their names.
+fn all_differ(locations: &[i32], numbers: &[i32]) -> bool
+    requires { (location_size * length numbers.now ≤ length locations.now) × (numbers.now ≡ several name_number location_size (length numbers.now) locations.now) }
+    ensures { result ≡ distinct_names (several loc_in location_size (length numbers.now) locations.now) }
 {
     let mut ok = true;
-    for i in 0..rows.len() {
-        ok = ok & differs(&rows[i], numbers[i], &rows[i + 1..], &numbers[i + 1..]);
+    for i in 0..numbers.len() {
+        let row = row_at::<LOCATION_SIZE>(locations, i);
+        let after = &locations[LOCATION_SIZE * (i + 1)..];
+        ok = ok & differs(row, numbers[i], after, &numbers[i + 1..]);
     }
     ok
 }
 
-// Whether no two of the rows have one name.
-fn names_differ(rows: &[[i32; LOCATION_SIZE]]) -> bool
-    requires { length rows.now ≤ most_locations }
-    ensures { result ≡ distinct_names (map loc_in rows.now) }
+// Whether no two of n locations have one name.
+fn names_differ(locations: &[i32], n: usize) -> bool
+    requires { (location_size * n ≤ length locations.now) × (n ≤ most_locations) }
+    ensures { result ≡ distinct_names (several loc_in location_size n locations.now) }
 {
     let mut numbers = [0; MOST_LOCATIONS];
-    for (i, row) in rows.iter().enumerate() {
-        numbers[i] = name_number(row);
+    for i in 0..n {
+        numbers[i] = name_number(row_at::<LOCATION_SIZE>(locations, i));
     }
-    all_differ(rows, &numbers[..rows.len()])
+    all_differ(locations, &numbers[..n])
 }
 
 // ---- edges
@@ -841,9 +851,11 @@ fn edges_fine(vars: &[i32], v: usize, l: usize, edges: &[i32], n: usize) -> bool
     requires { edge_size * n ≤ length edges.now }
     ensures { result ≡ all (edge_fine vars.now v l) (rows edge_size n edges.now) }
 {
-    rows_of::<EDGE_SIZE>(edges, n)
-        .iter()
-        .fold(true, |ok, row| ok & edge_fine(vars, v, l, row))
+    let mut ok = true;
+    for i in 0..n {
+        ok = ok & edge_fine(vars, v, l, row_at(edges, i));
+    }
+    ok
 }
 
 // ---- the check
@@ -860,7 +872,7 @@ fn rows_fine(chart: &[i32]) -> bool
     let edges = &chart[edges_at(chart)..];
     vars_ok(vars, v)
         & locations_fine(locations, l)
-        & names_differ(rows_of(locations, l))
+        & names_differ(locations, l)
         & edges_fine(vars, v, l, edges, edge_count(chart))
 }
 

@@ -1,5 +1,5 @@
 -- `chart::name` meets its contract.
-use Rattle.semantics.proofs.Prelude.{◌≡◌, ◌+◌, ◌*◌, ◌<◌, length, sym, ap, ◌∙◌, arith, length-take-le, drop_of_length-le}
+use Rattle.semantics.proofs.Prelude.{◌≡◌, ◌+◌, ◌*◌, ◌<◌, length, sym, ap, ◌∙◌, arith, length-take, drop_of_length-le}
 use Rattle.semantics.specs.Layout.{name_size, name_place, location_size}
 use Rattle.semantics.specs.Encoding.{name_in}
 use Rattle.chart.proofs.NameBytes.{bytes_in, name_from, no_name}
@@ -13,7 +13,7 @@ returns-then-location_count-l c = sym (no_name c.args.chart.now c.args.l.0 (omeg
 pub slice_bounds-result-end-in-Some : goal.slice_bounds-result-end-in-Some
 slice_bounds-result-end-in-Some c =
     let ws = c.in-Some.words.now in
-    sym (length-take-le c.name_length.result ws (omega (arith, c.name_length.ensures, (bytes_in name_size ws).1)))
+    simp length-take (omega (arith, c.name_length.ensures, (bytes_in name_size ws).1))
 
 pub returns-in-Some : goal.returns-in-Some
 returns-in-Some c =
