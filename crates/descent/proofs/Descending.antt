@@ -1,5 +1,4 @@
--- The places of the search that its parts share: the edge of a turn, the last state, and the words of the path. Assumes
--- nothing.
+-- What the parts of the search share: the edges that are left, the last state, and how long a row is. Assumes nothing.
 use Rattle.std.specs.Prelude.{Option as Perhaps}
 use Rattle.semantics.proofs.Prelude.{◌≡◌, refl, sym, ap, ◌∙◌, subst, Bool, true, false, List, [], ◌∷◌, ◌++◌, none, some, ℕ, suc, ◌-◌, ◌≤◌, ◌<◌, arith, T, ℤ, length, get_or, take, drop, drop_of_length-le, drop-cons, take-append_seam}
 use Rattle.semantics.specs.Chart.{Var, Edge, skip, Chart, Numbered, number_from, numbered, State, Ranged, error_location}

@@ -33,8 +33,8 @@ near_prop d g blocked = Unit-prop
 near_prop d g fault = le_prop
 near_prop d g (to f) = le_prop
 
-pub Distances-prop : (c : Chart) (d : ℕ → ℕ) → IsProp (Distances c d)
-Distances-prop c d = hlevel (ℕ_set, near_prop)
+pub distances_prop : (c : Chart) (d : ℕ → ℕ) → IsProp (Distances c d)
+distances_prop c d = hlevel (ℕ_set, near_prop)
 
 -- the distance of a location in a table; 0 past its end
 abbrev pub distance_in : List ℕ → ℕ → ℕ

@@ -9,7 +9,7 @@ ghost use Rattle.semantics.specs.Lists.{In};
 ghost use Rattle.semantics.specs.Encoding.{decode, well_formed};
 ghost use Rattle.semantics.specs.Memory.{width};
 ghost use Rattle.semantics.specs.Search.{found, attempt, first_run, Choice, choose, interval, inputs, move, explicit};
-ghost use Rattle.descent.specs.Distances.{Distances, Distances-prop, distance_in};
+ghost use Rattle.descent.specs.Distances.{Distances, distances_prop, distance_in};
 ghost use Rattle.descent.specs.Rows.{state_of, Concrete, edge_of, IsEdge, Movable, Advanced};
 ghost use Rattle.descent.specs.Trails.{last_move, answer_of, Went, by_input, by_edge, from_step, Going, Deepening, Holds};
 
@@ -42,7 +42,7 @@ struct Guide<'a> {
     dist: &'a [usize],
     ghost same: { words.now ≡ chart.now },
     ghost formed: { T (well_formed chart.now) },
-    ghost near: { Distances (decode chart.now) (distance_in dist.now) } by { Distances-prop (decode chart.now) (distance_in dist.now) },
+    ghost near: { Distances (decode chart.now) (distance_in dist.now) } by { distances_prop (decode chart.now) (distance_in dist.now) },
 }
 
 // ---- one move

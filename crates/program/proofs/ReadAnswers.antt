@@ -1,5 +1,5 @@
--- What reading answers, into the words of the largest chart: its refusal, or the words of the chart that it accepted; a text put at the
--- front of bytes that hold it; and the output by the go line. Assumes nothing.
+-- What reading answers, into the words of the largest chart: its refusal, or the words of the chart that it accepted; and
+-- the output by the go line. Assumes nothing.
 use Rattle.semantics.proofs.Prelude.{◌≡◌, refl, sym, ap, subst, ◌∙◌, List, ◌++◌, ℕ, arith, T, leb, leb→le, ℤ, length, drop}
 use Rattle.std.specs.Prelude.{⊤, Result, Ok, Err}
 use denote.Ref.{Bor}

@@ -1,4 +1,5 @@
--- What an answer says once its refusal has line 0; and what a call leaves that writes a text or refuses. Assumes nothing.
+-- What an answer says once its refusal has line 0; what a call leaves that writes a text or refuses; and a text put at the
+-- front of bytes that hold it. Assumes nothing.
 use Rattle.semantics.proofs.Prelude.{◌≡◌, sym, ap, ◌∙◌, List, ℕ, ◌++◌, ◌≤◌, arith, zero-add, length, drop}
 use Rattle.std.specs.Prelude.{Result, Ok, Err, Option, Some, None}
 use Rattle.std.specs.Option.{ok_or}

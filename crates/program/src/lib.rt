@@ -5,13 +5,12 @@ ghost use Rattle.std.specs.Prelude.{◌≡◌, List, ◌++◌, ℕ, min, T, leng
 ghost use Rattle.semantics.specs.Layout.{listing_bytes};
 ghost use Rattle.semantics.specs.Encoding.{decode, well_formed};
 ghost use Rattle.semantics.specs.Listing.{refused_text};
-ghost use Rattle.semantics.specs.Reading.{read};
 ghost use Rattle.semantics.specs.Refusals.{number_of};
 ghost use Rattle.semantics.specs.Program.{explored, shown, output, search_output, command};
 ghost use Rattle.writer.specs.Writing.{Put};
 ghost use Rattle.writer.specs.Writers.{Writes};
 ghost use Rattle.program.specs.Asked.{asking};
-ghost use Rattle.program.specs.Responded.{Accepted, Held, Answered, Printed, Buffered, Arguments, at_line_0, said_at_line_0};
+ghost use Rattle.program.specs.Responded.{Accepted, Answered, Printed, Buffered, Arguments, at_line_0, said_at_line_0};
 
 use go_line::Go;
 use semantics::{Command, Refusal, RefusedAt, View};
@@ -56,15 +55,6 @@ fn put_refusal(out: &mut [u8], e: RefusedAt) -> usize
     out.at()
 }
 
-// The words of a chart.
-fn words_of(chart: &[u8]) -> Result<[i32; CHART_SIZE], RefusedAt>
-    ensures { Held (read chart.now) result }
-{
-    let mut words = [0i32; CHART_SIZE];
-    reader::read(chart, &mut words)?;
-    Ok(words)
-}
-
 // What is to be shown of an accepted chart: a path is refused where there is no alarm. Nothing else is refused, since the
 // go line was accepted and the words and bytes lent are enough.
 fn show(view: View, chart: &[i32], go: Go, out: &mut [u8]) -> Result<usize, Refusal>
@@ -90,7 +80,9 @@ fn answer(view: View, input: &[u8], out: &mut [u8]) -> Result<usize, RefusedAt>
     ensures { Answered (output view input.now) out.old result out.new }
 {
     let (go, chart) = go_line::read(input).map_err(at_line_0)?;
-    show(view, &words_of(chart)?, go, out).map_err(at_line_0)
+    let mut words = [0i32; CHART_SIZE];
+    reader::read(chart, &mut words)?;
+    show(view, &words, go, out).map_err(at_line_0)
 }
 
 // What the program prints for an input: its bytes at the front of those lent, and how many they are.
@@ -116,8 +108,9 @@ fn search_answer(k: &[u8], chart: &[u8], out: &mut [u8]) -> Result<usize, Refuse
     if !search::moves_ok(moves) {
         return Err(at_line_0(Refusal::BadMoves));
     }
-    let words = words_of(chart)?;
-    search::search(&words, moves, out).map_err(at_line_0)
+    let mut held = [0i32; CHART_SIZE];
+    reader::read(chart, &mut held)?;
+    search::search(&held, moves, out).map_err(at_line_0)
 }
 
 // What the program prints for a chart without a go line, asked for a run of at most k moves, k a text.

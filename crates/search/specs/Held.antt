@@ -10,22 +10,22 @@ use Rattle.descent.specs.declared.Run.{Run}
 use Rattle.descent.specs.Rows.{Concrete}
 use Rattle.descent.specs.Trails.{Within, Holds}
 
-Ranged-prop : (vs : List Var) (xs : List ℤ) → IsProp (Ranged vs xs)
-Ranged-prop [] [] = Unit-prop
-Ranged-prop [] (x ∷ xs) = hlevel
-Ranged-prop (v ∷ vs) [] = hlevel
-Ranged-prop (v ∷ vs) (x ∷ xs) = hlevel (props, Ranged-prop vs xs)
+ranged_prop : (vs : List Var) (xs : List ℤ) → IsProp (Ranged vs xs)
+ranged_prop [] [] = Unit-prop
+ranged_prop [] (x ∷ xs) = hlevel
+ranged_prop (v ∷ vs) [] = hlevel
+ranged_prop (v ∷ vs) (x ∷ xs) = hlevel (props, ranged_prop vs xs)
 
-Concrete-prop : (c : Chart) (e : List ℤ) → IsProp (Concrete c e)
-Concrete-prop c e = hlevel (props, Ranged-prop)
+concrete_prop : (c : Chart) (e : List ℤ) → IsProp (Concrete c e)
+concrete_prop c e = hlevel (props, ranged_prop)
 
-Within-prop : (c : Chart) (t : Trail Choice State) → IsProp (Within c t)
-Within-prop c here = Unit-prop
-Within-prop c (overrun a) = Unit-prop
-Within-prop c (by a s t) = hlevel (Concrete-prop, Within-prop c t)
+within_prop : (c : Chart) (t : Trail Choice State) → IsProp (Within c t)
+within_prop c here = Unit-prop
+within_prop c (overrun a) = Unit-prop
+within_prop c (by a s t) = hlevel (concrete_prop, within_prop c t)
 
-pub Holds-prop : (c : Chart) (o : Option (ErrorRun Choice State)) (start path : List ℤ) (r : Perhaps Run) → IsProp (Holds c o start path r)
-Holds-prop c none start path None = Unit-prop
-Holds-prop c none start path (Some run) = hlevel
-Holds-prop c (some q) start path None = hlevel
-Holds-prop c (some q) start path (Some run) = hlevel (props, ⊎_set, Concrete-prop, Within-prop)
+pub holds_prop : (c : Chart) (o : Option (ErrorRun Choice State)) (start path : List ℤ) (r : Perhaps Run) → IsProp (Holds c o start path r)
+holds_prop c none start path None = Unit-prop
+holds_prop c none start path (Some run) = hlevel
+holds_prop c (some q) start path None = hlevel
+holds_prop c (some q) start path (Some run) = hlevel (props, ⊎_set, concrete_prop, within_prop)

@@ -17,7 +17,7 @@ ghost use Rattle.writer.specs.Writing.{Put, limit};
 ghost use Rattle.writer.specs.Writers.{Writes};
 ghost use Rattle.search.specs.RunLines.{Rows, rows_text, states_text};
 ghost use Rattle.search.specs.Refusals.{early_cases, shown};
-ghost use Rattle.search.specs.Held.{Holds-prop};
+ghost use Rattle.search.specs.Held.{holds_prop};
 
 use chart::Chart;
 use descent::{End, Run};
@@ -33,7 +33,7 @@ struct Found<'a> {
     start: &'a [i32],
     path: &'a [i32],
     ghost formed: { T (well_formed chart.now) },
-    ghost held: { Holds (decode chart.now) (first_run (explicit (decode chart.now)) k) start.now path.now run } by { Holds-prop (decode chart.now) (first_run (explicit (decode chart.now)) k) start.now path.now run },
+    ghost held: { Holds (decode chart.now) (first_run (explicit (decode chart.now)) k) start.now path.now run } by { holds_prop (decode chart.now) (first_run (explicit (decode chart.now)) k) start.now path.now run },
 }
 
 // The line of a state: the edge that brought it, its location's name and its values.
