@@ -1,15 +1,18 @@
 // Standard input and output, whole: a call that moves few bytes is no end, one that a signal interrupts is made again.
 #![tactic(auto)]
 
-ghost use Rattle.std.specs.Prelude.{◌≡◌, ℕ, ◌-◌, ◌≤◌, length, IfOk, MatchResult, IsTrue, ◌↔◌};
-ghost use Rattle.std.specs.IoError.{error_kind};
+ghost use Rattle.std.specs.Prelude.{◌≡◌, ℕ, ◌-◌, ◌≤◌, pos, length, Some, IfOk, MatchResult, IsTrue, ◌↔◌};
+ghost use Rattle.std.specs.IoError.{raw_os_error};
 ghost use Rattle.streams.specs.StreamEnd.{Stopped};
 
 use std::io;
-use std::io::{ErrorKind, Read, Write};
+use std::io::{Read, Write};
 
 // A loop must be proved to end: a call that a signal interrupts so often in a row, and once more, counts as failed.
 const MOST_INTERRUPTIONS: u32 = 1_000_000;
+
+// Linux's number of an interruption.
+const EINTR: i32 = 4;
 
 // How many bytes were moved, and what the last call answered: how many it moved, 0 at the end of the input, or why it
 // failed.
@@ -69,10 +72,11 @@ impl<W: Write> Stream for Writing<'_, W> {
     }
 }
 
+// By the system's number: a failure without one, of any kind, is not asked again.
 fn is_interrupted(moved: &io::Result<usize>) -> bool
-    ensures { IsTrue result ↔ MatchResult moved.now (λ _. ⊥) (λ e. error_kind e ≡ ErrorKind.Interrupted) }
+    ensures { IsTrue result ↔ MatchResult moved.now (λ _. ⊥) (λ e. raw_os_error e ≡ Some (pos 4)) }
 {
-    matches!(moved, Err(error) if error.kind() == ErrorKind::Interrupted)
+    matches!(moved, Err(error) if error.raw_os_error() == Some(EINTR))
 }
 
 // A call that is made again as long as it is interrupted.
