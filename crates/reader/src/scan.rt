@@ -22,7 +22,13 @@ fn bytes_ok(text: &[u8]) -> bool
 fn ended_lines(text: &[u8]) -> usize
     ensures { result ≡ count_by (λ b. eqb b 10) text.now }
 {
-    text.iter().filter(|b| **b == semantics::LF).count()
+    let mut n = 0;
+    for i in 0..text.len() {
+        if text[i] == semantics::LF {
+            n += 1;
+        }
+    }
+    n
 }
 
 // The line of the first byte that no chart has. It is looked for only where there is one.
