@@ -120,7 +120,7 @@ pub fn respond_search(k: &[u8], chart: &[u8], out: &mut [u8; semantics::LISTING_
 {
     match search_answer(k, chart, out) {
         Ok(length) => length,
-        Err(e) => put_refusal(out, e),
+        Err(refused) => put_refusal(out, refused),
     }
 }
 
