@@ -1,4 +1,4 @@
--- `reader::scan::ended_lines` meets its contract. The invariant: the lines counted are those that the bytes passed end.
+-- `reader::scan::ended_lines` ends. The invariant: the lines counted are those that the bytes passed end.
 use Rattle.semantics.proofs.Prelude.{◌≡◌, eqb, take}
 use Rattle.std.specs.Prelude.{count_by}
 use Rattle.reader.proofs.scan.ended_lines.Given as goal
